@@ -38,8 +38,8 @@ bin/proved/$(1): crates.txt $$(shell find crates/$(1) -name out -prune -o \( -na
 endef
 # How a program is run once it is built.
 run_echonet = run --help
-run_bench = run
-run_disk_trials = run
+run_test_speed = run
+run_test_crashes = run
 $(foreach name,$(ours),$(eval $(call crate_rule,$(name))))
 
 bin/echonet: bin/proved/echonet
@@ -48,7 +48,7 @@ else
 .PHONY: bin/echonet
 # With the programs that trials run: one replays events, one crashes commands on a disk in memory.
 bin/echonet: toolchain
-	$(call prove,echonet $(if $(filter trials,$(MAKECMDGOALS)),bench disk_trials),bin/echonet)
+	$(call prove,echonet $(if $(filter trials,$(MAKECMDGOALS)),test_speed test_crashes),bin/echonet)
 endif
 
 test: toolchain

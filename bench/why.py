@@ -1,13 +1,14 @@
 """How long `check` and `why` take on great nets with a loop, beside the yes of the same net without its last
 links, by processor time, and on great nets with another fault at their last system, beside the yes without it. For
 each net three figures: the yes of `check`, its no, and `why`, each the middle one of three runs with the link files
-read, and how many times the yes the others take.
+read, and how many times the yes the others take; then how many events the shown run has.
 
-Words: names of nets; with none, all but the rings and the `far` ones, whose run is as long as the net. ECHONET names
-the program, bin/echonet without it.
+Words: names of nets; with none, all but the rings, and of the `far` ones, whose run is as long as the net, only those of
+4,000 systems. ECHONET names the program, bin/echonet without it.
 """
 import os
 import shutil
+import subprocess
 import sys
 import tempfile
 
@@ -90,6 +91,8 @@ SHAPES = {
     "tree": lambda: nets.linked(100000, tree(100000)),
     "chain": lambda: nets.chain(100000),
     "star": lambda: nets.star(80000),
+    "chain4000": lambda: nets.chain(4000),
+    "star4000": lambda: nets.star(4000),
 }
 # The last system lists itself; an address that no file has; nobody, though it is listed; the second system.
 FAULTS = {
@@ -126,16 +129,19 @@ def measure(name, folder):
     yes = middle(0, "check", "--links-from", names, "TEST")
     names = files.put_net(folder, bad)
     no = middle(1, "check", "--links-from", names, "TEST")
-    why = middle(1, "why", "--links-from", names, "TEST")
-    print("%-14s %7d systems %7d links  yes %7.3f s, no %7.3f s (%4.1f), why %7.3f s (%4.1f)" % (
-        name, len(bad), sum(map(len, bad)) // 2, yes, no, no / yes, why, why / yes), flush=True)
+    words = "why", "--links-from", names, "TEST"
+    why = middle(1, *words)
+    shown = subprocess.run([files.PROGRAM, *words], stdout=subprocess.PIPE, check=False).stdout.splitlines()
+    events = sum(not line.startswith(b";") for line in shown)
+    print("%-14s %7d systems %7d links  yes %7.3f s, no %7.3f s (%4.1f), why %7.3f s (%4.1f), %d events" % (
+        name, len(bad), sum(map(len, bad)) // 2, yes, no, no / yes, why, why / yes, events), flush=True)
 
 
 def main(words):
     """Measures the nets of these names."""
     top = tempfile.mkdtemp(dir="/dev/shm" if os.path.isdir("/dev/shm") else None)
     try:
-        others = ["%s-%s" % (shape, fault) for shape in SHAPES for fault in FAULTS if fault != "far"]
+        others = ["%s-%s" % (shape, fault) for shape in SHAPES for fault in FAULTS if (fault == "far") == shape.endswith("4000")]
         for name in words or [name for name in NETS if not name.startswith("ring")] + others:
             measure(name, os.path.join(top, "net"))
     finally:

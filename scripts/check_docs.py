@@ -31,8 +31,8 @@ for it in glob.glob("**/*.sh", recursive=True) + glob.glob("**/*.py", recursive=
 crates = {os.path.basename(it) for it in glob.glob("crates/*")}
 with open("Makefile") as file:
     targets = set(re.findall(r"^\.PHONY: (.*)$", file.read(), re.M)[0].split())
-with open("crates/echo_words/src/commands.rt") as file:
-    options = set(re.findall(r'"([a-z][a-z-]*)"', file.read())) | {"help", "version"}
+with open("crates/cmd_words/src/commands.rt") as file:
+    options = set(re.findall(r'"([a-z][a-z-]*)"', file.read())) | {"explain", "help", "version"}
 wrong = []
 
 

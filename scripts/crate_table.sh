@@ -6,31 +6,29 @@ cd "$(dirname "$0")/.."
 
 # A line for each row: the group (none goes on with the one before), the crates, what they are for.
 rows='
-tests      | format_tests station_tests disk_tests disk_trials echo_trials bench |
-program    | echonet echo_words | picks the command; the command line
-           | cmd_station cmd_read cmd_base cmd_export | the commands on the files of the system
-           | cmd_base_file cmd_base_folder cmd_input | files, locks, clock, progress
-laws       | law_sequences law_disks | commands and crashes on disks are those of a net
-           | law_crashes law_lone_station | commands that stop; one station alone
-           | law_stations | nets of stations
+tests      | test_calls test_disks test_crashes test_speed |
+program    | echonet cmd_words | picks the command; the command line
+           | cmd_station cmd_read cmd_notes | the commands on the files of the system
+           | cmd_base cmd_input | bases opened; files, locks, clock, progress
+laws       | law_stations | nets of stations, crashes, sequences on disks
 stations   | station_scan | a scan with its packets
-           | station_file station_folder | two kinds of base
-           | station echo_station_files | lock, open, run one command
-commands   | echo_store_changing echo_mailing | those that change a base, on any store
-           | echo_checking echo_rehearsing | those that judge a net, or try one out
-           | echo_reading echo_folder_reading echo_numbered | those that print or export
-           | echo_changing echo_print echo_export | words, lines, forms
-verdicts   | echo_net echo_replay echo_why | check, replay and why, as functions
-tosser     | echo_toss echo_noting | the steps of one system, on any store
-model      | echo_harm echo_strangers echo_run | runs of systems, tidy areas, the headline
-           | echo_rules echo_graph | any tossers; cycles and walks
-stores     | echo_base_folder echo_folder_store echo_keys | a base folder
-           | echo_store | the trait, and a base in memory
-disks      | echo_placing echo_folder | whole files; the log of a base folder
-           | echo_disk echo_real_disk echo_memory_disk | the trait; the files of the system; one for tests
-steps      | echo_steps echo_status | the steps as definitions; faults and statuses
-formats    | echo_base echo_filed echo_packet echo_text echo_links echo_link_faults echo_nodelist |
-           | echo_jam echo_stored echo_mail echo_charset echo_escape echo_addr echo_device echo_files |'
+           | station_bases | two kinds of base
+           | station | lock, open, run one command
+commands   | cmd_store | those that change a base, on any store
+           | cmd_check | those that judge a net, or try one out
+           | cmd_show cmd_numbered | those that print or export
+           | cmd_report cmd_print echo_export | words, lines, forms
+verdicts   | echo_net model_replay model_plan model_why | check, replay and why, as functions
+tosser     | echo_toss | the steps of one system, on any store
+model      | model_run | runs of systems, tidy areas, any tossers, harm, the headline
+           | model_graph | cycles and walks
+stores     | base_folder base_folder_store | a base folder
+           | base_store | the trait, a base in memory, keys
+disks      | disk_atomic base_log | whole files; the log of a base folder
+           | disk_system disk_memory | the files of the system; a disk for tests
+steps      | model_steps cmd_status | the steps as definitions; faults and statuses
+formats    | base_file echo_filed echo_packet echo_text echo_links echo_nodelist |
+           | echo_jam echo_stored echo_mail echo_charset echo_addr disk_io |'
 
 if [ "${1-}" = all ]; then
   echo '| Crate | First sentence |'

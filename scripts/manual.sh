@@ -27,7 +27,7 @@ heading_options() { grep -oE -e '--[a-z-]+( [A-Z0-9]+)?' <<< "$1" | while read -
   if [ -n "$value" ]; then echo "$option $value"; else echo "$option"; fi; done | sort; }
 help_options() {
   part_of_help "$1" Options | sed -nE 's/^ +(-., )?(--[a-z-]+)( <([A-Z0-9]+)>)?  .*/\2 \4/p' | sed 's/ $//' |
-    grep -v -e '^--help$' | sort
+    grep -v -e '^--help$' -e '^--explain$' | sort
 }
 
 # Those of the options that the usage line leaves out. Words: the help, the options.
@@ -37,6 +37,22 @@ left_out() {
   while read -r option _; do
     if [[ -n $option && $usage != *"$option "* ]]; then echo "$option"; fi
   done <<< "$2"
+}
+
+# The statuses of a help text, and those of the page. Words: the help.
+help_statuses() { part_of_help "$1" 'Exit status' | sed -E 's/^ +([0-9]) +/\1 /'; }
+page_statuses() {
+  part_of_page '.SH EXIT STATUS' | awk '/^\.B [0-9]$/ { number = $2; getline; print number, $0 }' |
+    sed -e 's/, or help that was asked for//' -e 's/\.$//'
+}
+
+# The statuses that a command has: 1 is of those that print a verdict, and of `nodelist`.
+differing() {
+  case $1 in
+    check | picture | why) sed '/^1 /s/.*/1 the verdict is no/' ;;
+    nodelist) sed '/^1 /s/.*/1 a checksum differs from the stated one/' ;;
+    *) sed '/^1 /d' ;;
+  esac
 }
 
 help=$("$program" --help)
@@ -56,11 +72,15 @@ for command in $commands; do
   same "$command: words" "$(sed -n 's/^Usage: echonet [a-z]* //p' <<< "$help" |
     sed -E 's/\[OPTIONS\] ?//; s/--[a-z-]+ <[A-Z0-9]+> ?//g' | tr -d '<>')" \
     "$(sed -E 's/^[a-z]+ //; s/\[--[a-z-]+( [A-Z0-9]+)?\] ?//g; s/--[a-z-]+ [A-Z0-9]+ ?//g' <<< "$heading")"
-  same "$command: statuses" \
-    "$(part_of_help "$help" 'Exit status' | sed -E 's/^ +([0-9]) +/\1 /')" \
-    "$(part_of_page '.SH EXIT STATUS' | awk '/^\.B [0-9]$/ { number = $2; getline; print number, $0 }' |
-      sed -e 's/, or help that was asked for//' -e 's/\.$//')"
+  same "$command: help" "$help" "$("$program" help "$command")"
+  same "$command: statuses" "$(help_statuses "$help")" "$(page_statuses | differing "$command")"
 done
+
+help=$("$program" --help)
+same "check: its form without an area" "echonet check [OPTIONS] --all <LINKS>..." \
+  "$("$program" check --help | sed -n 's/^ *\(echonet check .*--all .*\)/\1/p')"
+same "the statuses of the program" "$(help_statuses "$help")" "$(page_statuses)"
+same "the word that any command takes" 1 "$(part_of_help "$help" Options | grep -c -e ' --explain ')"
 
 same "the version" "$("$program" --version)" "$(sed -nE 's/^\.TH .* "(echonet [0-9.]+)" .*/\1/p' "$place/page")"
 echo "$passed checks passed, $failed failed"

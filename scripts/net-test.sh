@@ -87,11 +87,14 @@ same "a packet that is put aside is a status" 1 "$status"
 same "its line" "put aside cut.pkt: echonet: P1 Truncated at 96" "$(grep ^put printed.txt)"
 same "its line in the log" "aside cut.pkt from 1:10/1 echonet: P1 Truncated at 96" \
   "$(cut -d ' ' -f 2- two/log | grep '^aside ')"
-same "the cut packet lies apart" "echonet: P1 Truncated at 96" "$(cat two/bad/cut.pkt.why)"
+same "the cut packet lies apart, with the note" "echonet: P1 Truncated at 96
+echonet: note: packet 1 of 1, $place/two/tossing/00000002.pkt: it is cut off" "$(cat two/bad/cut.pkt.why)"
 same "as it was" "$(head -c 98 kept.pkt | cksum)" "$(cksum < two/bad/cut.pkt)"
 same "the other one is gone" "" "$(ls two/inbound)"
 toss_some three
-same "a packet for another system lies apart" "echonet: C1 NotForUs 1:10/2" "$(cat three/bad/wrong.pkt.why)"
+same "a packet for another system lies apart" "echonet: C1 NotForUs 1:10/2
+echonet: note: packet 1 of 1, $place/three/tossing/00000001.pkt: it is for 1:10/2, this is 1:10/3" \
+  "$(cat three/bad/wrong.pkt.why)"
 head -c 98 kept.pkt > two/inbound/cut.pkt
 toss_some two
 same "two of one name lie apart" \
@@ -118,7 +121,8 @@ cp kept.pkt two/inbound/
 echo FOO >> two/links
 status=0
 toss two > /dev/null 2> fault.txt || status=$?
-same "a faulty link file" "2 echonet: L1 UnknownWord line 5" "$status $(cat fault.txt)"
+same "a faulty link file" "2 echonet: L1 UnknownWord line 5
+echonet: note: $place/two/links:5: unknown word 'FOO', expected SYSTEM, NAME or AREA" "$status $(cat fault.txt)"
 same "the packet stays" "kept.pkt 00000001.name 00000001.pkt" "$(cat two/tossing/*.name) $(ls two/tossing | xargs)"
 cp two.links two/links
 keep_base
@@ -194,8 +198,9 @@ ls two/outbound* | sort > before.txt
 status=0
 scan two > printed.txt 2> fault.txt || status=$?
 same "a link file without an address" \
-  "2 echonet: L3 NoSystem line 0 scan-outbound.sh: no own address in $place/two/links: nothing is handed over" \
-  "$status $(xargs < fault.txt)"
+  "2 echonet: L3 NoSystem line 0
+echonet: note: $place/two/links: no line SYSTEM with the own address
+scan-outbound.sh: no own address in $place/two/links: nothing is handed over" "$status $(cat fault.txt)"
 same "nothing is handed over" "1 $(cat before.txt)" "$(ls two/scanned | wc -l) $(ls two/outbound* | sort)"
 
 # A flow file whose last line has no end.
@@ -279,6 +284,8 @@ reader TEST four/read > told.txt
 # shellcheck disable=SC2053
 same "it posts what an editor wrote" yes "$([[ $(head -n 1 told.txt) == $told_id ]] && echo yes)"
 same "and puts aside what is refused" "put aside 25.msg: echonet: B3 FieldTooLong" "$(sed -n 2p told.txt)"
+same "with the note on the fault" "echonet: B3 FieldTooLong
+echonet: note: from is 36 bytes long, 35 are allowed" "$(cat four/read/refused/25.msg.why)"
 same "and adds what is new" "exported 1 messages, next 22" "$(tail -n 1 told.txt)"
 same "what it did with the files" "22.msg | 25.msg 25.msg.why | 23.msg 24.msg 25.msg" \
   "$(ls four/read/posted | xargs) | $(ls four/read/refused | xargs) | $(cd four/read && ls 2[2-9].msg | xargs)"
@@ -289,6 +296,8 @@ stored four/read/27.msg Ann Bob 'No such area' '\0\1' 'For nobody.'
 reader OTHER four/other > /dev/null
 cp four/read/27.msg four/other/
 same "an area that is not there" "put aside 27.msg: echonet: B1 NoArea" "$(reader OTHER four/other | head -n 1)"
+same "with the note on it" "echonet: note: no area OTHER in $place/four/links" \
+  "$(tail -n 1 four/other/refused/27.msg.why)"
 for number in 1 2 3; do reader TEST four/read > "read.$number" & done
 wait
 same "runs at the same moment post a file once" "1 23" \
@@ -417,6 +426,21 @@ for locked in links base; do
   wait $waiting
   same "and then it posts" "end 2 messages, 2 waiting" "$(end_of seven/base)"
   rm -r seven
+done
+
+# A posting has the moment that the clock shows in a time zone: that of `date` before it or after it.
+for zone in EST5 IST-5:30 Europe/Berlin; do
+  if [ "${zone%/*}" != "$zone" ] && [ ! -e "/usr/share/zoneinfo/$zone" ]; then continue; fi
+  mkdir eight
+  cp one/links eight/links
+  minute() { TZ=$zone LC_ALL=C date '+%d %b %y  %H:%M'; }
+  expected=$(minute)
+  echo Now | TZ=$zone "$program" post --area TEST --to All --from Ann --subject Now --serial auto --at local \
+    eight/links eight/base > posted.txt
+  shown=$("$program" list --short eight/base | sed -n 's/^0 \(.\{16\}\):.*/\1/p')
+  if [ "$shown" != "$expected" ]; then expected=$(minute); fi
+  same "a posting by the clock in $zone" "$expected" "$shown"
+  rm -r eight
 done
 
 # A base is converted under the lock of its link file while a posting waits for that: it goes to what is there then.

@@ -26,9 +26,10 @@ each() {
 
 for name in kept package keys kills crowds beside mailer debian full_disk devices pieces refusals valgrind; do each trials/$name.sh & done
 for name in kills crowds beside full_disk devices pieces refusals; do each trials/$name.sh folders & done
-for name in folders folder_kills folder_damage; do each python3 trials/$name.py & done
+for name in folders folder_kills folder_damage snapshots; do each python3 trials/$name.py & done
 for name in power_cuts unlucky odd_folders; do each python3 trials/$name.py & done
 each python3 trials/why.py &
+each python3 trials/assumed.py &
 each python3 trials/small_nets.py &
 each python3 trials/export.py &
 each python3 trials/stored.py &

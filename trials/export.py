@@ -122,7 +122,7 @@ def check_json(message, line):
         "date": message.text(message.date.rstrip(b"\0")), "charset": message.charset and message.charset.decode(),
         "label": label and label.decode("latin-1"), "msgid": message.id.decode(),
         "reply": message.reply and message.reply.decode(), "tear": "--- trials", "origin": None, "seen": 2,
-        "path": ["10/2"], "lines": [message.text(kept) for kept in message.kept]}
+        "seenby": ["10/1", "10/2"], "path": ["10/2"], "lines": [message.text(kept) for kept in message.kept]}
     read = json.loads(line.decode("utf-8", "strict"))
     if read != expected or list(read) != list(expected):
         sys.exit("message %d: %r, and not %r" % (message.number, read, expected))

@@ -1,6 +1,16 @@
-"""What is to hold of each small input, judged from outside: how the program ends, what it says beside
-what `reading` says, and laws between its runs. Each function takes a trial, in whose folder the input
-lies, and notes what did not hold.
+"""The laws of small inputs, judged from outside: how the program ends, what it prints next to what `reading` finds,
+and laws between its runs. Each function takes a trial, in whose folder the input is, and notes what did not hold.
+
+- reading.py reads the same as the program from a packet or a base: fault and place or record, places of messages,
+  texts, counts of a toss, and the base after a posting byte for byte.
+- A packet tossed again files nothing and leaves the base unchanged, also after a purge. Filed messages are scanned,
+  `show` counts what `scan` counted, and the link files all of it. A second scan makes nothing; a second purge changes
+  nothing.
+- A base of version 2 that is loaded and saved is the same bytes. A faulty base stays as it is.
+- A nodelist is printed the same twice, its checksum is Python's, and `--find` names what the list names.
+- `links --areas` lists what reading.py finds. `check --all` prints what `check` prints of each area.
+- `check` and `picture` end alike, and the picture of a yes has nothing red. On a tidy net a replay files at each
+  system at most what was posted, and the same everywhere once it has settled.
 """
 import binascii
 import os

@@ -62,7 +62,7 @@ rm $flow.flo
 cp two/links links
 echo FOO >> two/links
 run toss
-expect "a faulty link file stops a toss" [ "$status $(cat fault)" = "2 echonet: L1 UnknownWord line $(wc -l < two/links)" ]
+expect "a faulty link file stops a toss" [ "$status $(head -n 1 fault)" = "2 echonet: L1 UnknownWord line $(wc -l < two/links)" ]
 cp links two/links
 run toss
 expect "the packet was kept" [ "$status $(filed)" = "0 end 6 messages, 6 waiting" ]
@@ -133,6 +133,18 @@ echo $$ > $flow.~1.10.1~.hold
 ln $flow.~1.10.1~.hold $flow.bsy
 run scan
 expect "a hold is let go where no packet waits for its link" [ "$status $(ls one/outbound)" = "0 000a0002.flo" ]
+
+# A packet under both names, as a power cut can leave it, and the hold of the run that it cut.
+post Both
+run scan
+lines=$(wc -l < $flow.flo)
+packets=$(ls one/packets | wc -l)
+ln "one/packets/$(ls -t one/packets | head -n 1)" one/scanned/1.10.2.77.pkt
+echo $$ > $flow.~1.10.1~.hold
+ln $flow.~1.10.1~.hold $flow.bsy
+run scan
+expect "a packet with both names is handed over once" [ "$status $(wc -l < $flow.flo) $(ls one/packets | wc -l)" = "0 $lines $packets" ]
+expect "it keeps the new one, and the link is let go" [ "$(ls one/scanned one/outbound | xargs)" = "one/outbound: 000a0002.flo one/scanned:" ]
 
 # What the next run needs is on the disk before it goes on: `sync` is called for it.
 printf '#!/bin/sh\nfor file; do echo "${file##*/} $(ls "${file%%/*}" | grep -c "bsy$\\|pkt$")"; done >> "%s"\nexec %s "$@"\n' \

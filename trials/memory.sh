@@ -5,7 +5,7 @@
 # is refused: where one does not, or any test does not end, that is told and the status is 1. How many
 # growths a test has is found by a run that is refused none.
 # Needs a C compiler and crates/CRATE/out/CRATE_tests, which `rt test` in crates/CRATE builds. Words:
-# CRATE (format_tests, station_tests or echo_files), and tests of it where not all are to be tried.
+# CRATE (test_calls or disk_system), and tests of it where not all are to be tried.
 # `rt try --test --fail-alloc N` does the same for one N, and builds the tests anew for each.
 set -u
 crate=${1:?the name of a crate}

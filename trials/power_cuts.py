@@ -3,8 +3,9 @@
 Stations on one disk post, toss, scan, purge, convert and export, on base files and base folders, or by the scripts, while
 another program flushes files of its own. At each cut (power.py) the file system is mounted again. What ended with status
 0 is there, whole and once; what was running is there wholly or not at all; no message is twice in a base or in the
-packets under their names; and the next commands go on without help (judge.py). At last the same is done with an `fsync`
-that does nothing: there cuts have to do harm.
+packets under their names; and the next commands go on without help (judge.py). Some disks are flushed whole before some
+files get their names: then btrfs keeps no order among names that nobody flushed. At last all is done with an `fsync` that
+does nothing: there cuts have to do harm.
 Words: how many cuts (2000), and the file systems (ext4 xfs btrfs). SEED makes the same again.
 """
 import os
@@ -26,6 +27,38 @@ import stored
 from judge import LINKS, PROGRAM, TOP, Judge, Message, content, files_of, number_of, packet_of, texts_of
 
 NO_FLUSH = b"int fsync(int f) { (void)f; return 0; }\nint fdatasync(int f) { (void)f; return 0; }\n"
+
+# Flushes the whole disk before the first file of a process gets a name, and before each third one behind that.
+WHOLE_FLUSH = br"""
+#define _GNU_SOURCE
+#include <fcntl.h>
+#include <sys/syscall.h>
+#include <unistd.h>
+
+static void flush_all(void) {
+  static int count;
+  if (count++ % 3 == 0) {
+    int disk = open(".", O_RDONLY);
+    syncfs(disk);
+    close(disk);
+  }
+}
+
+int linkat(int a, const char *from, int b, const char *to, int how) {
+  flush_all();
+  return syscall(SYS_linkat, a, from, b, to, how);
+}
+
+int link(const char *from, const char *to) { return linkat(AT_FDCWD, from, AT_FDCWD, to, 0); }
+
+int renameat2(int a, const char *from, int b, const char *to, unsigned how) {
+  flush_all();
+  return syscall(SYS_renameat2, a, from, b, to, how);
+}
+
+int renameat(int a, const char *from, int b, const char *to) { return renameat2(a, from, b, to, 0); }
+int rename(const char *from, const char *to) { return renameat2(AT_FDCWD, from, AT_FDCWD, to, 0); }
+"""
 
 
 class Step(NamedTuple):
@@ -305,8 +338,9 @@ def session(kind, stations, chance, count, cuts, is_lazy=False):
         judge, disk = Judge(work), power.Disk(join(work, "disk"), kind)
         steps = [station.step(chance, serials, number, True) for number, station in enumerate(stations)]
         steps += [chance.choice(stations).step(chance, serials, number) for number in range(len(steps), count)]
-        judge.preload = no_flush(work) if is_lazy else ""
-        fill(judge, disk, stations, steps, chance, is_lazy or chance.random() < 0.2)
+        is_whole = not is_lazy and chance.random() < 0.4 and bool(shutil.which("cc"))
+        judge.preload = in_front(work, NO_FLUSH if is_lazy else WHOLE_FLUSH) if is_lazy or is_whole else ""
+        fill(judge, disk, stations, steps, chance, is_lazy or is_whole or chance.random() < 0.2)
         judge.preload = ""
         if judge.faults:
             raise SystemExit("%s: before any cut: %s" % (kind, judge.faults))
@@ -319,14 +353,14 @@ def session(kind, stations, chance, count, cuts, is_lazy=False):
                 print("failed: %s, cut %d, %s runs: %s" % (kind, number, running, fault), file=sys.stderr, flush=True)
             judge.faults.clear()
     print("%s: %d steps of %s, %d cuts, %d with harm%s (%d s)" % (kind, count, ", ".join(station.name for station in stations), cuts,
-          bad, ", without flushes" * is_lazy, time.time() - began), flush=True)
+          bad, ", without flushes" * is_lazy + ", flushed before names" * is_whole, time.time() - began), flush=True)
     return bad
 
 
-def no_flush(work):
-    """Makes what is loaded in front of the C library, so that nothing is flushed."""
-    path = join(work, "no_flush.so")
-    subprocess.run(["cc", "-shared", "-fPIC", "-x", "c", "-o", path, "-"], input=NO_FLUSH, check=True)
+def in_front(work, source):
+    """Makes what is loaded in front of the C library."""
+    path = join(work, "in_front.so")
+    subprocess.run(["cc", "-shared", "-fPIC", "-x", "c", "-o", path, "-"], input=source, check=True)
     return path
 
 

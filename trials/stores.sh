@@ -1,11 +1,11 @@
 #!/usr/bin/env bash
 # Runs `post`, `toss` of two packets, `scan` and `purge` on base folders on the disk in memory, each stopped after each
 # number of its calls, with what was not synced torn at each length; the folder is read then, and a next command run on
-# it, and both are held against bases in memory. Needs the built crates/disk_trials/out/disk_trials.
+# it, and both are held against bases in memory. Needs the built crates/test_crashes/out/test_crashes.
 # Words: how many bases (100), how many at a time (1), by how many bytes the lengths differ (1), the number of the first.
 set -eu
 cd "$(dirname "$0")/.."
-program=${DISK_TRIALS:-$PWD/crates/disk_trials/out/disk_trials}
+program=${DISK_TRIALS:-$PWD/crates/test_crashes/out/test_crashes}
 bases=${1:-100}
 side=${2:-1}
 step=${3:-1}

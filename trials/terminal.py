@@ -1,4 +1,4 @@
-"""What a terminal is told: that a lock is waited for, and how far a command is.
+"""What a terminal is told: that a lock is waited for, how far a command is, and why one stopped.
 
 The program runs with standard error on a terminal of this trial's own (a pty), and with a pipe in its place, where it
 is to be told nothing of that. What stands on the screen is worked out from the bytes as a terminal shows them.
@@ -169,8 +169,7 @@ def slowed(words, name, terminal=True, both=False):
 
 def tossed(terminal, both=False):
     """A slow toss of many messages."""
-    if os.path.exists("many.base"):
-        os.remove("many.base")
+    put_base(0)
     return slowed(TOSS, "0.pkt", terminal, both)
 
 
@@ -280,9 +279,36 @@ def progress(trial):
     put_packets(1)
     put_script(1)
     clear_out()
-    os.remove("many.base")
+    put_base(0)
     for words in (TOSS, LIST, SCAN, REPLAY):
         trial.expect("a short %s tells nothing" % words[0], Started(words).ended()[:2] == (0, b""))
+
+
+def notes(trial):
+    """The note on a fault: on a terminal, and with --explain."""
+    fault, note = b"echonet: cannot use two.bsae", b"echonet: note: two.bsae: no such file"
+    for words, terminal, lines in (
+            (["list", "two.bsae"], True, [fault, note]),
+            (["list", "two.bsae"], False, [fault]),
+            (["list", "--explain", "two.bsae"], False, [fault, note])):
+        status, came, out = Started(words, b"", terminal).ended()
+        trial.expect("a note of %s" % words, (status, came.split(b"\r\n" if terminal else b"\n"), out)
+                     == (3, [*lines, b""], b""), came)
+    put_base(0)
+    os.chmod("many.base", 0)
+    run = subprocess.run([*as_other(), "list", "--explain", "many.base"], stderr=subprocess.PIPE, check=False)
+    trial.expect("a base of another user", (run.returncode, run.stderr) == (
+        3, b"echonet: cannot use many.base\nechonet: note: many.base: permission denied\n"), run.stderr)
+    os.remove("many.base")
+
+
+def as_other():
+    """The program, run by a user whom modes of files bind: that of this trial, or nobody where that is root."""
+    if os.getuid():
+        return [PROGRAM]
+    shutil.copy(PROGRAM, "program")
+    os.chmod(".", 0o755)
+    return ["setpriv", "--reuid", "65534", "--regid", "65534", "--clear-groups", os.path.abspath("program")]
 
 
 def listed_last():
@@ -306,6 +332,7 @@ def main():
         os.chdir(folder)
         locks(trial)
         progress(trial)
+        notes(trial)
         os.chdir(TOP)
     print("terminal: %d passed, %d failed" % (trial.passed, trial.failed))
     return trial.failed > 0

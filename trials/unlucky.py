@@ -1,12 +1,14 @@
 """What happens beside commands that wait, and a scan into a folder without hard links, on a base file and on a base folder.
 
 1. 400 postings by 20 processes while the link file is replaced by another one of its name: each that ended with 0 is there.
+   The same of the first eight postings of a station, 40 times: no base file is there then, and the lock of its folder keeps
+   others out. Runs wait for that lock, and then add to the base that is there; another base of the folder waits too.
 2. Commands that wait for the lock while the base is turned into one of the other kind go on with what is there then.
 3. A scan into a folder that has no hard links is refused, and changes nothing; the next one into a good folder does all.
    Where strace is installed the call is refused; where a file system without hard links can be mounted it is tried, too.
 4. What stopped runs and power cuts leave under temporary names goes, whatever it holds; what is no regular file of this
    user stays, and is a fault.
-Words: which of them (replaced turned no_links left); with none, all.
+Words: which of them (replaced begun turned no_links left); with none, all.
 """
 import fcntl
 import os
@@ -39,9 +41,8 @@ def do(judge, folder, what, messages=(), wanted=0):
     return judge.run(folder, PROGRAM, *words, given=given, wanted=wanted)
 
 
-def try_replaced(judge, folder):
-    """Postings while the link file is replaced."""
-    messages = [Message("post", serial, 80) for serial in range(1, 401)]
+def post_replaced(judge, folder, messages, count):
+    """Postings by so many processes while the link file is replaced."""
     done, end = [], threading.Event()
 
     def post_some(some):
@@ -55,7 +56,7 @@ def try_replaced(judge, folder):
                 file.write(b"; %d\n" % number + LINKS)
             os.rename(os.path.join(folder, "links.new"), os.path.join(folder, "links"))
 
-    threads = [threading.Thread(target=post_some, args=(messages[first::20],)) for first in range(20)]
+    threads = [threading.Thread(target=post_some, args=(messages[first::count],)) for first in range(count)]
     replacing = threading.Thread(target=replace)
     for thread in [replacing, *threads]:
         thread.start()
@@ -64,6 +65,42 @@ def try_replaced(judge, folder):
     end.set()
     replacing.join()
     judge.texts("postings while the link file is replaced", texts_of(os.path.join(folder, "base")), done, messages)
+
+
+def try_replaced(judge, folder):
+    """Postings while the link file is replaced."""
+    post_replaced(judge, folder, [Message("post", serial, 80) for serial in range(1, 401)], 20)
+
+
+def try_begun(judge, folder):
+    """The first postings of stations while their link files are replaced, and while another run holds the folder of a base file."""
+    is_folder = os.path.isdir(os.path.join(folder, "base"))
+    for number in range(40):
+        station = new_station(folder, "station.%d" % number, is_folder)
+        post_replaced(judge, station, [Message("post", serial, 80) for serial in range(1, 9)], 8)
+        shutil.rmtree(station)
+    if is_folder:
+        return
+    shutil.copy(os.path.join(folder, "links"), os.path.join(folder, "links.two"))
+    lock = os.open(folder, os.O_RDONLY)
+    fcntl.flock(lock, fcntl.LOCK_EX)
+    posts = [(Message("post", serial, 80), end) for serial, end in ((1, ""), (2, ""), (3, ".two"))]
+    threads = []
+    for message, end in posts:
+        words, given = judge.words("post", [message])
+        words = (*words[:-2], "links" + end, "base" + end)
+        threads.append(threading.Thread(target=judge.run, args=(folder, PROGRAM, *words), kwargs={"given": given}))
+        threads[-1].start()
+        time.sleep(0.3)
+        shutil.copy(os.path.join(folder, "links"), os.path.join(folder, "links.new"))
+        os.rename(os.path.join(folder, "links.new"), os.path.join(folder, "links"))
+    judge.expect("a first posting does not wait for the folder", all(thread.is_alive() for thread in threads))
+    os.close(lock)
+    for thread in threads:
+        thread.join()
+    for end in ("", ".two"):
+        mine = [message for message, other in posts if other == end]
+        judge.texts("first postings that waited", texts_of(os.path.join(folder, "base" + end)), mine, mine)
 
 
 def try_turned(judge, folder):
@@ -195,7 +232,7 @@ def others(path):
 def main(words):
     """Each of them, or those that are named, with both kinds of bases."""
     count = 0
-    for trial in (try_replaced, try_turned, try_no_links, try_left):
+    for trial in (try_replaced, try_begun, try_turned, try_no_links, try_left):
         for is_folder in (False, True) if not words or trial.__name__[4:] in words else ():
             with tempfile.TemporaryDirectory(prefix="echonet-unlucky.") as work:
                 judge = Judge(work)
@@ -205,7 +242,7 @@ def main(words):
                 print("failed: %s: %s" % (what, fault), file=sys.stderr)
             print("%s: %d faults" % (what, len(judge.faults)), flush=True)
             count += len(judge.faults)
-    print("unlucky.py: 800 postings beside replaced link files, 16 commands beside a base that is turned, %d scans without hard links, "
+    print("unlucky.py: 1,443 postings beside replaced link files, 16 commands beside a base that is turned, %d scans without hard links, "
           "84 files left beside, %d faults" % (len(TRIED), count))
     return 1 if count else 0
 

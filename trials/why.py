@@ -204,6 +204,13 @@ def replays_alike(net, script):
     need("replay: %r" % out, counts in out)
 
 
+def named_so(net, lines, events):
+    """Before the events a note for each system that posts or scans, ascending, with its address and its file."""
+    systems = sorted({int(words[1]) for words in map(bytes.split, events) if words[0] != b"DELIVER"})
+    need("who is who", lines[:-len(events)] == [
+        b"; %d is %s %s" % (i, b"%d:%d/%d" % net.addresses[i], os.fsencode(net.files[i])) for i in systems])
+
+
 def try_net(net, counts):
     """Tries a net, and answers the first line and which harm was found."""
     checked = net.runner.run("check", "TEST", *net.files)
@@ -221,7 +228,9 @@ def try_net(net, counts):
         picture_is_so(net, {})
         counts["no harm"] += 1
         return checked.out, "no harm"
-    for line in lines[1:-1]:
+    events = [line for line in lines[1:-1] if not line.startswith(b";")]
+    named_so(net, lines[1:-1], events)
+    for line in events:
         net.happen(line)
         counts["events"] += 1
     need("the last line", lines[-1].startswith(b"; "))

@@ -22,5 +22,5 @@ station=$1 area=$2 to=$3 from=$4 subject=$5 reply=${6:-}
 
 set -- "$station/links" "$station/base"
 if [ -n "$reply" ]; then set -- "--reply=$reply" "$@"; fi
-exec "${ECHONET:-echonet}" post "--area=$area" "--to=$to" "--from=$from" "--subject=$subject" \
-  --serial auto --at now "$@"
+exec "${ECHONET:-echonet}" post --explain "--area=$area" "--to=$to" "--from=$from" \
+  "--subject=$subject" --serial auto --at now "$@"

@@ -5,7 +5,7 @@
 # base is added, and nothing is posted; PATH.next has the number of the message with which the next run begins.
 #
 # What an editor wrote there (Local, not Sent, and under no id of the base) is posted and then moves to DIR/posted;
-# what is refused goes to DIR/refused, with the line that tells why beside it in NAME.why. Then what is new in the
+# what is refused goes to DIR/refused, with the fault and the note on it in NAME.why. Then what is new in the
 # base is added. DIR/next has the number of the message with which the next run begins. Runs may start at the same
 # moment: each waits for the one before it. Before a file is posted DIR/posting names it, and the serial that it gets:
 # where a run is stopped between posting a file and moving it, the next run finds that posting in the base, and moves
@@ -42,7 +42,7 @@ add_new() {
   if [ ! -e "$station/base" ]; then return; fi
   from=0
   if [ -e "$2" ]; then from=$(cat "$2"); fi
-  "$program" export "$form" "$1" --area "$area" --from "$from" "$station/base" > "$work/told"
+  "$program" export --explain "$form" "$1" --area "$area" --from "$from" "$station/base" > "$work/told"
   next=$(sed -n 's/^exported [0-9]* messages, next \([0-9]*\)$/\1/p' "$work/told")
   if [ -z "$next" ]; then exit 3; fi
   printf '%s\n' "$next" > "$2.new"
@@ -70,7 +70,7 @@ read_base() {
   if [ ! -e "$station/base" ]; then return; fi
   {
     listed=0
-    "$program" list --area "$area" "$station/base" || listed=$?
+    "$program" list --explain --area "$area" "$station/base" || listed=$?
     echo $listed > "$work/listed"
   } | awk '
     /^message / { head = $4 "\t" ($5 == "posted") }
@@ -194,8 +194,8 @@ post_one() {
     next_serial
     mark "$1"
     status=0
-    "$program" post --msg "$1" --area "$area" --serial "$serial" --at now "$station/links" "$station/base" \
-      > "$work/told" 2>&1 || status=$?
+    "$program" post --explain --msg "$1" --area "$area" --serial "$serial" --at now "$station/links" \
+      "$station/base" > "$work/told" 2>&1 || status=$?
   done
   case $status in
     0)
@@ -205,7 +205,7 @@ post_one() {
     2)
       put_aside "$1" "$folder/refused"
       cp "$work/told" "$folder/refused/$name.why"
-      printf 'put aside %s: %s\n' "$name" "$(cat "$work/told")"
+      printf 'put aside %s: %s\n' "$name" "$(head -n 1 "$work/told")"
       ;;
     *)
       cat "$work/told" >&2

@@ -48,11 +48,13 @@ new_name() {
     mv "$station/last-name.new" "$station/last-name" && sync "$station" && echo "$name"
 }
 
-# The flow file of a packet's link, without its ending. Words: zone, net, node.
+# The flow file of a packet's link, without its ending; the disk has its folder. Words: zone, net, node.
 flow_file() {
   folder=$outbound
   if [ "$1" -ne "${own%%:*}" ]; then folder=$folder.$(printf '%03x' "$1"); fi
-  mkdir -p "$folder"
+  if [ ! -d "$folder" ]; then
+    if ! mkdir -p "$folder" || ! sync "${folder%/*}"; then return 1; fi
+  fi
   printf '%s/%04x%04x\n' "$folder" "$2" "$3"
 }
 
@@ -65,6 +67,15 @@ is_left() {
   else
     [ -n "$(find "$1" -mmin +60 2> /dev/null)" ]
   fi
+}
+
+# Ends what a stopped run began. A power cut can leave a packet under its new name and under the old one, as on btrfs: that
+# one was handed over. Both folders are on the disk before a link is let go.
+end_left() {
+  for packet in "$station"/scanned/*.pkt; do
+    if [ -e "$packet" ] && [ -n "$(find "$packets" -samefile "$packet")" ]; then rm -f "$packet"; fi
+  done
+  sync "$packets" "$station/scanned"
 }
 
 # Lets go the links that a stopped run of this station held, so that the mailer goes on. Our hold has a second name for as
@@ -125,8 +136,8 @@ counts_of() {
 }
 
 # Hands one packet to the mailer. The line comes first: whatever stops this, the packet is handed over by
-# a later run or stands under its new name. It has that name on the disk before the link is let go, since what the mailer
-# sent must not be there again after a power cut. Who may read it is as the umask says.
+# a later run or stands under its new name. The disk has that name, and no longer the old one, before the link is let go,
+# since what the mailer sent must not be there again after a power cut. Who may read it is as the umask says.
 hand_over() {
   name=$(basename "$1")
   zone=${name%%.*}
@@ -134,7 +145,7 @@ hand_over() {
   net=${rest%%.*}
   rest=${rest#*.}
   node=${rest%%.*}
-  flow=$(flow_file "$zone" "$net" "$node")
+  flow=$(flow_file "$zone" "$net" "$node") || return 3
   hold "$flow" || held=$?
   case $held in
     0) ;;
@@ -158,9 +169,10 @@ refuse_to_hand_over() {
   if [ $status -eq 0 ]; then status=2; fi
 }
 
+end_left
 release_left
 status=0
-scanned=$("$program" scan --at now "$station/links" "$station/base" "$station/scanned") || status=$?
+scanned=$("$program" scan --explain --at now "$station/links" "$station/base" "$station/scanned") || status=$?
 if [ -n "$scanned" ]; then printf '%s\n' "$scanned" || status=3; fi
 sync "$station"
 for packet in "$station"/scanned/*.pkt; do

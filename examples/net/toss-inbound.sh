@@ -4,8 +4,8 @@
 # Each packet first goes to STATION/tossing, under a number, since the mailer keeps whatever name a link
 # gave it, and may bring another packet of that name. It is removed only after it was tossed whole. One
 # that is refused, has messages that are not for this system, cannot be read or wants more memory than
-# there is goes to STATION/bad, under the name that it came with, with the line that tells why beside it
-# in NAME.why, and a line for each message that was refused; those behind it are tossed. The status is 1 then. A
+# there is goes to STATION/bad, under the name that it came with, with the fault, the note on it and a
+# line for each message that was refused in NAME.why; those behind it are tossed. The status is 1 then. A
 # NAME.why whose packet is gone is removed by the next run. STATION/log gets a line for each packet that was tossed or
 # put aside. Where a disk fails, or the link file or the base is refused, the packets stay for the next run, and the
 # status is that of the program. STATION/settings may name another folder than STATION/inbound (station.sh). Runs may
@@ -27,13 +27,14 @@ exec 9> "$station/toss.lock"
 flock 9
 told=$(mktemp)
 list=$(mktemp)
-notes=$(mktemp)
+messages=$(mktemp)
+faults=$(mktemp)
 aside=0
 
 # Removes the files of this run. Status 1 reports a packet that was put aside, and nothing else.
 clean_up() {
   ended=$?
-  rm -f "$told" "$list" "$notes"
+  rm -f "$told" "$list" "$messages" "$faults"
   if [ $ended -eq 1 ] && [ $aside -eq 0 ]; then exit 3; fi
 }
 trap clean_up EXIT
@@ -105,13 +106,18 @@ sender_of() {
   echo -
 }
 
-# What `toss` prints, and its fault line, go to the file `told`. No text may be much longer than what `post`
-# takes: one that this system can just file would be too long for its links, with the lines that a scan adds.
-# Words: the file that lists the packets, and further options.
+# What `toss` prints, and its fault line, go to the file `told`, and the note on the fault to `note`. No text may
+# be much longer than what `post` takes: one that this system can just file would be too long for its links, with the
+# lines that a scan adds. Words: the file that lists the packets, and further options.
 toss() {
   from=$1
   shift
-  "$program" toss "$@" --text-limit 1500000 --packets-from "$from" "$station/links" "$station/base" > "$told" 2>&1
+  tossed=0
+  "$program" toss --explain "$@" --text-limit 1500000 --packets-from "$from" "$station/links" "$station/base" \
+    > "$told" 2> "$faults" || tossed=$?
+  sed '/^echonet: note: /d' "$faults" >> "$told"
+  note=$(sed -n '/: new base$/d; s/^echonet: note: /&/p' "$faults")
+  return $tossed
 }
 
 # The lines of messages that were refused. One that was known is filed already.
@@ -135,7 +141,7 @@ done_with() {
 }
 
 # Puts a packet aside, under a name that is not taken yet. The reason is on the disk before the packet moves.
-# Words: the packet, the line that tells why.
+# Words: the packet, the line that tells why, and the note on it.
 put_aside() {
   name_of "$1"
   if [ ${#came} -gt 200 ]; then came=${1##*/}; fi
@@ -145,7 +151,7 @@ put_aside() {
     number=$((number + 1))
     name=$came.$number
   done
-  { printf '%s\n' "$2"; cat "$notes"; } > "$station/bad/$name.why"
+  { printf '%s\n' "$2" ${3:+"$3"}; cat "$messages"; } > "$station/bad/$name.why"
   sync "$station/bad/$name.why"
   show "$name"
   printf 'put aside %s: %s\n' "$shown" "$2"
@@ -172,16 +178,17 @@ toss_one() {
   printf '%s\0' "$1" > "$list"
   toss "$list" --each || status=$?
   why=$(tail -n 1 "$told")
-  refused > "$notes"
+  explained=$note
+  refused > "$messages"
   if [ $status -eq 0 ] && all_filed 1; then
     name_of "$1"
     show "$came"
     printf '%s: %s\n' "$shown" "$why"
     done_with "$1" "$why"
   elif [ $status -eq 0 ] || is_packets_own "$1" $status "$why"; then
-    put_aside "$1" "$why"
+    put_aside "$1" "$why" "$explained"
   else
-    printf '%s\n' "$why" >&2
+    printf '%s\n' "$why" ${explained:+"$explained"} >&2
     exit $status
   fi
 }

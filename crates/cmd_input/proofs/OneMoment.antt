@@ -1,6 +1,6 @@
 -- A moment has one stamp.
 use Rattle.std.proofs.Common.{◌≡◌, ℕ, ◌/◌, ◌%◌, ◌∙◌, sym, subst, arith, pos}
-use Rattle.echo_steps.specs.declared.stamp.Stamp.{Stamp}
+use Rattle.model_steps.specs.declared.stamp.Stamp.{Stamp}
 use Rattle.jiff_core.specs.declared.civil.date.Date.{Date}
 use Rattle.jiff_core.specs.Calendar.{IsEpochDay}
 use Rattle.jiff_core.specs.Date.{epoch_day}

@@ -1,7 +1,7 @@
 -- Moments by the calendar.
-use Rattle.std.specs.Prelude.{◌≡◌, ℕ, ◌+◌, ◌*◌, ◌/◌, ◌%◌, ◌<◌, pos}
+use Rattle.std.specs.Prelude.{◌≡◌, ℕ, ◌+◌, ◌*◌, ◌/◌, ◌%◌, ◌<◌, ◌+ℤ◌, ℤ, pos}
 use Rattle.jiff_core.specs.Calendar.{IsCivilDate, days_from_civil}
-use Rattle.echo_steps.specs.declared.stamp.Stamp.{Stamp}
+use Rattle.model_steps.specs.declared.stamp.Stamp.{Stamp}
 
 -- how many seconds a day has: leap seconds are not counted
 abbrev pub seconds_a_day : ℕ
@@ -20,3 +20,9 @@ pub record IsMomentAt (seconds : ℕ) (s : Stamp) : Type 0 where
   pub minute : s.minute < 60
   pub second : s.second < 60
   pub time : second_of_day s ≡ seconds % seconds_a_day
+
+-- the stamp that a clock shows which is so many seconds ahead of UTC: that of the moment so many seconds later
+pub record IsShownAt (seconds : ℕ) (ahead : ℤ) (s : Stamp) : Type 0 where
+  pub shown : ℕ
+  pub later : pos shown ≡ pos seconds +ℤ ahead
+  pub moment : IsMomentAt shown s

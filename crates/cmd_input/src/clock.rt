@@ -1,8 +1,9 @@
 //! The clock, for words that leave the moment or the serial to it.
 
-use crate::moment::stamp_at;
-use echo_status::{Fault, serial_of, stamp_of};
-use echo_steps::Stamp;
+use crate::local::seconds_ahead;
+use crate::moment::{shown_at, stamp_at};
+use cmd_status::{Fault, serial_of, stamp_of};
+use model_steps::Stamp;
 use std::time::{SystemTime, UNIX_EPOCH};
 
 /// What a fault calls the clock.
@@ -11,12 +12,17 @@ const CLOCK: &str = "clock";
 /// How many serials there are.
 const SERIALS: u64 = 1 << 32;
 
-/// The moment that the word names: that of the clock, where it is `now`.
+/// The moment that the word names: that of the clock, where it is `now` (UTC) or `local` (in the time zone of the system).
 pub fn moment_of<'a>(rt: &HostRuntime, word: &str) -> Result<Stamp, Fault<'a>> {
-    if word != "now" {
-        return stamp_of(word);
-    }
-    match stamp_at(seconds(rt)?) {
+    let stamp = match word {
+        "now" => stamp_at(seconds(rt)?),
+        "local" => {
+            let since = seconds(rt)?;
+            shown_at(since, seconds_ahead(rt, since)?)
+        }
+        _ => return stamp_of(word),
+    };
+    match stamp {
         Some(stamp) => Ok(stamp),
         None => Err(Fault::BadStamp),
     }

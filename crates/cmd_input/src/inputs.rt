@@ -1,10 +1,10 @@
 //! The files that the command line names, and standard input.
 
 use crate::paths::{PathName, PathNames};
+use cmd_status::Fault;
+use disk_io::Watched;
+use disk_system::{InputFault, OutputFault, read_whole};
 use echo_addr::Items;
-use echo_device::Watched;
-use echo_files::{InputFault, OutputFault, read_whole};
-use echo_status::Fault;
 
 /// How many bytes a packet given to `show`, or a nodelist, may have.
 pub const MAX_INPUT: usize = 67_108_864;
@@ -31,7 +31,7 @@ pub fn output_fault(fault: OutputFault, path: &str) -> Fault<'_> {
 
 /// The bytes of a file.
 pub fn read_file<'a>(rt: &HostRuntime, path: &'a str, most: usize) -> Result<Vec<u8>, Fault<'a>> {
-    echo_files::read_file(rt.alloc(), rt, path, most).map_err(|fault| input_fault(fault, path))
+    disk_system::read_file(rt.alloc(), rt, path, most).map_err(|fault| input_fault(fault, path))
 }
 
 /// The bytes of a file, where one is given.

@@ -1,14 +1,14 @@
 //! Locks of files and of folders, and the line that says that one is waited for.
 ghost use Rattle.std.specs.Prelude.{◌≡◌, ◌≤◌, None};
-ghost use Rattle.echo_device.specs.Device.{Failed};
-ghost use Rattle.echo_disk.specs.declared.disk_error.DiskError.TheVariants.{Device};
+ghost use Rattle.disk_io.specs.Device.{Failed};
+ghost use Rattle.disk_io.specs.declared.disk_error.DiskError.TheVariants.{Device};
 
+use crate::paths::folder_of;
+use cmd_status::{Fault, print_rest};
+use disk_io::{DiskError, Watched};
 use echo_addr::Items;
-use echo_device::Watched;
-use echo_disk::DiskError;
-use echo_escape::push_word;
-use echo_station_files::FileLock;
-use echo_status::{Fault, print_rest};
+use echo_charset::push_word;
+use station::FileLock;
 use std::alloc::AllocError;
 use std::fs::{File, Metadata, TryLockError};
 use std::io::{ErrorKind, IsTerminal};
@@ -73,8 +73,11 @@ impl FileLock for LinkLock<'_> {
     }
 }
 
-/// The lock of the base of a station, which is held until this value goes. The lock of the link file stands for it where
-/// nothing is there that can be locked, or the link file itself is.
+/// The lock of the base of a station, which is held until this value goes. Where no base is there yet it is that of the folder
+/// in which a base file is made. The lock of the link file stands for it where nothing is there that can be locked, or the
+/// link file itself is.
+///
+/// Runs cannot wait for each other: each takes the lock of a link file first, then this one, and none behind it.
 #[derive(Drop)]
 pub struct BaseLock<'r> {
     rt: &'r HostRuntime,
@@ -157,11 +160,28 @@ fn are_same(one: &Metadata, other: &Metadata) -> bool {
     (one.dev(), one.ino()) == (other.dev(), other.ino())
 }
 
-// The base with this path, open and locked, where it has a lock of its own.
+// The base with this path, open and locked, where it has a lock of its own. Where no base is there its folder is, so that one
+// run alone makes it; a base that another run made before that was locked is locked itself.
 fn locked_base(rt: &HostRuntime, links: &str, path: &str) -> io::Result<Option<File>> {
-    match locked_if_own(rt, links, path) {
+    'tries: for _ in 0..MOST_TRIES {
+        match locked_if_own(rt, links, path) {
+            Err(error) if error.kind() == ErrorKind::NotFound => {}
+            answer => return answer,
+        }
+        let folder = unless_missing(locked_at(rt, folder_of(path)))?;
+        if !fs::exists(rt, path)? {
+            return Ok(folder);
+        }
+    }
+    Err(ErrorKind::Other.into())
+}
+
+// A file, where it is there.
+fn unless_missing(found: io::Result<File>) -> io::Result<Option<File>> {
+    match found {
+        Ok(file) => Ok(Some(file)),
         Err(error) if error.kind() == ErrorKind::NotFound => Ok(None),
-        answer => answer,
+        Err(error) => Err(error),
     }
 }
 

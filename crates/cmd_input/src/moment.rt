@@ -2,11 +2,11 @@
 ghost use Rattle.std.specs.Prelude.{◌≡◌, ℕ, Some, IfSome, MatchOption, pos};
 ghost use Rattle.jiff_core.specs.Calendar.{IsEpochDay};
 ghost use Rattle.jiff_core.specs.Date.{epoch_day};
-ghost use Rattle.echo_steps.specs.declared.stamp.Stamp as model;
-ghost use Rattle.cmd_input.specs.Moment.{IsMomentAt};
+ghost use Rattle.model_steps.specs.declared.stamp.Stamp as model;
+ghost use Rattle.cmd_input.specs.Moment.{IsMomentAt, IsShownAt};
 
-use echo_steps::Stamp;
 use jiff_core::civil::Date;
+use model_steps::Stamp;
 
 /// How many seconds a day has.
 const A_DAY: u64 = 86_400;
@@ -28,6 +28,16 @@ pub fn stamp_at(seconds: u64) -> Option<Stamp>
         minute: (time / 60 % 60) as u16,
         second: (time % 60) as u16,
     })
+}
+
+/// The moment that a clock so many seconds ahead of UTC shows, so many seconds after 1970 began.
+pub fn shown_at(seconds: u64, ahead: i32) -> Option<Stamp>
+    ensures { IfSome result (IsShownAt seconds ahead) }
+{
+    let later = i64::try_from(seconds).ok()?.checked_add(i64::from(ahead))?;
+    let shown = u64::try_from(later).ok()?;
+    let stamp = stamp_at(shown)?;
+    Some(stamp)
 }
 
 // The date of this day, counted from 0 for the first of 1970.

@@ -1,16 +1,16 @@
 //! The packet files of `toss`.
 
 ghost use Rattle.std.specs.Prelude.{map};
-ghost use Rattle.echo_changing.specs.Coming.{Unknown};
+ghost use Rattle.cmd_report.specs.Coming.{Unknown};
 
 use crate::inputs::input_fault;
 use crate::paths::PathName;
 use crate::progress::{Progress, share_of};
-use echo_changing::PacketFiles;
-use echo_device::{Buffered, Watched};
-use echo_files::open_regular;
+use cmd_report::PacketFiles;
+use cmd_status::Fault;
+use disk_io::{Buffered, Watched};
+use disk_system::open_regular;
 use echo_packet::Limits;
-use echo_status::Fault;
 use std::fs::File;
 use std::io;
 use std::io::Read;

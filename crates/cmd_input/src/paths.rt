@@ -1,9 +1,9 @@
 //! The paths of files, as words of the command line or the lines of a file name them.
 
 use crate::inputs::{MAX_INPUT, read_given};
-use echo_escape::push_word;
-use echo_status::Fault;
-use echo_words::Paths;
+use cmd_status::Fault;
+use cmd_words::Paths;
+use echo_charset::push_word;
 use std::alloc::AllocError;
 use std::str;
 
@@ -104,6 +104,15 @@ fn printed(rt: &HostRuntime, path: &[u8]) -> Result<String, AllocError> {
     let mut bytes = Vec::new(rt.alloc());
     push_word(&mut bytes, path)?;
     String::from_str(rt.alloc(), str::from_utf8(&bytes).unwrap_or(""))
+}
+
+/// The folder of the file with this path.
+pub fn folder_of(path: &str) -> &str {
+    match path.rsplit_once('/') {
+        Some(("", _)) => "/",
+        Some((folder, _)) => folder,
+        None => ".",
+    }
 }
 
 /// The folder, and a `/` where it ends in none.

@@ -1,9 +1,9 @@
 //! How far a command is, as a terminal is told. The line stands on standard error from a second after the command
 //! began on, is written over in place, and goes before anything else is printed.
 
-use echo_device::Watched;
-use echo_station_files::Watching;
-use echo_status::print_rest;
+use cmd_status::print_rest;
+use disk_io::Watched;
+use station::Watching;
 use std::alloc::AllocError;
 use std::cell::Cell;
 use std::io;

@@ -1,38 +1,48 @@
 //! The commands that print what a base holds.
 
 use crate::files::told_bytes;
-use crate::listing::list_folder;
-use cmd_base::{base_bytes, is_folder};
-use cmd_input::Progress;
-use echo_base::BaseFault;
-use echo_device::Sink;
+use crate::listing::{export_folder, list_folder};
+use base_file::BaseFault;
+use cmd_input::{Progress, is_folder, read_file};
+use cmd_print::ListForm;
+use cmd_show::{export, list, list_areas, tell_lost};
+use cmd_status::{Fault, Status, number_of};
+use cmd_words::{ExportWords, ListWords};
+use disk_io::Sink;
 use echo_export::Form;
-use echo_reading::{export, list, tell_lost};
-use echo_status::{Fault, Status, number_of};
-use echo_words::ExportWords;
 use std::collections::hash_map::RandomState;
 
-/// `list [--area TAG] [--from I] BASE`: the number is judged first, then the base, of a folder what is asked for. A seed
-/// for the hasher that cannot be had is a failed read.
+/// `list [--short | --areas] [--area TAG] [--from I] BASE`: the number is judged first, then the base, of a folder what
+/// is asked for. A seed for the hasher that cannot be had is a failed read.
 pub fn run_list<'a, W: Sink>(
     rt: &HostRuntime,
-    area: Option<&'a str>,
-    from: Option<&'a str>,
-    base: &'a str,
+    words: &ListWords<'a>,
     progress: &Progress<'_>,
     out: &mut W,
 ) -> Result<Status, Fault<'a>> {
-    let first = match from {
+    let first = match words.from {
         Some(word) => number_of(word)?,
         None => 0,
     };
-    let area = area.map(|tag| tag.as_bytes());
-    if is_folder(rt, base) {
-        return list_folder(rt, area, first, base, progress, out);
+    if is_folder(rt, words.base) {
+        return list_folder(rt, words, first, progress, out);
     }
     let hasher = RandomState::new(rt).map_err(|_| Fault::Base(BaseFault::Read))?;
-    let bytes = told_bytes(rt, base, progress)?;
-    list(rt.alloc(), area, first, &bytes, hasher, out)
+    let bytes = told_bytes(rt, words.base, progress)?;
+    if words.areas {
+        return list_areas(rt.alloc(), &bytes, hasher, out);
+    }
+    let area = words.area.map(|tag| tag.as_bytes());
+    list(rt.alloc(), form_of(words), area, first, &bytes, hasher, out)
+}
+
+/// The form that the words ask for.
+pub(crate) fn form_of(words: &ListWords<'_>) -> ListForm {
+    if words.short {
+        ListForm::Short
+    } else {
+        ListForm::Whole
+    }
 }
 
 // `export [--area TAG] [--from I] [--purged] [--mbox | --json] BASE`, judged as `list` is.
@@ -45,24 +55,27 @@ fn export_given<'a, W: Sink>(
         Some(word) => number_of(word)?,
         None => 0,
     };
-    let hasher = RandomState::new(rt).map_err(|_| Fault::Base(BaseFault::Read))?;
-    export_from(rt, words, first, hasher, out)
-}
-
-// The same, from this number on.
-fn export_from<'a, W: Sink>(
-    rt: &HostRuntime,
-    words: &ExportWords<'a>,
-    first: u64,
-    hasher: RandomState,
-    out: &mut W,
-) -> Result<u128, Fault<'a>> {
-    let bytes = base_bytes(rt, words.base)?;
     let form = if words.json {
         Form::Json
     } else {
         Form::Mailbox
     };
+    if is_folder(rt, words.base) {
+        return export_folder(rt, words, form, first, out);
+    }
+    export_file(rt, words, form, first, out)
+}
+
+// The same of a base file, from this number on. No seed for the hasher counts as a failed read.
+fn export_file<'a, W: Sink>(
+    rt: &HostRuntime,
+    words: &ExportWords<'a>,
+    form: Form,
+    first: u64,
+    out: &mut W,
+) -> Result<u128, Fault<'a>> {
+    let hasher = RandomState::new(rt).map_err(|_| Fault::Base(BaseFault::Read))?;
+    let bytes = read_file(rt, words.base, usize::MAX)?;
     let area = words.area.map(|tag| tag.as_bytes());
     let purged = words.purged;
     export(rt.alloc(), form, area, first, purged, &bytes, hasher, out)

@@ -1,10 +1,10 @@
-//! A base file that is read while a terminal is told how far that is.
+//! A base file that is read while a terminal shows how far that is.
 
 use cmd_input::{Messages, Progress, folder_fault, input_fault};
-use echo_device::{Buffered, Watched};
-use echo_files::read_whole;
-use echo_station_files::Followed;
-use echo_status::Fault;
+use cmd_status::Fault;
+use disk_io::{Buffered, Watched};
+use disk_system::read_whole;
+use station::Followed;
 use std::fs::File;
 use std::{fs, io};
 
@@ -28,7 +28,7 @@ fn opened(rt: &HostRuntime, base: &str) -> io::Result<(File, usize)> {
     Ok((file, size))
 }
 
-// Reads the file. Its first bytes, which say how many messages it has, are there before somebody is told.
+// Reads the file. Its first bytes, which say how many messages it has, are read before the first report.
 fn read_told<'a>(
     rt: &HostRuntime,
     base: &'a str,

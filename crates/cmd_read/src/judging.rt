@@ -1,10 +1,10 @@
 //! The command `links`, which goes on where a file cannot be used.
 
 use cmd_input::{PathNames, read_link_file};
+use cmd_show::{NamedFile, links};
+use cmd_status::{Fault, Status};
+use disk_io::Sink;
 use echo_addr::Items;
-use echo_device::Sink;
-use echo_reading::{NamedFile, links};
-use echo_status::{Fault, Status};
 
 // The link files that were read, and why the others were not.
 #[derive(Drop)]

@@ -1,21 +1,33 @@
-//! The commands that only read: `show`, `nodelist`, `check`, `links`, `why`, `picture`, `list`, `export` and `replay`,
-//! each on the files that its words name.
+//! The commands that change no base: `show`, `nodelist`, `check`, `links`, `why`, `picture`, `list`, `export` and
+//! `replay`, each on the files that its words name. `export --msg` and `export --jam` write files for readers, and
+//! `resend` a packet.
 //!
-//! They are proved to be safe and to end, and no more. What they print is promised by the crates that they call.
+//! They are proved to be safe and to end, and no more. What they print and write is promised by the crates that they call.
 //!
-//! Modules in reading order: `printing` (what files hold: `show`, `nodelist`), `judging` (`links`, which goes on where a
-//! file cannot be used), `nets` (`check`, `why`, `picture`, `replay`), `files` (a base file that is read while a terminal is
-//! told how far that is), `listing` (`list` of a folder) and `bases` (`list`, `export`).
+//! Modules in reading order: `printing` (what files hold: `show`, `nodelist`), `judging` (`links`, which goes on if a
+//! file cannot be used), `nets` (`check`, `why`, `picture`, `replay`), `files` (a base file that is read while a terminal
+//! shows how far that is), `listing` (`list` and `export` of a folder) and `bases` (`list`, `export`). For `export --msg`
+//! and `--jam`: `making` (new files), `stored` (a file for each message), `named` (files of a JAM base, no links),
+//! `locked` (a JAM base is begun, and locked) and `jam`. Then `resending`.
 #![tactic(auto)]
 
 mod bases;
 mod files;
+mod jam;
 mod judging;
 mod listing;
+mod locked;
+mod making;
+mod named;
 mod nets;
 mod printing;
+mod resending;
+mod stored;
 
 pub use bases::{run_export, run_list};
+pub use jam::run_export_jam;
 pub use judging::run_links;
 pub use nets::{run_check, run_picture, run_replay, run_why};
 pub use printing::{run_nodelist, run_show};
+pub use resending::run_resend;
+pub use stored::run_export_stored;

@@ -1,31 +1,36 @@
-//! `list` of a base folder: what is asked for is read, all of it, before a line is printed.
+//! `list` and `export` of a base folder: the messages that are asked for are all read before a line is printed.
 
-use cmd_base::look_into;
-use cmd_input::Progress;
-use echo_base_folder::Seen;
-use echo_device::Sink;
-use echo_folder_reading::{begin_at, judge_messages, list_seen};
-use echo_keys::SipDigest;
-use echo_status::{Fault, Status};
+use crate::bases::form_of;
+use base_folder::Seen;
+use base_store::SipDigest;
+use cmd_input::{Progress, look_into};
+use cmd_show::{begin_at, export_seen, judge_messages, list_areas_seen, list_seen};
+use cmd_status::{Fault, Status};
+use cmd_words::{ExportWords, ListWords};
+use disk_io::Sink;
+use echo_export::Form;
 
 /// How many messages are read between two looks at the clock.
 const SOME: usize = 1_000;
 
-/// `list` of the base folder with this path, from this number on.
+/// `list` of the base folder that the words name, from this number on.
 pub(crate) fn list_folder<'a, W: Sink>(
     rt: &HostRuntime,
-    area: Option<&[u8]>,
+    words: &ListWords<'a>,
     first: u64,
-    base: &'a str,
     progress: &Progress<'_>,
     out: &mut W,
 ) -> Result<Status, Fault<'a>> {
-    let seen = look_into(rt, base, first)?;
+    let seen = look_into(rt, words.base, first)?;
     judge_seen(rt, &seen, first, progress)?;
-    list_seen::<SipDigest, W>(rt.alloc(), area, first, &seen, out)
+    if words.areas {
+        return list_areas_seen::<SipDigest, W>(rt.alloc(), &seen, out);
+    }
+    let area = words.area.map(|tag| tag.as_bytes());
+    list_seen::<SipDigest, W>(rt.alloc(), form_of(words), area, first, &seen, out)
 }
 
-// Reads the messages from this number on, and tells how far that is.
+// Reads the messages from this number on, and reports how far that is.
 fn judge_seen<'a>(
     rt: &HostRuntime,
     seen: &Seen,
@@ -40,4 +45,19 @@ fn judge_seen<'a>(
         }
     }
     Ok(())
+}
+
+/// `export` of the base folder that the words name, from this number on.
+pub(crate) fn export_folder<'a, W: Sink>(
+    rt: &HostRuntime,
+    words: &ExportWords<'a>,
+    form: Form,
+    first: u64,
+    out: &mut W,
+) -> Result<u128, Fault<'a>> {
+    let seen = look_into(rt, words.base, first)?;
+    let count = seen.count();
+    judge_messages::<SipDigest>(rt.alloc(), &seen, begin_at(first, count), count)?;
+    let area = words.area.map(|tag| tag.as_bytes());
+    export_seen::<SipDigest, W>(rt.alloc(), form, area, first, words.purged, &seen, out)
 }

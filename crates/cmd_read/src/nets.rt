@@ -1,31 +1,56 @@
 //! The commands that judge the areas of a net, or try out what would become of it.
 
+use cmd_check::{
+    assume, check, check_all, check_assuming, picture, picture_why, print_assumed, replay, why,
+};
 use cmd_input::{MAX_INPUT, PathNames, Progress, read_if_given, read_links, read_script};
-use echo_checking::{check, check_all, picture};
-use echo_device::Sink;
-use echo_rehearsing::{picture_why, replay, why};
-use echo_replay::Telling;
-use echo_status::{Fault, Status};
-use echo_words::CheckWords;
+use cmd_status::{Fault, Status, wanted};
+use cmd_words::CheckWords;
+use disk_io::Sink;
+use echo_addr::{Address, Items};
+use model_replay::Telling;
+use std::alloc::AllocError;
 use std::collections::hash_map::RandomState;
 
-/// `check [--nodelist LIST] TAG LINKS...`, and `check --all` without a tag
+/// `check [--nodelist LIST] [--assume ADDRESS].. TAG LINKS...`, and `check --all` without a tag
 pub fn run_check<'a, W: Sink>(
     rt: &HostRuntime,
     words: &CheckWords<'a>,
     links: &'a PathNames<'a>,
     out: &mut W,
 ) -> Result<Status, Fault<'a>> {
+    let assumed = assumed_in(rt, &words.assume)?;
     let list = read_if_given(rt, words.nodelist, MAX_INPUT)?;
     let (files, stopped) = read_links(rt, links);
     let list = list.as_ref().map(|bytes| bytes.as_slice());
-    match words.tag {
-        Some(tag) => check(rt.alloc(), list, tag.as_bytes(), &files, stopped, out),
-        None => check_all(rt.alloc(), list, &files, stopped, out),
+    let Some(tag) = words.tag else {
+        return check_all(rt.alloc(), list, &files, stopped, out);
+    };
+    if assumed.is_empty() {
+        check(rt.alloc(), list, tag.as_bytes(), &files, stopped, out)
+    } else {
+        check_assuming(
+            rt.alloc(),
+            list,
+            tag.as_bytes(),
+            &files,
+            &assumed,
+            stopped,
+            out,
+        )
     }
 }
 
-// The hasher. A seed for it that cannot be had is a failed read of the first link file.
+// The addresses of systems that are judged without a file.
+fn assumed_in<'a>(rt: &HostRuntime, words: &[&str]) -> Result<Vec<Address>, Fault<'a>> {
+    let mut assumed = Vec::new(rt.alloc());
+    for word in words {
+        assumed.push(wanted(*word)?)?;
+    }
+    Ok(assumed)
+}
+
+// The hasher. If no seed for it is available, that is a failed read of the first link file.
 fn hasher_for<'a>(rt: &HostRuntime, links: &'a PathNames<'a>) -> Result<RandomState, Fault<'a>> {
     let first = match links.names.first() {
         Some(name) => name.shown(),
@@ -34,37 +59,90 @@ fn hasher_for<'a>(rt: &HostRuntime, links: &'a PathNames<'a>) -> Result<RandomSt
     RandomState::new(rt).map_err(|_| Fault::CannotUse(first))
 }
 
-/// `why TAG LINKS...`
+// The bytes of the link files, with those of the assumed systems behind them, and why no further file was read.
+fn read_net<'a>(
+    rt: &HostRuntime,
+    links: &'a PathNames<'a>,
+    tag: &str,
+    assumed: &[Address],
+) -> Result<(Vec<Items<u8>>, Option<Fault<'a>>), Fault<'a>> {
+    let (mut files, stopped) = read_links(rt, links);
+    if stopped.is_none() && !assumed.is_empty() {
+        assume(rt.alloc(), tag.as_bytes(), &mut files, assumed)?;
+    }
+    Ok((files, stopped))
+}
+
+// The paths of the link files as they were given.
+fn paths_of(rt: &HostRuntime, links: &PathNames<'_>) -> Result<Vec<Items<u8>>, AllocError> {
+    let mut paths = Vec::new(rt.alloc());
+    for name in &links.names {
+        let path = Vec::from_slice(rt.alloc(), name.shown().as_bytes())?;
+        paths.push(Items::new(path))?;
+    }
+    Ok(paths)
+}
+
+/// `why [--assume ADDRESS].. TAG LINKS...`
 pub fn run_why<'a, W: Sink>(
     rt: &HostRuntime,
+    assumed: &[&'a str],
     tag: &'a str,
     links: &'a PathNames<'a>,
     out: &mut W,
 ) -> Result<Status, Fault<'a>> {
+    let assumed = assumed_in(rt, assumed)?;
     let hasher = hasher_for(rt, links)?;
-    let (files, stopped) = read_links(rt, links);
-    why(rt.alloc(), tag.as_bytes(), &files, stopped, hasher, out)
+    let paths = paths_of(rt, links)?;
+    let (files, stopped) = read_net(rt, links, tag, &assumed)?;
+    let status = why(
+        rt.alloc(),
+        tag.as_bytes(),
+        &files,
+        &paths,
+        stopped,
+        hasher,
+        out,
+    )?;
+    noted(rt, b"; ", &assumed, status, out)
 }
 
-/// `picture [--why] TAG LINKS...`
+// The status, once each assumed system is printed as a note that begins so.
+fn noted<'a, W: Sink>(
+    rt: &HostRuntime,
+    begin: &[u8],
+    assumed: &[Address],
+    status: Status,
+    out: &mut W,
+) -> Result<Status, Fault<'a>> {
+    if !assumed.is_empty() {
+        print_assumed(rt.alloc(), begin, assumed, out)?;
+    }
+    Ok(status)
+}
+
+/// `picture [--why] [--assume ADDRESS].. TAG LINKS...`
 pub fn run_picture<'a, W: Sink>(
     rt: &HostRuntime,
     with_why: bool,
+    assumed: &[&'a str],
     tag: &'a str,
     links: &'a PathNames<'a>,
     out: &mut W,
 ) -> Result<Status, Fault<'a>> {
-    if with_why {
+    let assumed = assumed_in(rt, assumed)?;
+    let status = if with_why {
         let hasher = hasher_for(rt, links)?;
-        let (files, stopped) = read_links(rt, links);
-        picture_why(rt.alloc(), tag.as_bytes(), &files, stopped, hasher, out)
+        let (files, stopped) = read_net(rt, links, tag, &assumed)?;
+        picture_why(rt.alloc(), tag.as_bytes(), &files, stopped, hasher, out)?
     } else {
-        let (files, stopped) = read_links(rt, links);
-        picture(rt.alloc(), tag.as_bytes(), &files, stopped, out)
-    }
+        let (files, stopped) = read_net(rt, links, tag, &assumed)?;
+        picture(rt.alloc(), tag.as_bytes(), &files, stopped, out)?
+    };
+    noted(rt, b"// ", &assumed, status, out)
 }
 
-// What `replay` is asked for first: the script. A seed for the hasher that cannot be had is a failed read.
+// The first input of `replay`: the script. If no seed for the hasher is available, that is a failed read.
 fn replay_input<'a>(
     rt: &HostRuntime,
     script: &'a str,
@@ -74,7 +152,7 @@ fn replay_input<'a>(
     Ok((bytes, hasher))
 }
 
-// A terminal is told how many events happened.
+// A terminal shows how many events happened.
 #[derive(Drop)]
 struct Events<'p, 'r> {
     progress: &'p Progress<'r>,

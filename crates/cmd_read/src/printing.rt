@@ -1,19 +1,20 @@
 //! The commands that print what a packet or a nodelist holds.
 
 use cmd_input::{MAX_INPUT, read_file, read_given};
-use echo_device::Sink;
-use echo_reading::{nodelist, show};
-use echo_status::{Fault, Status, wanted};
+use cmd_show::{nodelist, show};
+use cmd_status::{Fault, Status, wanted};
+use disk_io::Sink;
 
-/// `show [--hex] PACKET`
+/// `show [--hex] [--text] PACKET`
 pub fn run_show<'a, W: Sink>(
     rt: &HostRuntime,
     hex: bool,
+    full: bool,
     packet: &'a str,
     out: &mut W,
 ) -> Result<Status, Fault<'a>> {
     let input = read_given(rt, packet, MAX_INPUT)?;
-    show(rt.alloc(), hex, &input, out)
+    show(rt.alloc(), hex, full, &input, out)
 }
 
 /// `nodelist [--find ADDRESS] FILE`: the address is judged first, then the file.

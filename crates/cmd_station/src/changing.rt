@@ -7,20 +7,17 @@ use crate::place::{Place, Station, find_base, locks_of};
 use crate::posting::new_message;
 use crate::running::{Before, run_on};
 use cmd_input::{LinkLock, MAX_TEXT_FILE, moment_of, read_file, read_standard_input, serial_from};
-use echo_changing::{Answer, NewMessage};
+use cmd_numbered::refuse_message;
+use cmd_report::{Answer, NewMessage};
+use cmd_status::{Fault, Status, number_of};
+use cmd_store::{LetterFault, MailWords, Post, PostMail, Purge, Reply, Spare};
+use cmd_words::{PostMailWords, PostStoredWords, PostWords, ReplyWords};
+use disk_io::{Disk, Sink};
+use disk_system::{RealDisk, Unknown};
 use echo_charset::Charset;
-use echo_device::Sink;
-use echo_disk::Disk;
-use echo_mailing::{LetterFault, MailWords, PostMail, Spare};
-use echo_numbered::refuse_message;
-use echo_real_disk::{RealDisk, Unknown};
-use echo_station_files::{FileLock, lock_links};
-use echo_status::{Fault, Status, number_of};
-use echo_steps::Stamp;
-use echo_store_changing::{Post, Purge, Reply};
 use echo_stored::{StoredFault, read_stored};
-use echo_words::{PostMailWords, PostStoredWords, PostWords, ReplyWords};
-use station::Locks;
+use model_steps::Stamp;
+use station::{FileLock, Locks, lock_links};
 
 /// A command whose words and whose body were read.
 #[derive(Drop)]

@@ -2,17 +2,13 @@
 ghost use Rattle.std.specs.Prelude.{OnOk};
 ghost use Rattle.station.specs.Opening.{AreFree};
 
-use cmd_base::is_folder;
-use cmd_base_file::BaseFiles;
-use cmd_base_folder::{FoundFolder, found_in};
-use cmd_input::{BaseLock, LinkLock};
-use echo_disk::Disk;
-use echo_files::{OutputFault, target_of};
-use echo_real_disk::{RealDisk, Unknown};
-use echo_station_files::{FileLock, links_at, lock_at};
-use echo_status::Fault;
-use station::Locks;
-use station_folder::Found;
+use cmd_base::{BaseFiles, FoundFolder, found_in};
+use cmd_input::{BaseLock, LinkLock, is_folder};
+use cmd_status::Fault;
+use disk_io::Disk;
+use disk_system::{OutputFault, RealDisk, Unknown, target_of};
+use station::{FileLock, Locks, links_at, lock_at};
+use station_bases::Found;
 
 /// The paths of the link file and of the base of a system.
 #[derive(Clone, Copy)]

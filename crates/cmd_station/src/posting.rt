@@ -1,9 +1,9 @@
 //! What `post` posts.
 ghost use Rattle.std.specs.Prelude.{◌≡◌, [], None, IfSome};
 
-use echo_changing::NewMessage;
-use echo_steps::Stamp;
-use echo_words::PostWords;
+use cmd_report::NewMessage;
+use cmd_words::PostWords;
+use model_steps::Stamp;
 
 /// What is to be posted by these words, but for the body. Without `--reply` it answers no message.
 pub fn new_message<'a>(words: &PostWords<'a>, serial: u32, stamp: Stamp) -> NewMessage<'a>

@@ -1,26 +1,21 @@
 //! A command is run on a station, whatever its base is kept in, on the files of the system. What it reads, and what it
 //! puts in place, is settled by what `run_command` does over any disk. The locks are held until what the command left
 //! beside the base is gone, and what is damaged was found.
-ghost use Rattle.echo_disk.specs.Disk.{Honestly};
-ghost use Rattle.echo_folder.specs.Opening.{AreAlone};
+ghost use Rattle.disk_io.specs.Disk.{Honestly};
+ghost use Rattle.base_log.specs.Opening.{AreAlone};
 ghost use Rattle.station.specs.Opening.{AreFree};
 
 use crate::place::Station;
-use cmd_base::look_into;
-use cmd_base_folder::Opened;
-use cmd_input::{Messages, Progress, Tossing};
-use echo_base::BaseFault;
-use echo_device::Sink;
-use echo_disk::Disk;
-use echo_keys::SipDigest;
-use echo_real_disk::{RealDisk, Unknown};
-use echo_station_files::FileLock;
-use echo_status::Fault;
-use echo_store::StoreError;
-use echo_store_changing::{Stop, StoreCommand};
-use station::{Locks, Nothing, OpenStation, Unread, run_command};
-use station_file::FileStation;
-use station_folder::{FolderPlace, FolderStation, Found};
+use base_file::BaseFault;
+use base_store::{SipDigest, StoreError};
+use cmd_base::Opened;
+use cmd_input::{Messages, Progress, Tossing, look_into};
+use cmd_status::Fault;
+use cmd_store::{Stop, StoreCommand};
+use disk_io::{Disk, Sink};
+use disk_system::{RealDisk, Unknown};
+use station::{FileLock, Locks, Nothing, OpenStation, Unread, run_command};
+use station_bases::{FileStation, FolderPlace, FolderStation, Found};
 use std::collections::hash_map::RandomState;
 use std::marker::PhantomData;
 use std::rt::Files;

@@ -1,28 +1,23 @@
 //! `scan`, as its words ask for it, on the files of the system. What it reads, and what it puts in place, is settled by what
 //! it is over any disk.
-ghost use Rattle.echo_disk.specs.Disk.{Honestly};
-ghost use Rattle.echo_folder.specs.Opening.{AreAlone};
+ghost use Rattle.disk_io.specs.Disk.{Honestly};
+ghost use Rattle.base_log.specs.Opening.{AreAlone};
 ghost use Rattle.station.specs.Opening.{AreFree};
 
 use crate::place::{Place, Station, find_base, locks_of};
 use crate::running::{fault_of, file_station, folder_station};
 use crate::unplaced::report_unplaced;
-use cmd_base_file::{LeftFiles, ScanFiles};
-use cmd_base_folder::Opened;
+use base_store::{SipDigest, StoreError};
+use cmd_base::{LeftFiles, Opened, ScanFiles};
 use cmd_input::{Messages, Progress, folder_path, moment_of};
-use echo_device::Sink;
-use echo_disk::Disk;
-use echo_keys::SipDigest;
-use echo_placing::PlacingError;
-use echo_real_disk::{RealDisk, Unknown};
-use echo_station_files::FileLock;
-use echo_status::{Fault, Status};
-use echo_steps::Stamp;
-use echo_store::StoreError;
-use echo_store_changing::Stop;
-use station::{LendStation, Locks, Nothing, OpenStation};
-use station_file::FileStation;
-use station_folder::{FolderStation, Found};
+use cmd_status::{Fault, Status};
+use cmd_store::Stop;
+use disk_atomic::PlacingError;
+use disk_io::{Disk, Sink};
+use disk_system::{RealDisk, Unknown};
+use model_steps::Stamp;
+use station::{FileLock, LendStation, Locks, Nothing, OpenStation};
+use station_bases::{FileStation, FolderStation, Found};
 use station_scan::{Scan as Wanted, ScanStop, Watching, run_scan as scan_station};
 use std::collections::hash_map::RandomState;
 use std::rt::Files;

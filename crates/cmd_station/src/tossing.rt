@@ -4,13 +4,12 @@ ghost use Rattle.station.specs.Opening.{AreFree};
 use crate::place::{Place, Station, find_base, locks_of};
 use crate::running::{Before, by_name, run_on};
 use cmd_input::{PacketPaths, PathNames, Progress, Tossing, names_of};
-use echo_device::Sink;
+use cmd_status::{Fault, LIMITS, Status, limits_for, number_of};
+use cmd_store::Toss;
+use cmd_words::TossWords;
+use disk_io::Sink;
 use echo_packet::Limits;
-use echo_station_files::FileLock;
-use echo_status::{Fault, LIMITS, Status, limits_for, number_of};
-use echo_store_changing::Toss;
-use echo_words::TossWords;
-use station::Locks;
+use station::{FileLock, Locks};
 
 /// `toss`: the limit of a text is judged first, and a list of packets is read before the lock is taken; each
 /// packet file is opened when its turn comes. What ends it at a packet is reported once the base is committed.
@@ -87,10 +86,14 @@ fn toss_at<'a, L: FileLock, K: FileLock, W: Sink>(
     run_on(at, locks, before, &mut toss, out)
 }
 
-// What is taken of packets.
+// What is taken of packets. A number above the greatest limit is refused.
 fn toss_limits<'a>(text_limit: Option<&str>) -> Result<Limits, Fault<'a>> {
-    match text_limit {
-        Some(word) => Ok(limits_for(number_of(word)?)),
-        None => Ok(LIMITS),
+    let Some(word) = text_limit else {
+        return Ok(LIMITS);
+    };
+    let most = number_of(word)?;
+    if most > LIMITS.text as u64 {
+        return Err(Fault::BadNumber);
     }
+    Ok(limits_for(most))
 }

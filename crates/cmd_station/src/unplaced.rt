@@ -2,10 +2,10 @@
 
 use crate::place::Place;
 use crate::scanning::Scan;
-use cmd_base_file::ScanFiles;
-use echo_device::Sink;
-use echo_placing::PlacingError;
-use echo_status::{Fault, Status};
+use cmd_base::ScanFiles;
+use cmd_status::{Fault, Status};
+use disk_atomic::PlacingError;
+use disk_io::Sink;
 
 /// Reports why the packets of a scan were not put in place, and where, if that was noted.
 pub fn report_unplaced<E: Sink>(

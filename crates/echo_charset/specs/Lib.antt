@@ -1,3 +1,5 @@
 pub mod Charset
 pub mod Encoding
 pub mod Losses
+pub mod Escaped
+pub mod Words

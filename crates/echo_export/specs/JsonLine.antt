@@ -74,12 +74,17 @@ found_members charset kept =
 abbrev pub array_of : List Token → List Token
 array_of items = begin_array ∷ (items ++ end_array ∷ [])
 
--- how many entries its SEEN-BY has, its PATH, and its kept lines
+-- a member with entries as a list
+abbrev pub entries_member : List ℕ → List NetNode → List Token
+entries_member name entries = key name ∷ array_of (flat_map (λ entry. string (net_node_text entry) ∷ []) entries)
+
+-- how many entries its SEEN-BY has, these, its PATH, and its kept lines
 abbrev pub list_members : Option Charset → EchoText → List Token
 list_members charset e =
     member_of (codes "seen") (number (decimal (length e.seen)))
-    ++ (key (codes "path") ∷ array_of (flat_map (λ entry. string (net_node_text entry) ∷ []) e.path)
-    ++ key (codes "lines") ∷ array_of (flat_map (λ line. string (text_as charset line) ∷ []) e.kept))
+    ++ (entries_member (codes "seenby") e.seen
+    ++ (entries_member (codes "path") e.path
+    ++ key (codes "lines") ∷ array_of (flat_map (λ line. string (text_as charset line) ∷ []) e.kept)))
 
 -- the parts of its text
 abbrev pub echo_members : Option Charset → EchoText → List Token

@@ -68,7 +68,8 @@ pub(crate) fn text_as(
     charset.unwrap_or(Charset::Latin1).text(alloc, bytes)
 }
 
-pub(crate) fn without_zeros(bytes: &[u8]) -> &[u8]
+/// The bytes without those 00 that stand at their end.
+pub fn without_zeros(bytes: &[u8]) -> &[u8]
     ensures { result.now ≡ without_zeros bytes.now }
 {
     &bytes[..bytes.len() - back_zeros(bytes)]

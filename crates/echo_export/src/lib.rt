@@ -18,3 +18,4 @@ mod members;
 
 pub use form::{Form, push_message};
 pub use json_line::State;
+pub use label::without_zeros;

@@ -4,7 +4,7 @@ ghost use Rattle.std.specs.List.{flat_map};
 ghost use Rattle.json.specs.Token.{key, string};
 ghost use Rattle.echo_addr.specs.Address.{net_node_text};
 ghost use Rattle.echo_text.specs.Lines.{lines};
-ghost use Rattle.echo_export.specs.JsonLine.{array_of, list_members};
+ghost use Rattle.echo_export.specs.JsonLine.{array_of, entries_member, list_members};
 ghost use Rattle.echo_export.specs.Label.{text_as};
 
 use crate::label::text_as;
@@ -15,7 +15,7 @@ use echo_text::{Echo, split_line};
 use json::Writer;
 use std::alloc::{AllocError, Global};
 
-/// Writes how many entries SEEN-BY has, the PATH, and the kept lines.
+/// Writes how many entries SEEN-BY has, these, the PATH, and the kept lines.
 pub(crate) fn write_lists(
     writer: &mut Writer,
     alloc: Global,
@@ -26,18 +26,24 @@ pub(crate) fn write_lists(
     ensures before { OnOk result (writer.new.before ≡ writer.old.before) }
 {
     write_number(writer, "seen", echo.seen.len() as u64)?;
-    write_path(writer, alloc, echo.path.as_slice())?;
+    write_nodes(writer, alloc, "seenby", echo.seen.as_slice())?;
+    write_nodes(writer, alloc, "path", echo.path.as_slice())?;
     write_lines(writer, alloc, charset, echo.kept.as_text())
 }
 
-// Writes the entries of a PATH as a list.
-fn write_path(writer: &mut Writer, alloc: Global, path: &[NetNode]) -> Result<(), AllocError>
-    ensures tokens { OnOk result (writer.new.tokens ≡ writer.old.tokens ++ key (codes "path") ∷ array_of (flat_map (λ entry. string (net_node_text entry) ∷ []) path.now)) }
+// Writes a member with entries of SEEN-BY or PATH as a list.
+fn write_nodes(
+    writer: &mut Writer,
+    alloc: Global,
+    name: &str,
+    entries: &[NetNode],
+) -> Result<(), AllocError>
+    ensures tokens { OnOk result (writer.new.tokens ≡ writer.old.tokens ++ entries_member name.now entries.now) }
     ensures before { OnOk result (writer.new.before ≡ writer.old.before) }
 {
-    writer.key("path")?;
+    writer.key(name)?;
     writer.begin_array()?;
-    write_entries(writer, alloc, path)?;
+    write_entries(writer, alloc, entries)?;
     writer.end_array()
 }
 

@@ -10,8 +10,7 @@ use crate::header::{
 };
 use crate::label::{charset_for, label_in, without_zeros};
 use echo_addr::NetNode;
-use echo_charset::{Charset, lost};
-use echo_escape::written;
+use echo_charset::{Charset, lost, written};
 use echo_filed::Filed;
 use echo_text::Echo;
 use std::alloc::{AllocError, Global};

@@ -6,7 +6,7 @@ use Rattle.std.proofs.KnownBytes.{Appends-nil}
 use Rattle.std.specs.Prelude.{IfOk, Vec}
 use Rattle.std.specs.declared.alloc.Global.{Global}
 use Rattle.echo_addr.specs.declared.address.Address.{Address}
-use Rattle.echo_device.specs.Device.{Sends, SendsFront}
+use Rattle.disk_io.specs.Device.{Sends, SendsFront}
 use Rattle.echo_text.specs.Echo.{EchoText, IsEcho, TextOf, msgid_of}
 use Rattle.echo_text.proofs.OneReading.{one_text}
 use Rattle.echo_filed.specs.Written.{text_of}

@@ -1,7 +1,7 @@
 -- A stored message that is taken from a source.
 use Rattle.std.proofs.Common.{◌≡◌, ◌∙◌, ℕ, Bool, List, Option, sym, subst}
 use Rattle.std.specs.Io.KnownBytes.{Consumes}
-use Rattle.echo_device.specs.declared.fixed.Broken.{Broken}
+use Rattle.disk_io.specs.declared.fixed.Broken.{Broken}
 use Rattle.echo_filed.specs.Stored.{IsStored, Stored, Version, stored_bytes}
 use Rattle.echo_filed.specs.Fields.{Breaks, EndsIn, LastFits, last_of}
 use Rattle.echo_filed.proofs.StoredFields.{Fields, FieldsFit, bytes_are, fields_bytes, of_fields, of_fit}

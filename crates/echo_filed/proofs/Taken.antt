@@ -5,10 +5,10 @@ use Rattle.std.proofs.KnownBytes.{Consumes-trans}
 use Rattle.std.proofs.lemmas.List.{append-nil, length-append, length-drop, length-replicate, take-append-drop}
 use Rattle.echo_addr.specs.declared.address.Address.{Address}
 use Rattle.echo_packet.specs.Header.{AreBytes, number_at}
-use Rattle.echo_device.specs.declared.fixed.Broken.{Broken}
-use Rattle.echo_device.specs.declared.fixed.Broken.TheVariants as broken
+use Rattle.disk_io.specs.declared.fixed.Broken.{Broken}
+use Rattle.disk_io.specs.declared.fixed.Broken.TheVariants as broken
 use Rattle.echo_filed.specs.Stored.{long, long_at}
-use Rattle.echo_device.specs.Fixed.{BreaksFilling}
+use Rattle.disk_io.specs.Fixed.{BreaksFilling}
 use Rattle.echo_filed.specs.Fields.{Breaks, BreaksSized, EndsIn, HasLength, IsByte, IsLong, IsSmall, Reads, address_bytes, itself, one_byte}
 use Rattle.echo_filed.proofs.Layouts.{BothFit, Layout, LengthFits, both_bytes, ends_first, ends_second, ends_string, length_first, long_front}
 

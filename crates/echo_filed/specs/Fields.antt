@@ -4,8 +4,8 @@ use Rattle.std.specs.Io.KnownBytes.{Consumes, IsAtEnd}
 use Rattle.echo_packet.specs.Header.{word}
 use Rattle.echo_packet.specs.Field.{Came}
 use Rattle.echo_addr.specs.declared.address.Address.{Address}
-use Rattle.echo_device.specs.declared.fixed.Broken.{Broken}
-use Rattle.echo_device.specs.declared.fixed.Broken.TheVariants as broken
+use Rattle.disk_io.specs.declared.fixed.Broken.{Broken}
+use Rattle.disk_io.specs.declared.fixed.Broken.TheVariants as broken
 use Rattle.echo_filed.specs.Stored.{IsStored, Stored, Version, after_length, after_long_length, stored_bytes}
 
 -- the bytes end inside a value of the field

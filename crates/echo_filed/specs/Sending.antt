@@ -1,6 +1,6 @@
 -- Parts of a message that are sent, and why not all bytes went out.
 use Rattle.std.specs.Prelude.{◌≡◌, ℕ, List, ◌∷◌, ◌++◌, Result, Ok, Err}
-use Rattle.echo_device.specs.Device.{Failed}
+use Rattle.disk_io.specs.Device.{Failed}
 use Rattle.echo_packet.specs.Header.{word}
 use Rattle.echo_filed.specs.declared.sending.Unsent.{Unsent}
 use Rattle.echo_filed.specs.declared.sending.Unsent.TheVariants as unsent

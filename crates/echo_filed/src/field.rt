@@ -1,13 +1,13 @@
 //! One field of a base file, taken from a source.
 ghost use Rattle.std.specs.Prelude.{◌≡◌, ◌<◌, length, IfOk};
 ghost use Rattle.std.specs.List.{flat_map};
-ghost use Rattle.echo_device.specs.Fixed.{CountsBreak};
+ghost use Rattle.disk_io.specs.Fixed.{CountsBreak};
 ghost use Rattle.echo_filed.specs.Stored.{after_length, after_long_length, long};
 ghost use Rattle.echo_filed.specs.Fields.{HasLength, IsByte, IsLong, IsLongString, IsShortString, IsSmall, LastFits, Reads, StepsSized, address_bytes, itself, last_of, one_byte};
 
 use crate::numbers::{long_of, word_of};
+use disk_io::{Broken, Source, fill_from, read_fixed};
 use echo_addr::{Address, Items};
-use echo_device::{Broken, Source, fill_from, read_fixed};
 use std::alloc::{AllocError, Global};
 
 // How many bytes more than those that came room is made for.

@@ -2,7 +2,7 @@
 //! of its bytes and nothing else.
 ghost use Rattle.std.specs.Prelude.{◌≡◌, [], ◌^◌, ◌<◌, ◌++◌, ◌≤◌, length, unwrap_or, IsTrue, IfOk, OnOk, OnErr, true};
 ghost use Rattle.std.specs.List.{flat_map};
-ghost use Rattle.echo_device.specs.Device.{Failed, Sends};
+ghost use Rattle.disk_io.specs.Device.{Failed, Sends};
 ghost use Rattle.echo_text.specs.Echo.{ended, msgid_of};
 ghost use Rattle.echo_filed.specs.Written.{text_of};
 ghost use Rattle.echo_filed.specs.Stored.{Second, after_length, after_long_length, is_short, is_short_enough, kind_of, last_bytes, sender_or_zeros, stored_as, stored_bytes};
@@ -11,8 +11,8 @@ ghost use Rattle.echo_filed.specs.Sending.{CountsUnsent, front_bytes, strings_by
 use crate::filed::Filed;
 use crate::numbers::{long_bytes, word_bytes};
 use crate::stub::is_stub;
+use disk_io::{Failure, Sink, send};
 use echo_addr::Address;
-use echo_device::{Failure, Sink, send};
 use echo_text::{Echo, write_text};
 use std::alloc::{AllocError, AllocFailed, Global};
 

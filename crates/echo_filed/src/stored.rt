@@ -1,12 +1,12 @@
 //! A message of a base file, read from a source.
 ghost use Rattle.std.specs.Prelude.{◌≡◌};
 ghost use Rattle.echo_filed.specs.Stored.{IsStored, has_tag, sender_in, stored_bytes};
-ghost use Rattle.echo_device.specs.Fixed.{CountsBreak};
+ghost use Rattle.disk_io.specs.Fixed.{CountsBreak};
 ghost use Rattle.echo_filed.specs.Fields.{Reads};
 
 use crate::field::{read_address, read_byte, read_date, read_last, read_short};
+use disk_io::{Broken, Source};
 use echo_addr::{Address, Items};
-use echo_device::{Broken, Source};
 use std::alloc::Global;
 use std::marker::Model;
 

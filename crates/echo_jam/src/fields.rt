@@ -9,7 +9,7 @@ ghost use Rattle.echo_jam.specs.Fields.{address_field, body_line, line_field, na
 use crate::content::{content_of, front, is_control, is_seen};
 use crate::long::{count_of, push_long};
 use echo_addr::Address;
-use echo_escape::written;
+use echo_charset::written;
 use echo_filed::Filed;
 use echo_stored::address_in_origin;
 use echo_text::{push_line, split_line};

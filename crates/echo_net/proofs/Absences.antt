@@ -14,7 +14,7 @@ use Rattle.echo_nodelist.specs.Back.{IsFirstAt, address_at}
 use Rattle.echo_net.specs.declared.presence.Absence.{Absence}
 use Rattle.echo_net.specs.declared.presence.Absence.TheVariants.{Missing, Down}
 use Rattle.echo_net.specs.Absent.{IsAbsent, IsWhy, absent_as, is_down_line}
-use Rattle.echo_graph.specs.Walk.{IsAt}
+use Rattle.model_graph.specs.Walk.{IsAt}
 use Rattle.echo_net.proofs.Ascending.{at_place, earlier_less}
 use Rattle.echo_net.proofs.Orders.{address_order, address_total, before_is}
 

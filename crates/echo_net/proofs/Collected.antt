@@ -8,12 +8,12 @@ use Rattle.std.proofs.lemmas.List.Concat.{flat_map-append}
 use Rattle.std.proofs.lemmas.List.Elements.{filter-append}
 use Rattle.std.proofs.lemmas.List.Sums.{length-filter, sum_by-append, sum_by-cons}
 use Rattle.echo_addr.specs.declared.address.Address.{Address}
-use Rattle.echo_graph.specs.Walk.{Among}
-use Rattle.echo_graph.proofs.Members.{Among-append_cases, Among-append_left, Among-append_right, Among-from_Contains, Contains-from_Among}
+use Rattle.model_graph.specs.Walk.{Among}
+use Rattle.model_graph.proofs.Members.{Among-append_cases, Among-append_left, Among-append_right, Among-from_Contains, Contains-from_Among}
 use Rattle.echo_links.specs.Links.{LinkFile, area_of, has_area, is_link, links_of, same_address}
 use Rattle.echo_filed.specs.Sets.{address_before}
-use Rattle.echo_run.specs.Tidy.{carries, lists}
-use Rattle.echo_run.proofs.Lists.{Among-filter_from, Among-filter_to, Among-map_from, Among-map_to, any-from, any-to}
+use Rattle.model_run.specs.Tidy.{carries, lists}
+use Rattle.model_run.proofs.Lists.{Among-filter_from, Among-filter_to, Among-map_from, Among-map_to, any-from, any-to}
 use Rattle.echo_net.specs.declared.link.Link.{Link}
 use Rattle.echo_net.specs.Nets.{carrier_count, carrying, link, linked_pairs, links_from_file, listed_links, systems}
 use Rattle.echo_net.proofs.Orders.{same_exact, same_itself}

@@ -10,9 +10,9 @@ use Rattle.std.proofs.lemmas.List.Elements.{Contains-append_cases, Contains-appe
 use Rattle.echo_addr.specs.declared.address.Address.{Address}
 use Rattle.echo_links.specs.Links.{LinkFile, same_address}
 use Rattle.echo_filed.specs.Sets.{address_before}
-use Rattle.echo_graph.proofs.Members.{Among-from_Contains, Contains-from_Among}
-use Rattle.echo_run.proofs.Lists.{Among-map_from, Among-map_to, any-from, any-to}
-use Rattle.echo_run.specs.Tidy.{carries, lists}
+use Rattle.model_graph.proofs.Members.{Among-from_Contains, Contains-from_Among}
+use Rattle.model_run.proofs.Lists.{Among-map_from, Among-map_to, any-from, any-to}
+use Rattle.model_run.specs.Tidy.{carries, lists}
 use Rattle.echo_net.specs.declared.drawing.Drawing.{Drawing}
 use Rattle.echo_net.specs.declared.drawing.Mark.TheVariants.{Plain, Named, OnLoop}
 use Rattle.echo_net.specs.declared.link.Link.{Link}

@@ -8,10 +8,10 @@ use Rattle.echo_addr.specs.declared.address.Address.{Address}
 use Rattle.echo_links.specs.LinkLines.{no_address}
 use Rattle.echo_links.specs.Links.{IsFile, LinkFile, has_area, same_address}
 use Rattle.echo_filed.specs.Sets.{address_before}
-use Rattle.echo_graph.proofs.Members.{Among-index}
-use Rattle.echo_run.specs.Fits.{FilesFit}
-use Rattle.echo_run.specs.Tidy.{Carries, carries, lists}
-use Rattle.echo_run.proofs.Lists.{any-from, any-to}
+use Rattle.model_graph.proofs.Members.{Among-index}
+use Rattle.model_run.specs.Fits.{FilesFit}
+use Rattle.model_run.specs.Tidy.{Carries, carries, lists}
+use Rattle.model_run.proofs.Lists.{any-from, any-to}
 use Rattle.echo_net.specs.declared.link.Link.{Link}
 use Rattle.echo_net.specs.Faults.{AllAreAnswered, AllAreKnown, AreSoundLinks, IsCarried, NetNodesDiffer, NoneListsItself}
 use Rattle.echo_net.specs.Firsts.{HasTwin, IsFirstLink, IsSmallest, IsSmallestPair}

@@ -5,7 +5,7 @@ use Rattle.std.specs.List.Sorted.{IsStrictlySortedBy}
 use Rattle.std.proofs.lemmas.Bool.{cases_lt}
 use Rattle.std.proofs.lemmas.List.{get_or_default}
 use Rattle.echo_net.specs.declared.link.Link.{Link}
-use Rattle.echo_graph.specs.Walk.{IsAt}
+use Rattle.model_graph.specs.Walk.{IsAt}
 use Rattle.echo_net.specs.Firsts.{IsFirstLink}
 use Rattle.echo_net.proofs.Orders.{link_order, link_total, pair_before_is}
 use Rattle.echo_net.proofs.Ascending.{later_not_before}

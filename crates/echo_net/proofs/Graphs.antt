@@ -8,16 +8,16 @@ use Rattle.std.proofs.lemmas.List.{get_or_past}
 use Rattle.echo_addr.specs.declared.address.Address.{Address}
 use Rattle.echo_links.specs.Links.{LinkFile}
 use Rattle.echo_filed.specs.Sets.{address_before}
-use Rattle.echo_graph.specs.Walk.{Among, Connected, Different, IsAt, Reaches}
-use Rattle.echo_graph.specs.Cycle.{IsCycle, Polygons}
-use Rattle.echo_graph.specs.Loops.{NamedLoop}
-use Rattle.echo_graph.specs.Reach.{FirstUnreached}
-use Rattle.echo_graph.specs.Rows.{IsAscending, IsGraph, linked}
-use Rattle.echo_graph.proofs.Members.{Among-get_or}
-use Rattle.echo_graph.proofs.RenamedLoops.{NamedLoop-renamed}
-use Rattle.echo_graph.proofs.Rows.{linked_within}
-use Rattle.echo_graph.proofs.Walks.{walk_links}
-use Rattle.echo_run.specs.Tidy.{Carries, Joined, Tidy, lists}
+use Rattle.model_graph.specs.Walk.{Among, Connected, Different, IsAt, Reaches}
+use Rattle.model_graph.specs.Cycle.{IsCycle, Polygons}
+use Rattle.model_graph.specs.Loops.{NamedLoop}
+use Rattle.model_graph.specs.Reach.{FirstUnreached}
+use Rattle.model_graph.specs.Rows.{IsAscending, IsGraph, linked}
+use Rattle.model_graph.proofs.Members.{Among-get_or}
+use Rattle.model_graph.proofs.RenamedLoops.{NamedLoop-renamed}
+use Rattle.model_graph.proofs.Rows.{linked_within}
+use Rattle.model_graph.proofs.Walks.{walk_links}
+use Rattle.model_run.specs.Tidy.{Carries, Joined, Tidy, lists}
 use Rattle.echo_net.specs.declared.link.Link.{Link}
 use Rattle.echo_net.specs.declared.verdict.NetFault.{NetFault}
 use Rattle.echo_net.specs.declared.verdict.NetFault.TheVariants.{NoSuchArea, TwoFiles, SelfLink, Unknown, OneSided, SameNetNode, Apart, Loop}

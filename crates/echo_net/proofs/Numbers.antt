@@ -12,13 +12,13 @@ use Rattle.echo_addr.specs.declared.address.Address.{Address}
 use Rattle.echo_links.specs.LinkLines.{no_address}
 use Rattle.echo_links.specs.Links.{Area, LinkFile, area_of, has_area, is_link, links_of, same_address}
 use Rattle.echo_filed.specs.Sets.{address_before}
-use Rattle.echo_graph.specs.Walk.{Connected, Reaches, Simple}
-use Rattle.echo_graph.specs.Cycle.{IsCycle, Polygons}
-use Rattle.echo_graph.specs.Loops.{HasUnlinked}
-use Rattle.echo_graph.specs.Renaming.{IsRenaming, KeepsOrder}
-use Rattle.echo_graph.proofs.Renaming.{IsRenaming-swap, Polygons-renamed, Reaches-renamed}
-use Rattle.echo_run.specs.Tidy.{Carries, lists}
-use Rattle.echo_run.proofs.Lists.{any-from, any-to}
+use Rattle.model_graph.specs.Walk.{Connected, Reaches, Simple}
+use Rattle.model_graph.specs.Cycle.{IsCycle, Polygons}
+use Rattle.model_graph.specs.Loops.{HasUnlinked}
+use Rattle.model_graph.specs.Renaming.{IsRenaming, KeepsOrder}
+use Rattle.model_graph.proofs.Renaming.{IsRenaming-swap, Polygons-renamed, Reaches-renamed}
+use Rattle.model_run.specs.Tidy.{Carries, lists}
+use Rattle.model_run.proofs.Lists.{any-from, any-to}
 use Rattle.echo_net.specs.Faults.{AllAreAnswered, AllAreKnown, AreInOrder, NoneListsItself, numbered}
 use Rattle.echo_net.specs.Rows.{system_at}
 use Rattle.echo_net.proofs.Ascending.{earlier_less}

@@ -11,8 +11,8 @@ use Rattle.std.proofs.lemmas.List.{get_or_default}
 use Rattle.std.proofs.lemmas.List.Elements.{Contains-append_left, Contains-push, Contains-push_cases}
 use Rattle.echo_addr.specs.declared.address.Address.{Address}
 use Rattle.echo_links.specs.Links.{same_address}
-use Rattle.echo_graph.specs.Walk.{Different, IsAt}
-use Rattle.echo_graph.proofs.Members.{Among-index}
+use Rattle.model_graph.specs.Walk.{Different, IsAt}
+use Rattle.model_graph.proofs.Members.{Among-index}
 use Rattle.echo_net.specs.declared.owners.Owner.{Owner}
 use Rattle.echo_net.specs.Firsts.{IsSmallest, StandsTwice}
 use Rattle.echo_net.specs.Pairs.{FirstPair, NoPair}

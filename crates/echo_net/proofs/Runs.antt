@@ -10,10 +10,10 @@ use Rattle.std.proofs.lemmas.Map.Keys.{below_from_sorted}
 use Rattle.echo_addr.specs.declared.address.Address.{Address}
 use Rattle.echo_links.specs.LinkLines.{no_address}
 use Rattle.echo_filed.specs.Sets.{address_before}
-use Rattle.echo_graph.specs.Walk.{Among, IsAt}
-use Rattle.echo_graph.specs.Rows.{IsAscending, links_at}
-use Rattle.echo_graph.proofs.Members.{Among-from_Contains, Contains-from_Among}
-use Rattle.echo_graph.proofs.Rows.{holds_at, place_of}
+use Rattle.model_graph.specs.Walk.{Among, IsAt}
+use Rattle.model_graph.specs.Rows.{IsAscending, links_at}
+use Rattle.model_graph.proofs.Members.{Among-from_Contains, Contains-from_Among}
+use Rattle.model_graph.proofs.Rows.{holds_at, place_of}
 use Rattle.echo_net.specs.declared.link.Link.{Link}
 use Rattle.echo_net.specs.Nets.{link}
 use Rattle.echo_net.specs.Rows.{IsRow, system_at}

@@ -11,11 +11,11 @@ use Rattle.std.proofs.lemmas.List.{get_or_default}
 use Rattle.std.proofs.lemmas.List.Elements.{Contains-append_left, Contains-push, Contains-push_cases}
 use Rattle.echo_addr.specs.declared.address.Address.{Address}
 use Rattle.echo_addr.specs.Address.{net_node_of}
-use Rattle.echo_graph.proofs.Members.{Among-from_Contains, Contains-from_Among}
-use Rattle.echo_run.proofs.Lists.{Among-map_from, Among-map_to}
+use Rattle.model_graph.proofs.Members.{Among-from_Contains, Contains-from_Among}
+use Rattle.model_run.proofs.Lists.{Among-map_from, Among-map_to}
 use Rattle.echo_net.specs.declared.link.Link.{Link}
 use Rattle.echo_net.specs.declared.same_net_node.Neighbour.{Neighbour}
-use Rattle.echo_graph.specs.Walk.{IsAt}
+use Rattle.model_graph.specs.Walk.{IsAt}
 use Rattle.echo_net.specs.Firsts.{HasTwin, IsSmallestPair}
 use Rattle.echo_net.specs.Nets.{link}
 use Rattle.echo_net.specs.Pairs.{IsTwin, neighbour_of}

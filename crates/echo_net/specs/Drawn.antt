@@ -4,7 +4,7 @@ use Rattle.std.specs.List.{list_any}
 use Rattle.echo_addr.specs.declared.address.Address.{Address}
 use Rattle.echo_links.specs.Links.{LinkFile, same_address}
 use Rattle.echo_filed.specs.Sets.{address_before}
-use Rattle.echo_run.specs.Tidy.{Carries, carries, lists}
+use Rattle.model_run.specs.Tidy.{Carries, carries, lists}
 use Rattle.echo_net.specs.declared.link.Link.{Link}
 use Rattle.echo_net.specs.declared.drawing.DrawnLink.{DrawnLink}
 use Rattle.echo_net.specs.declared.drawing.DrawnSystem.{DrawnSystem}

@@ -3,11 +3,11 @@ use Rattle.std.specs.Prelude.{◌≡◌, ◌<◌, ◌&&◌, ◌↔◌, ⊤, nat_
 use Rattle.std.specs.List.{list_any}
 use Rattle.echo_addr.specs.declared.address.Address.{Address}
 use Rattle.echo_addr.specs.Address.{net_node_of}
-use Rattle.echo_graph.specs.Walk.{Different, Reaches}
-use Rattle.echo_graph.specs.Loops.{NamedLoopBy}
+use Rattle.model_graph.specs.Walk.{Different, Reaches}
+use Rattle.model_graph.specs.Loops.{NamedLoopBy}
 use Rattle.echo_links.specs.Links.{LinkFile, has_area}
 use Rattle.echo_filed.specs.Sets.{address_before}
-use Rattle.echo_run.specs.Tidy.{Carries, Joined, lists}
+use Rattle.model_run.specs.Tidy.{Carries, Joined, lists}
 use Rattle.echo_net.specs.declared.verdict.NetFault.{NetFault}
 use Rattle.echo_net.specs.declared.verdict.NetFault.TheVariants.{NoSuchArea, TwoFiles, SelfLink, Unknown, OneSided, SameNetNode, Apart, Loop}
 use Rattle.echo_net.specs.declared.verdict.Verdict.{Verdict}

@@ -4,7 +4,7 @@ use Rattle.echo_addr.specs.declared.address.Address.{Address}
 use Rattle.echo_addr.specs.Address.{net_node_of}
 use Rattle.echo_links.specs.Links.{same_address}
 use Rattle.echo_filed.specs.Sets.{address_before}
-use Rattle.echo_graph.specs.Walk.{IsAt}
+use Rattle.model_graph.specs.Walk.{IsAt}
 use Rattle.echo_net.specs.declared.link.Link.{Link}
 
 -- the smallest address for which it holds

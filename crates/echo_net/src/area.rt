@@ -6,7 +6,7 @@ ghost use Rattle.std.specs.List.Sorted.{IsStrictlySortedBy};
 ghost use Rattle.echo_addr.specs.declared.address.Address.{Address};
 ghost use Rattle.echo_filed.specs.Sets.{address_before};
 ghost use Rattle.echo_links.specs.Links.{IsFile};
-ghost use Rattle.echo_run.specs.Tidy.{carries, lists};
+ghost use Rattle.model_run.specs.Tidy.{carries, lists};
 ghost use Rattle.echo_net.specs.declared.link.Link.{Link};
 ghost use Rattle.echo_net.specs.Nets as net;
 

@@ -1,10 +1,10 @@
 //! Is an area of a net in order?
 
 ghost use Rattle.std.specs.Prelude.{◌≡◌, ◌↔◌, IfOk, List};
-ghost use Rattle.echo_run.specs.Event.{RunEvent};
-ghost use Rattle.echo_run.specs.Orderly.{Orderly};
-ghost use Rattle.echo_run.specs.Run.{run_of};
-ghost use Rattle.echo_run.specs.Tidy.{Tidy};
+ghost use Rattle.model_run.specs.Event.{RunEvent};
+ghost use Rattle.model_run.specs.Orderly.{Orderly};
+ghost use Rattle.model_run.specs.Run.{run_of};
+ghost use Rattle.model_run.specs.Tidy.{Tidy};
 ghost use Rattle.echo_net.specs.Faults.{IfNo, IfYes, IsFirstFault, IsSharedSystem, IsYes};
 ghost use Rattle.echo_net.specs.Nets.{carrier_count, linked_pairs};
 
@@ -16,9 +16,9 @@ use crate::owners::shared_address;
 use crate::rows::rows;
 use crate::verdict::Verdict;
 use echo_addr::Address;
-use echo_graph::Graph;
 use echo_links::LinkFile;
-use echo_run::every_run_of_a_tidy_area_is_orderly;
+use model_graph::Graph;
+use model_run::every_run_of_a_tidy_area_is_orderly;
 use std::alloc::{AllocError, Global};
 
 /// Is the area of this tag in order, on the net of these link files (FTS-0004)? Tags are compared byte

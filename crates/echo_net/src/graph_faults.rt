@@ -4,15 +4,15 @@ ghost use Rattle.std.specs.Prelude.{◌≡◌, ◌<◌, ◌↔◌, IsTrue, IfOk,
 ghost use Rattle.std.specs.List.{All};
 ghost use Rattle.std.specs.List.Sorted.{IsStrictlySortedBy};
 ghost use Rattle.echo_addr.specs.declared.address.Address.{Address};
-ghost use Rattle.echo_graph.specs.Rows.{linked};
-ghost use Rattle.echo_run.specs.Tidy.{Carries, Tidy, lists};
+ghost use Rattle.model_graph.specs.Rows.{linked};
+ghost use Rattle.model_run.specs.Tidy.{Carries, Tidy, lists};
 ghost use Rattle.echo_net.specs.Faults.{AreInOrder, AreSoundLinks, IsFirstFault, numbered};
 ghost use Rattle.echo_net.specs.Rows.{system_at};
 
 use crate::verdict::NetFault;
 use echo_addr::{Address, Items};
-use echo_graph::{Graph, loop_of, unreached};
 use echo_links::LinkFile;
+use model_graph::{Graph, loop_of, unreached};
 use std::alloc::{AllocError, Global};
 
 /// The first fault of the graph, where there is one. The members of the graph are the places of the

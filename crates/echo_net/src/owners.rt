@@ -2,7 +2,7 @@
 
 ghost use Rattle.std.specs.Prelude.{◌≡◌, ◌<◌, ◌↔◌, IfOk, MatchOption, Contains};
 ghost use Rattle.std.specs.List.Sorted.{IsStrictlySortedBy};
-ghost use Rattle.echo_graph.specs.Walk.{Different, IsAt};
+ghost use Rattle.model_graph.specs.Walk.{Different, IsAt};
 ghost use Rattle.echo_net.specs.declared.owners.Owner.{Owner};
 ghost use Rattle.echo_net.specs.Firsts.{IsSmallest, StandsTwice};
 ghost use Rattle.echo_net.specs.Pairs.{FirstPair, NoPair};

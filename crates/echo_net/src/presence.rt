@@ -3,7 +3,7 @@
 ghost use Rattle.std.specs.Prelude.{◌≡◌, ◌↔◌, ◌++◌, true, IfOk, OnOk, Contains, AllPairs};
 ghost use Rattle.echo_addr.specs.declared.address.Address.{Address};
 ghost use Rattle.echo_filed.specs.Sets.{address_before};
-ghost use Rattle.echo_run.specs.Tidy.{Carries};
+ghost use Rattle.model_run.specs.Tidy.{Carries};
 ghost use Rattle.echo_net.specs.declared.presence.Absence.{Absence};
 ghost use Rattle.echo_net.specs.Absent.{IsAbsent, IsWhy, absent_as, is_down_line};
 

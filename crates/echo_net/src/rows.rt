@@ -2,16 +2,16 @@
 
 ghost use Rattle.std.specs.Prelude.{◌≡◌, ◌<◌, ◌↔◌, ℕ, IfOk, Contains, length};
 ghost use Rattle.std.specs.List.Sorted.{IsStrictlySortedBy};
-ghost use Rattle.echo_graph.specs.Rows.{IsAscending};
+ghost use Rattle.model_graph.specs.Rows.{IsAscending};
 ghost use Rattle.echo_net.specs.declared.link.Link.{Link};
-ghost use Rattle.echo_graph.specs.Walk.{IsAt};
+ghost use Rattle.model_graph.specs.Walk.{IsAt};
 ghost use Rattle.echo_net.specs.Rows.{AreRows};
 
 use crate::carriers::is_before;
 use crate::link::Link;
 use crate::searching::place_near;
 use echo_addr::{Address, put_in_order};
-use echo_graph::Links;
+use model_graph::Links;
 use std::alloc::{AllocError, Global};
 
 /// A row for each carrier, with the places of the systems that it lists.

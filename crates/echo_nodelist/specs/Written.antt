@@ -2,7 +2,7 @@
 use Rattle.std.specs.Prelude.{◌≡◌, ℕ, ◌<◌, List, [], ◌∷◌, ◌++◌, length, take, decimal, Option, Result, Ok, Err}
 use Rattle.std.specs.List.{flat_map, join_with_byte}
 use Rattle.std.specs.Io.KnownBytes.{Appends}
-use Rattle.echo_device.specs.Device.{Failed, counted}
+use Rattle.disk_io.specs.Device.{Failed, counted}
 use Rattle.echo_nodelist.specs.declared.line.Line.{Line}
 use Rattle.echo_nodelist.specs.declared.line.Line.TheVariants.{Note, Entry}
 use Rattle.echo_nodelist.specs.declared.fault.NodeFault.{NodeFault}

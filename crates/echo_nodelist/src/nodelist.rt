@@ -6,8 +6,8 @@ use crate::hub::hub_at;
 use crate::line::Line;
 use crate::reading::read_lines;
 use crate::writing::nodelist_text;
+use disk_io::{Failure, Sink, send};
 use echo_addr::Address;
-use echo_device::{Failure, Sink, send};
 use std::alloc::Global;
 use std::marker::Model;
 

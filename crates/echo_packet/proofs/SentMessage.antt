@@ -1,8 +1,8 @@
 -- A message that is sent field after field.
 use Rattle.std.proofs.Common.{◌≡◌, ℕ, List, ◌++◌, Option, Result, Ok, Err, ap, subst}
 use Rattle.std.specs.Result.{IsErrAnd}
-use Rattle.echo_device.specs.Device.{SendsAll, SendsFront, Sends}
-use Rattle.echo_device.proofs.Devices.{SendsAll-then, SendsAll-front, SendsFront-more}
+use Rattle.disk_io.specs.Device.{SendsAll, SendsFront, Sends}
+use Rattle.disk_io.proofs.Devices.{SendsAll-then, SendsAll-front, SendsFront-more}
 use Rattle.echo_packet.specs.Message.{Message, ToName, FromName, Subject, Text, before, zero_ended, message_bytes}
 
 -- what an error says

@@ -1,6 +1,6 @@
 -- A packet read from a slice, which never fails.
 use Rattle.std.proofs.Common.{◌≡◌, ℕ, ◌+◌, ◌^◌, ◌<◌, ◌⊎◌, List, [], ◌∷◌, ◌++◌, Ok, Err, length, refl, ◌∙◌, subst, inl, inr, arith}
-use Rattle.echo_device.proofs.Devices.{Failed-never}
+use Rattle.disk_io.proofs.Devices.{Failed-never}
 use Rattle.echo_packet.specs.declared.header.Header.{Header}
 use Rattle.echo_packet.specs.declared.limits.Limits.{Limits}
 use Rattle.echo_packet.specs.declared.fault.PacketFault.{PacketFault}

@@ -5,8 +5,8 @@ use Rattle.std.specs.Io.KnownBytes.{Consumes}
 use Rattle.std.proofs.KnownBytes.{Consumes-trans}
 use Rattle.std.proofs.lemmas.List.Elements.{All-append}
 use Rattle.echo_packet.specs.Message.{HasNoZero}
-use Rattle.echo_device.specs.declared.fixed.Broken.{Broken}
-use Rattle.echo_device.specs.declared.fixed.Broken.TheVariants as broken
+use Rattle.disk_io.specs.declared.fixed.Broken.{Broken}
+use Rattle.disk_io.specs.declared.fixed.Broken.TheVariants as broken
 use Rattle.echo_packet.specs.Field.{Came, BreaksString, IsOpen, IsPast}
 
 -- a part of a string came from the source, which did not fail

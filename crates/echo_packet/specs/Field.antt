@@ -1,8 +1,8 @@
 -- The bytes that reading one field takes from a source, and why it fails.
 use Rattle.std.specs.Prelude.{◌≡◌, ℕ, ◌+◌, ◌<◌, ◌≤◌, List, ◌++◌, length, take, slice_index, Option, Result, Ok, Err}
 use Rattle.std.specs.Io.KnownBytes.{Consumes, IsAtEnd}
-use Rattle.echo_device.specs.declared.fixed.Broken.{Broken}
-use Rattle.echo_device.specs.declared.fixed.Broken.TheVariants as broken
+use Rattle.disk_io.specs.declared.fixed.Broken.{Broken}
+use Rattle.disk_io.specs.declared.fixed.Broken.TheVariants as broken
 use Rattle.echo_packet.specs.declared.field.Piece.{Piece}
 use Rattle.echo_packet.specs.declared.field.Piece.TheVariants as piece
 use Rattle.echo_packet.specs.declared.field.Taken.{Taken}

@@ -1,6 +1,6 @@
 -- The 58 bytes in front of a packet. Numbers have the low byte first.
 use Rattle.std.specs.Prelude.{◌≡◌, ℕ, ◌*◌, ◌/◌, ◌%◌, ◌+◌, ◌^◌, ◌<◌, List, [], ◌∷◌, ◌++◌, length, take, drop, slice_index}
-pub use Rattle.echo_device.specs.Fixed.{AreBytes}
+pub use Rattle.disk_io.specs.Fixed.{AreBytes}
 use Rattle.echo_packet.specs.declared.header.Header.{Header}
 
 -- a number of two bytes, the low one first

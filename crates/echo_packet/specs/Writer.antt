@@ -1,6 +1,6 @@
 -- The parts of a `PacketWriter` that clauses name, and the effects of its calls.
 use Rattle.std.specs.Prelude.{◌≡◌, ℕ, Bool, List, Option}
-use Rattle.echo_device.specs.Device.{Failed, SendsFront}
+use Rattle.disk_io.specs.Device.{Failed, SendsFront}
 use Rattle.echo_packet.specs.declared.writer.PacketWriter.{PacketWriter}
 use Rattle.echo_packet.specs.declared.fault.Unfinished.{Unfinished}
 use Rattle.echo_packet.specs.declared.fault.PacketFault.TheVariants.{Write}

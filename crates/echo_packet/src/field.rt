@@ -1,11 +1,11 @@
 //! A string of a message, taken from a source.
 ghost use Rattle.std.specs.Prelude.{◌≡◌, ◌<◌, ◌≤◌, List, length, IfNone, IfSome, IfOk, IfErr};
 ghost use Rattle.std.specs.Io.KnownBytes.{Consumes};
-ghost use Rattle.echo_device.specs.Fixed.{CountsBreak};
+ghost use Rattle.disk_io.specs.Fixed.{CountsBreak};
 ghost use Rattle.echo_packet.specs.Message.{IsString, zero_ended};
 ghost use Rattle.echo_packet.specs.Field.{BreaksString, Came, IsPast, IsPiece, StepsString};
 
-use echo_device::{Broken, Source, are_bytes};
+use disk_io::{Broken, Source, are_bytes};
 use memchr::memchr;
 use std::alloc::Global;
 

@@ -12,7 +12,7 @@ use crate::field::read_string;
 use crate::header::number_at;
 use crate::limits::{Limits, MAX_NAME, MAX_SUBJECT};
 use crate::packed::Packed;
-use echo_device::{Broken, Source, read_fixed};
+use disk_io::{Broken, Source, read_fixed};
 use std::alloc::Global;
 
 /// The fault of a field that was not read, by its place.

@@ -5,8 +5,8 @@ ghost use Rattle.echo_packet.specs.declared.fault.PacketFault.TheVariants.{BadFi
 
 use crate::fault::{Field, PacketFault};
 use crate::limits::{MAX_NAME, MAX_SUBJECT};
+use disk_io::are_bytes;
 use echo_addr::Items;
-use echo_device::are_bytes;
 use memchr::memchr;
 use std::marker::Model;
 

@@ -1,14 +1,14 @@
 //! The parts of a packet, written to a sink that stays the caller's. A failed call wrote a beginning
 //! of its bytes and nothing else.
 ghost use Rattle.std.specs.Prelude.{◌≡◌, length, OnOk, OnErr};
-ghost use Rattle.echo_device.specs.Device.{Failed, Sends};
+ghost use Rattle.disk_io.specs.Device.{Failed, Sends};
 ghost use Rattle.echo_packet.specs.Header.{IsHeader, header_bytes, word};
 ghost use Rattle.echo_packet.specs.Message.{IsMessage, zero_ended, message_bytes, readdressed};
 
 use crate::encoding::{fixed_bytes, write_header};
 use crate::header::{HEADER_BYTES, Header};
 use crate::packed::Packed;
-use echo_device::{Failure, Sink, send};
+use disk_io::{Failure, Sink, send};
 
 /// Writes the bytes of the header. Adds to `sent` how many went out.
 pub fn send_header<W: Sink>(writer: &mut W, header: &Header, sent: &mut u64) -> Result<(), Failure>

@@ -1,6 +1,6 @@
 ghost use Rattle.std.specs.Prelude.{◌≡◌, ◌+◌, true, false, length, IfOk, IfErr, OnOk, OnErr, Err};
 ghost use Rattle.std.specs.Io.KnownBytes.{Appends};
-ghost use Rattle.echo_device.specs.Device.{Failed, Sends};
+ghost use Rattle.disk_io.specs.Device.{Failed, Sends};
 ghost use Rattle.echo_packet.specs.declared.fault.PacketFault.TheVariants.{Stopped, Write};
 ghost use Rattle.echo_packet.specs.Header.{IsHeader, header_bytes, word};
 ghost use Rattle.echo_packet.specs.Message.{IsMessage, message_bytes, readdressed};
@@ -11,7 +11,7 @@ use crate::fault::{PacketFault, Unfinished};
 use crate::header::Header;
 use crate::packed::Packed;
 use crate::sending::{send_header, send_message, send_terminator};
-use echo_device::{Failure, Sink};
+use disk_io::{Failure, Sink};
 
 /// Writes a packet: its header, messages one by one, and the terminator (FTS-0001). It takes no
 /// memory.

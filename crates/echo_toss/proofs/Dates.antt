@@ -3,8 +3,8 @@ use Rattle.std.proofs.Common.{◌≡◌, ℕ, ◌+◌, ◌-◌, ◌*◌, ◌≤�
 use Rattle.std.specs.Int.{is_in_range}
 use Rattle.std.proofs.lemmas.Bool.{and_parts, leb-true}
 use Rattle.std.proofs.lemmas.List.{drop_more}
-use Rattle.echo_steps.specs.declared.stamp.Stamp.{Stamp}
-use Rattle.echo_steps.specs.Stamps.{date_of, is_stamp, month_name, two_digits}
+use Rattle.model_steps.specs.declared.stamp.Stamp.{Stamp}
+use Rattle.model_steps.specs.Stamps.{date_of, is_stamp, month_name, two_digits}
 
 -- three items of a list from a place on
 pub three_from : (xs : List ℕ) (i : ℕ) → i + 3 ≤ length xs → take 3 (drop i xs) ≡ get_or xs i 0 ∷ (get_or xs (i + 1) 0 ∷ (get_or xs (i + 2) 0 ∷ []))

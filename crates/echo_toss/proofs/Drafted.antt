@@ -12,10 +12,10 @@ use Rattle.echo_text.proofs.TextLines.{IsPiece}
 use Rattle.echo_links.specs.Links.{LinkFile, upper}
 use Rattle.echo_filed.specs.Filed.{id_line}
 use Rattle.echo_filed.proofs.LinesOfIds.{line_piece}
-use Rattle.echo_steps.specs.declared.draft.Draft.{Draft}
-use Rattle.echo_steps.specs.declared.stamp.Stamp.{Stamp}
-use Rattle.echo_steps.specs.Posting.{origin_line, posted, posted_lines, reply_lines}
-use Rattle.echo_steps.specs.Stamps.{date_of}
+use Rattle.model_steps.specs.declared.draft.Draft.{Draft}
+use Rattle.model_steps.specs.declared.stamp.Stamp.{Stamp}
+use Rattle.model_steps.specs.Posting.{origin_line, posted, posted_lines, reply_lines}
+use Rattle.model_steps.specs.Stamps.{date_of}
 
 pub posted_is : (file : LinkFile) (tag : List ℕ) (draft : Draft) (serial : ℕ) (stamp : Stamp) (date to_name from_name subject raised : List ℕ) (kept : List (List ℕ)) (seen path : List NetNode)
     → date ≡ date_of stamp → to_name ≡ draft.to_name → from_name ≡ draft.from_name → subject ≡ draft.subject → raised ≡ upper tag

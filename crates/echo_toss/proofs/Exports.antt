@@ -1,7 +1,7 @@
 -- What goes out, message by message, is what a scan is to make.
-use Rattle.std.proofs.Common.{◌≡◌, ℕ, ◌+◌, List, [], ◌∷◌, ◌++◌, map, drop, refl, sym, ap, ◌∙◌, Some, append_assoc, inl, inr, Result, Ok, Err, IfOk, Vec}
+use Rattle.std.proofs.Common.{◌≡◌, ℕ, ◌+◌, Bool, false, true≢false, List, [], ◌∷◌, ◌++◌, map, drop, refl, sym, ap, ◌∙◌, Some, append_assoc, inl, inr, Result, Ok, Err, IfOk, Vec}
 use Rattle.std.specs.Prelude.{filter, slice_get}
-use Rattle.std.specs.List.{flat_map}
+use Rattle.std.specs.List.{flat_map, list_any}
 use Rattle.std.proofs.lemmas.Bool.{cases_Bool, cond-false, cond-true}
 use Rattle.std.proofs.lemmas.List.{drop_more}
 use Rattle.std.proofs.lemmas.Option.{get_or_from_slice_get, slice_get_within}
@@ -15,31 +15,39 @@ use Rattle.echo_filed.proofs.Texts.{text_is_text}
 use Rattle.echo_text.proofs.OneReading.{one_text}
 use Rattle.echo_text.proofs.NoZeros.{written_has_no_zero}
 use Rattle.echo_packet.specs.Message.{HasNoZero}
-use Rattle.echo_steps.proofs.Copies.{exported_is_echo}
-use Rattle.echo_links.specs.Links.{IsFile, LinkFile, links_of}
+use Rattle.model_steps.proofs.Copies.{exported_is_echo}
+use Rattle.echo_links.specs.Links.{IsFile, LinkFile, links_of, same_address}
 use Rattle.echo_filed.specs.Filed.{Filed}
 use Rattle.echo_filed.specs.Sets.{address_set, entry_set}
-use Rattle.echo_steps.specs.declared.stamp.Stamp.{Stamp}
-use Rattle.echo_steps.specs.Scanning.{copy_to, exported, goes_to, header_to, packet_to, packets_of, recipients, scanned, targets}
-use Rattle.echo_toss.specs.Exports.{Outgoing, Ready, copy_out, goes_out, goes_ready, outgoing_of, packet_out, packet_ready, packets_out, ready_copy, ready_of}
+use Rattle.model_steps.specs.declared.stamp.Stamp.{Stamp}
+use Rattle.model_steps.specs.Scanning.{copy_to, exported, goes_to, header_to, packet_to, packets_of, recipients, scanned, targets}
+use Rattle.echo_toss.specs.Exports.{Outgoing, Ready, copy_out, goes_out, goes_ready, has_some, is_sent, outgoing_of, packet_out, packet_ready, packets_out, ready_copy, ready_of, sent_of}
 use Rattle.echo_toss.proofs.Searches.{among_set}
-use Rattle.echo_steps.specs.declared.packet.Packet.{Packet}
+use Rattle.model_steps.specs.declared.packet.Packet.{Packet}
+
+-- the first one, and what follows
+filter_front : {X : Type 0} (p : X → Bool) (x : X) (xs : List X) → filter p (x ∷ xs) ≡ filter p (x ∷ []) ++ filter p xs
+filter_front p x xs = elim (cases_Bool (p x)) [
+  | inl stays ↦ cond-true (p x) (x ∷ filter p xs) (filter p xs) stays ∙ ap (λ l. l ++ filter p xs) (sym (cond-true (p x) (x ∷ []) [] stays))
+  | inr goes ↦ cond-false (p x) (x ∷ filter p xs) (filter p xs) goes ∙ ap (λ l. l ++ filter p xs) (sym (cond-false (p x) (x ∷ []) [] goes))
+]
 
 -- one more of what waits
-pub next_waits : {X Y : Type 0} (f : X → Y) (xs : List X) (i : ℕ) (x : X) (old new all : List Y) → Some x ≡ slice_get xs i → old ++ map f (drop i xs) ≡ all → new ≡ old ++ f x ∷ []
-    → new ++ map f (drop (i + 1) xs) ≡ all
-next_waits f xs i x old new all is so_far grown =
+pub next_waits : {X Y : Type 0} (p : Y → Bool) (f : X → Y) (xs : List X) (i : ℕ) (x : X) (old new all : List Y) → Some x ≡ slice_get xs i
+    → old ++ filter p (map f (drop i xs)) ≡ all → new ≡ old ++ filter p (map f (x ∷ [])) → new ++ filter p (map f (drop (i + 1) xs)) ≡ all
+next_waits p f xs i x old new all is so_far grown =
     let within = slice_get_within xs i x (sym is) in
     let here = get_or_from_slice_get xs i x x (sym is) in
-    ap (λ l. l ++ map f (drop (i + 1) xs)) grown ∙ append_assoc old (f x ∷ []) (map f (drop (i + 1) xs))
-    ∙ ap (λ l. old ++ l) (ap (λ y. f y ∷ map f (drop (i + 1) xs)) (sym here) ∙ ap (map f) (sym (drop_more xs i x within)))
+    let rest = map f (drop (i + 1) xs) in
+    ap (λ l. l ++ filter p rest) grown ∙ append_assoc old (filter p (f x ∷ [])) (filter p rest)
+    ∙ ap (λ l. old ++ l) (sym (filter_front p (f x) rest) ∙ ap (filter p) (ap (λ y. f y ∷ rest) (sym here) ∙ ap (map f) (sym (drop_more xs i x within))))
     ∙ so_far
 
 same_targets : (file : LinkFile) (ms : List Filed) → flat_map (λ o. o.targets) (map (outgoing_of file) ms) ≡ flat_map (targets file) ms
 same_targets file [] = refl
 same_targets file (m ∷ ms) = ap (λ l. targets file m ++ l) (same_targets file ms)
 
-same_copies : (file : LinkFile) (a : Address) (ms : List Filed) → map (copy_out a) (filter (goes_out a) (map (outgoing_of file) ms)) ≡ map (copy_to file a) (filter (goes_to file a) ms)
+pub same_copies : (file : LinkFile) (a : Address) (ms : List Filed) → map (copy_out a) (filter (goes_out a) (map (outgoing_of file) ms)) ≡ map (copy_to file a) (filter (goes_to file a) ms)
 unfolding copy_to
 same_copies file a [] = refl
 same_copies file a (m ∷ ms) =
@@ -70,9 +78,58 @@ packets_are file stamp base cursor =
     ap (λ l. map (packet_out file stamp (map (outgoing_of file) ms)) (address_set l)) (same_targets file ms)
     ∙ each_same (packet_out file stamp (map (outgoing_of file) ms)) (packet_to file stamp ms) (same_packet file stamp ms) (address_set (flat_map (targets file) ms))
 
+-- messages without receivers are in no packet
+no_targets : (l : List Address) → has_some l ≡ false → l ≡ []
+no_targets [] lacks = refl
+no_targets (a ∷ more) lacks = absurd (true≢false lacks)
+
+kept_targets : (all : List Outgoing) → flat_map (λ o. o.targets) (filter is_sent all) ≡ flat_map (λ o. o.targets) all
+kept_targets [] = refl
+kept_targets (o ∷ all) = elim (cases_Bool (is_sent o)) [
+  | inl sent ↦ ap (flat_map (λ o. o.targets)) (cond-true (is_sent o) (o ∷ filter is_sent all) (filter is_sent all) sent) ∙ ap (λ l. o.targets ++ l) (kept_targets all)
+  | inr lacks ↦
+      ap (flat_map (λ o. o.targets)) (cond-false (is_sent o) (o ∷ filter is_sent all) (filter is_sent all) lacks)
+      ∙ kept_targets all ∙ ap (λ l. l ++ flat_map (λ o. o.targets) all) (sym (no_targets o.targets lacks))
+]
+
+one_more_copy : (a : Address) (o : Outgoing) (all fewer : List Outgoing) → map (copy_out a) (filter (goes_out a) fewer) ≡ map (copy_out a) (filter (goes_out a) all)
+    → map (copy_out a) (filter (goes_out a) (o ∷ fewer)) ≡ map (copy_out a) (filter (goes_out a) (o ∷ all))
+one_more_copy a o all fewer same = elim (cases_Bool (goes_out a o)) [
+  | inl goes ↦
+      ap (map (copy_out a)) (cond-true (goes_out a o) (o ∷ filter (goes_out a) fewer) (filter (goes_out a) fewer) goes)
+      ∙ ap (λ l. copy_out a o ∷ l) same
+      ∙ ap (map (copy_out a)) (sym (cond-true (goes_out a o) (o ∷ filter (goes_out a) all) (filter (goes_out a) all) goes))
+  | inr stays ↦
+      ap (map (copy_out a)) (cond-false (goes_out a o) (o ∷ filter (goes_out a) fewer) (filter (goes_out a) fewer) stays)
+      ∙ same
+      ∙ ap (map (copy_out a)) (sym (cond-false (goes_out a o) (o ∷ filter (goes_out a) all) (filter (goes_out a) all) stays))
+]
+
+kept_copies : (a : Address) (all : List Outgoing) → map (copy_out a) (filter (goes_out a) (filter is_sent all)) ≡ map (copy_out a) (filter (goes_out a) all)
+kept_copies a [] = refl
+kept_copies a (o ∷ all) = elim (cases_Bool (is_sent o)) [
+  | inl sent ↦
+      ap (λ l. map (copy_out a) (filter (goes_out a) l)) (cond-true (is_sent o) (o ∷ filter is_sent all) (filter is_sent all) sent)
+      ∙ one_more_copy a o all (filter is_sent all) (kept_copies a all)
+  | inr lacks ↦
+      let stays = ap (list_any (same_address a)) (no_targets o.targets lacks) in
+      ap (λ l. map (copy_out a) (filter (goes_out a) l)) (cond-false (is_sent o) (o ∷ filter is_sent all) (filter is_sent all) lacks)
+      ∙ kept_copies a all
+      ∙ ap (map (copy_out a)) (sym (cond-false (goes_out a o) (o ∷ filter (goes_out a) all) (filter (goes_out a) all) stays))
+]
+
+kept_packet : (file : LinkFile) (stamp : Stamp) (all : List Outgoing) (a : Address) → packet_out file stamp (filter is_sent all) a ≡ packet_out file stamp all a
+kept_packet file stamp all a = let e = kept_copies a all in λ i. record { header = header_to file stamp a; messages = e i }
+
+kept_packets : (file : LinkFile) (stamp : Stamp) (all : List Outgoing) → packets_out file stamp (filter is_sent all) ≡ packets_out file stamp all
+kept_packets file stamp all =
+    ap (λ l. map (packet_out file stamp (filter is_sent all)) (address_set l)) (kept_targets all)
+    ∙ each_same (packet_out file stamp (filter is_sent all)) (packet_out file stamp all) (kept_packet file stamp all) (address_set (flat_map (λ o. o.targets) all))
+
 pub scan_made : (file : LinkFile) (stamp : Stamp) (base : List Filed) (cursor : ℕ) (packets : List Packet) (all : List Outgoing)
-    → all ≡ map (outgoing_of file) (drop cursor base) → packets ≡ packets_out file stamp all → packets ≡ scanned file base cursor stamp
-scan_made file stamp base cursor packets all e h = h ∙ ap (packets_out file stamp) e ∙ packets_are file stamp base cursor
+    → all ≡ sent_of file (drop cursor base) → packets ≡ packets_out file stamp all → packets ≡ scanned file base cursor stamp
+scan_made file stamp base cursor packets all e h =
+    h ∙ ap (packets_out file stamp) e ∙ kept_packets file stamp (map (outgoing_of file) (drop cursor base)) ∙ packets_are file stamp base cursor
 
 -- what is exported, part by part
 pub exported_is : (file : LinkFile) (e : EchoText) (tag : List ℕ) (kept : List (List ℕ)) (seen path : List NetNode) → tag ≡ e.tag → kept ≡ e.kept

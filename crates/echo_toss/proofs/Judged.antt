@@ -6,15 +6,15 @@ use Rattle.std.proofs.lemmas.Bool.{cases_Bool}
 use Rattle.echo_links.specs.Links.{IsFile, LinkFile, has_area, upper}
 use Rattle.echo_filed.specs.declared.key.Key.{Key}
 use Rattle.echo_filed.specs.Filed.{Filed, key_of}
-use Rattle.echo_base.specs.Base.{is_known}
-use Rattle.echo_steps.specs.declared.draft.Draft.{Draft}
-use Rattle.echo_steps.specs.declared.stamp.Stamp.{Stamp}
-use Rattle.echo_steps.specs.declared.fault.PostFault.{PostFault}
-use Rattle.echo_steps.specs.declared.fault.PostFault.TheVariants as fault
-use Rattle.echo_steps.specs.Posting.{IsAllowed, IsPostFault, has_id, holds_zero, is_too_long, post_refusal, posted}
-use Rattle.echo_steps.specs.Stamps.{is_stamp}
-use Rattle.echo_steps.proofs.FirstRefusals.{refusal_first}
-use Rattle.echo_steps.proofs.Kept.{posted_new}
+use Rattle.base_file.specs.Base.{is_known}
+use Rattle.model_steps.specs.declared.draft.Draft.{Draft}
+use Rattle.model_steps.specs.declared.stamp.Stamp.{Stamp}
+use Rattle.model_steps.specs.declared.fault.PostFault.{PostFault}
+use Rattle.model_steps.specs.declared.fault.PostFault.TheVariants as fault
+use Rattle.model_steps.specs.Posting.{IsAllowed, IsPostFault, has_id, holds_zero, is_too_long, post_refusal, posted}
+use Rattle.model_steps.specs.Stamps.{is_stamp}
+use Rattle.model_steps.proofs.FirstRefusals.{refusal_first}
+use Rattle.model_steps.proofs.Kept.{posted_new}
 use Rattle.echo_toss.specs.Refusals.{IsPrepared, draft_refusal}
 
 -- five tests one after another, before the rest

@@ -14,9 +14,9 @@ use Rattle.echo_filed.proofs.Plain.{all_append}
 use Rattle.echo_packet.specs.Next.{FailsInMessage, NextFault}
 use Rattle.echo_packet.specs.Reader.{FailsInFront, FrontFault}
 use Rattle.echo_links.specs.Links.{LinkFile}
-use Rattle.echo_steps.specs.declared.outcome.Outcome.{Outcome}
-use Rattle.echo_steps.specs.SystemState.{SystemState, state_with}
-use Rattle.echo_steps.specs.Tossing.{outcomes, toss_outcome, tossed, tossing}
+use Rattle.model_steps.specs.declared.outcome.Outcome.{Outcome}
+use Rattle.model_steps.specs.SystemState.{SystemState, state_with}
+use Rattle.model_steps.specs.Tossing.{outcomes, toss_outcome, tossed, tossing}
 use Rattle.echo_toss.specs.declared.tally.Tally.{Tally}
 use Rattle.echo_toss.specs.Tallies.{all_counted, tally_of, tally_with}
 use Rattle.echo_toss.specs.PacketSteps.{HasTossed, cause_of}

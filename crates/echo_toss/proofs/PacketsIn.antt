@@ -1,7 +1,7 @@
 -- A packet is tossed into a store, message by message.
 use Rattle.std.proofs.Common.{◌≡◌, ◌≤◌, ℕ, ◌+◌, List, [], ◌++◌, inl, refl, sym, ap, ◌∙◌, subst, arith, Option, IfSome, Result, Ok, Err}
 use Rattle.std.proofs.KnownBytes.{Consumes-nil, Consumes-trans}
-use Rattle.echo_disk.specs.Disk.{Honestly}
+use Rattle.disk_io.specs.Disk.{Honestly}
 use Rattle.echo_addr.specs.declared.address.Address.{Address}
 use Rattle.echo_packet.specs.declared.limits.Limits.{Limits}
 use Rattle.echo_packet.specs.declared.fault.PacketFault.{PacketFault}
@@ -10,13 +10,13 @@ use Rattle.echo_packet.specs.Next.{FailsInMessage, NextFault}
 use Rattle.std.specs.Io.KnownBytes.{Consumes}
 use Rattle.echo_packet.specs.Header.{header_bytes, word}
 use Rattle.echo_packet.specs.Message.{messages_bytes}
-use Rattle.echo_base.specs.Base.{Base}
+use Rattle.base_file.specs.Base.{Base}
 use Rattle.echo_links.specs.Links.{LinkFile}
-use Rattle.echo_store.specs.Store.{CommitsNothing, GoesOn, StoreState}
-use Rattle.echo_store.proofs.Runs.{looks_commit, looks_go_on, no_look}
-use Rattle.echo_steps.specs.declared.outcome.Outcome.{Outcome}
-use Rattle.echo_steps.specs.declared.outcome.Outcome.TheVariants.{BadTag, Filed, Known, NoArea, NotEcho, NotLinked}
-use Rattle.echo_steps.specs.SystemState.{SystemState}
+use Rattle.base_store.specs.Store.{CommitsNothing, GoesOn, StoreState}
+use Rattle.base_store.proofs.Runs.{looks_commit, looks_go_on, no_look}
+use Rattle.model_steps.specs.declared.outcome.Outcome.{Outcome}
+use Rattle.model_steps.specs.declared.outcome.Outcome.TheVariants.{BadTag, Filed, Known, NoArea, NotEcho, NotLinked}
+use Rattle.model_steps.specs.SystemState.{SystemState}
 use Rattle.echo_toss.specs.declared.tally.Tally.{Tally}
 use Rattle.echo_toss.specs.declared.fault.TossCause.{TossCause}
 use Rattle.echo_toss.specs.declared.fault.TossCause.TheVariants as stop

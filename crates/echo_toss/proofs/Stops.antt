@@ -14,7 +14,7 @@ use Rattle.echo_packet.specs.Field.{Came}
 use Rattle.echo_packet.specs.Next.{FailsInMessage, NextFault}
 use Rattle.echo_packet.specs.Run.{IsOfCall, SoFar}
 use Rattle.echo_packet.proofs.MessageByMessage.{run-fails}
-use Rattle.echo_steps.specs.SystemState.{SystemState}
+use Rattle.model_steps.specs.SystemState.{SystemState}
 use Rattle.echo_toss.specs.declared.tally.Tally.{Tally}
 use Rattle.echo_toss.specs.declared.fault.TossCause.{TossCause}
 use Rattle.echo_toss.specs.declared.fault.TossCause.TheVariants as stop

@@ -10,11 +10,11 @@ use Rattle.echo_links.specs.Links.{LinkFile, has_area, is_link}
 use Rattle.echo_filed.specs.Filed.{Filed, key_of}
 use Rattle.echo_filed.specs.Written.{echo_of}
 use Rattle.echo_filed.proofs.Texts.{says_accepted, says_one}
-use Rattle.echo_base.specs.Base.{is_known}
-use Rattle.echo_steps.specs.declared.outcome.Outcome.{Outcome}
-use Rattle.echo_steps.specs.declared.outcome.Outcome.TheVariants as outcome
-use Rattle.echo_steps.specs.Tossing.{IsOutcome, received, toss_outcome, tossing, where_filed}
-use Rattle.echo_steps.proofs.FirstRefusals.{outcome_is_first}
+use Rattle.base_file.specs.Base.{is_known}
+use Rattle.model_steps.specs.declared.outcome.Outcome.{Outcome}
+use Rattle.model_steps.specs.declared.outcome.Outcome.TheVariants as outcome
+use Rattle.model_steps.specs.Tossing.{IsOutcome, received, toss_outcome, tossing, where_filed}
+use Rattle.model_steps.proofs.FirstRefusals.{outcome_is_first}
 use Rattle.echo_filed.specs.declared.key.Key.{Key}
 use Rattle.echo_toss.specs.Wanted.{IsNew, IsUnwanted, IsWanted, refused_by}
 

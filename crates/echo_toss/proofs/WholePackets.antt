@@ -1,7 +1,7 @@
 -- What the toss of a packet's bytes answers.
 use Rattle.std.proofs.Common.{◌≡◌, ◌≢◌, ℕ, ◌+◌, ◌≤◌, ◌⊎◌, inl, inr, List, [], ◌++◌, length, refl, sym, ap, ◌∙◌, subst, arith, append_assoc, length-append, Option, Some, None, Result, Ok, Err}
 use Rattle.std.proofs.Math.Seq.{take-append_seam}
-use Rattle.echo_device.proofs.Devices.{Failed-never}
+use Rattle.disk_io.proofs.Devices.{Failed-never}
 use Rattle.echo_packet.specs.declared.header.Header.{Header}
 use Rattle.echo_packet.specs.declared.limits.Limits.{Limits}
 use Rattle.echo_packet.specs.declared.fault.PacketFault.{PacketFault}
@@ -13,8 +13,8 @@ use Rattle.echo_packet.specs.Message.{Message, messages_bytes}
 use Rattle.echo_packet.specs.Packet.{PacketOf, packet_bytes}
 use Rattle.echo_packet.specs.Reader.{FrontFault}
 use Rattle.echo_packet.proofs.Outcome.{only_one}
-use Rattle.echo_steps.specs.SystemState.{SystemState}
-use Rattle.echo_steps.specs.Tossing.{destination_of, sender_of}
+use Rattle.model_steps.specs.SystemState.{SystemState}
+use Rattle.model_steps.specs.Tossing.{destination_of, sender_of}
 use Rattle.echo_toss.specs.declared.tally.Tally.{Tally}
 use Rattle.echo_toss.specs.declared.fault.TossCause.{TossCause}
 use Rattle.echo_toss.specs.declared.fault.TossCause.TheVariants as stop

@@ -1,16 +1,17 @@
--- The copies that a scan makes of waiting messages.
-use Rattle.std.specs.Prelude.{◌≡◌, ℕ, Bool, List, map, filter, slice_get, Some, Result, Ok, Err, Vec}
+-- The copies that a scan makes of waiting messages, and those that are made again.
+use Rattle.std.specs.Prelude.{◌≡◌, ℕ, Bool, true, false, List, [], ◌∷◌, ◌++◌, map, filter, slice_get, Some, Result, Ok, Err, Vec}
 use Rattle.std.specs.declared.alloc.Global.{Global}
-use Rattle.echo_steps.specs.declared.fault.ScanFault.{ScanFault}
+use Rattle.model_steps.specs.declared.fault.ScanFault.{ScanFault}
 use Rattle.std.specs.List.{flat_map, list_any}
 use Rattle.echo_addr.specs.declared.address.Address.{Address}
 use Rattle.echo_packet.specs.Message.{Message, readdressed}
 use Rattle.echo_links.specs.Links.{LinkFile, same_address}
 use Rattle.echo_filed.specs.Filed.{Filed}
 use Rattle.echo_filed.specs.Sets.{address_set}
-use Rattle.echo_steps.specs.declared.packet.Packet.{Packet}
-use Rattle.echo_steps.specs.declared.stamp.Stamp.{Stamp}
-use Rattle.echo_steps.specs.Scanning.{copy_to, header_to, targets}
+use Rattle.model_steps.specs.declared.packet.Packet.{Packet}
+use Rattle.model_steps.specs.declared.stamp.Stamp.{Stamp}
+use Rattle.model_steps.specs.Resending.{is_resent}
+use Rattle.model_steps.specs.Scanning.{copy_to, header_to, targets}
 
 -- no address
 abbrev pub nowhere : Address
@@ -25,9 +26,27 @@ pub record Outgoing : Type 0 where
 abbrev pub outgoing_of : LinkFile → Filed → Outgoing
 outgoing_of file m = record { message = copy_to file nowhere m; targets = targets file m }
 
--- the outgoing form of the message of this number
-abbrev pub IsOutgoingAt : LinkFile → List Filed → ℕ → Outgoing → Type 0
-IsOutgoingAt file messages place o = (m : Filed) × (slice_get messages place ≡ Some m) × (o ≡ outgoing_of file m)
+-- whether there is one
+abbrev pub has_some : List Address → Bool
+has_some [] = false
+has_some (address ∷ more) = true
+
+-- whether an outgoing message has receivers
+abbrev pub is_sent : Outgoing → Bool
+is_sent o = has_some o.targets
+
+-- of these messages the outgoing forms that have receivers
+abbrev pub sent_of : LinkFile → List Filed → List Outgoing
+sent_of file messages = filter is_sent (map (outgoing_of file) messages)
+
+-- the list grew by the outgoing form of the message of this number, if that has receivers
+abbrev pub GrowsByMessageAt : LinkFile → List Filed → ℕ → List Outgoing → List Outgoing → Type 0
+GrowsByMessageAt file messages place old new = (m : Filed) × (slice_get messages place ≡ Some m) × (new ≡ old ++ sent_of file (m ∷ []))
+
+-- the copies are those so far, and that of the message of this number, if it is sent again
+abbrev pub IsResentAt : LinkFile → List ℕ → Address → List Filed → ℕ → List Message → List Message → Type 0
+IsResentAt file area to messages place old new =
+    (m : Filed) × (slice_get messages place ≡ Some m) × (new ≡ old ++ map (copy_to file to) (filter (is_resent file area to) (m ∷ [])))
 
 -- the copy for an address
 abbrev pub copy_out : Address → Outgoing → Message

@@ -12,8 +12,8 @@ use Rattle.echo_packet.specs.Fault.{place_of}
 use Rattle.echo_packet.specs.Next.{FailsInMessage, NextFault}
 use Rattle.echo_packet.specs.Reader.{FailsInFront, FrontFault}
 use Rattle.echo_links.specs.Links.{LinkFile}
-use Rattle.echo_steps.specs.SystemState.{SystemState}
-use Rattle.echo_steps.specs.Tossing.{destination_of, sender_of}
+use Rattle.model_steps.specs.SystemState.{SystemState}
+use Rattle.model_steps.specs.Tossing.{destination_of, sender_of}
 use Rattle.echo_toss.specs.declared.tally.Tally.{Tally}
 use Rattle.echo_toss.specs.declared.fault.TossCause.{TossCause}
 use Rattle.echo_toss.specs.declared.fault.TossCause.TheVariants as stop

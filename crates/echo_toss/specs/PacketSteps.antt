@@ -1,7 +1,7 @@
 -- Tossing a whole packet: its header, then one message after the other.
 use Rattle.std.specs.Prelude.{◌≡◌, ◌≢◌, ℕ, ◌≤◌, ◌⊎◌, List, [], ◌++◌, length, take, Option, IfSome, Result, Ok, Err}
 use Rattle.echo_addr.specs.declared.address.Address.{Address}
-use Rattle.echo_device.specs.Device.{Failed}
+use Rattle.disk_io.specs.Device.{Failed}
 use Rattle.echo_packet.specs.declared.header.Header.{Header}
 use Rattle.echo_packet.specs.declared.limits.Limits.{Limits}
 use Rattle.echo_packet.specs.declared.fault.PacketFault.{PacketFault}
@@ -12,8 +12,8 @@ use Rattle.echo_packet.specs.Packet.{PacketOf}
 use Rattle.echo_packet.specs.Fault.{FaultOf}
 use Rattle.echo_packet.specs.Field.{Came}
 use Rattle.echo_packet.specs.Reader.{FailsInFront, FrontFault}
-use Rattle.echo_steps.specs.SystemState.{SystemState}
-use Rattle.echo_steps.specs.Tossing.{destination_of, sender_of, outcomes, tossed}
+use Rattle.model_steps.specs.SystemState.{SystemState}
+use Rattle.model_steps.specs.Tossing.{destination_of, sender_of, outcomes, tossed}
 use Rattle.echo_toss.specs.declared.tally.Tally.{Tally}
 use Rattle.echo_toss.specs.declared.fault.TossCause.{TossCause}
 use Rattle.echo_toss.specs.declared.fault.TossCause.TheVariants as stop

@@ -2,11 +2,11 @@
 use Rattle.std.specs.Prelude.{◌≡◌, ℕ, List, Option, Result, Ok, Err}
 use Rattle.echo_addr.specs.declared.address.Address.{Address}
 use Rattle.echo_packet.specs.declared.limits.Limits.{Limits}
-use Rattle.echo_base.specs.Base.{Base}
+use Rattle.base_file.specs.Base.{Base}
 use Rattle.echo_links.specs.Links.{LinkFile}
-use Rattle.echo_store.specs.Store.{GoesOn, StoreState}
-use Rattle.echo_store.specs.declared.store_error.StoreError.{StoreError}
-use Rattle.echo_steps.specs.SystemState.{SystemState}
+use Rattle.base_store.specs.Store.{GoesOn, StoreState}
+use Rattle.base_store.specs.declared.store_error.StoreError.{StoreError}
+use Rattle.model_steps.specs.SystemState.{SystemState}
 use Rattle.echo_toss.specs.declared.tally.Tally.{Tally}
 use Rattle.echo_toss.specs.declared.fault.TossCause.{TossCause}
 use Rattle.echo_toss.specs.declared.fault.TossCause.TheVariants as cause

@@ -4,13 +4,13 @@ use Rattle.echo_text.specs.Ids.{is_id}
 use Rattle.echo_links.specs.Links.{LinkFile, has_area, upper}
 use Rattle.echo_filed.specs.declared.key.Key.{Key}
 use Rattle.echo_filed.specs.Filed.{Filed, key_of}
-use Rattle.echo_base.specs.Base.{is_known}
-use Rattle.echo_steps.specs.declared.draft.Draft.{Draft}
-use Rattle.echo_steps.specs.declared.stamp.Stamp.{Stamp}
-use Rattle.echo_steps.specs.declared.fault.PostFault.{PostFault}
-use Rattle.echo_steps.specs.declared.fault.PostFault.TheVariants as fault
-use Rattle.echo_steps.specs.Posting.{holds_zero, is_too_long, post_refusal, posted}
-use Rattle.echo_steps.specs.Stamps.{is_stamp}
+use Rattle.base_file.specs.Base.{is_known}
+use Rattle.model_steps.specs.declared.draft.Draft.{Draft}
+use Rattle.model_steps.specs.declared.stamp.Stamp.{Stamp}
+use Rattle.model_steps.specs.declared.fault.PostFault.{PostFault}
+use Rattle.model_steps.specs.declared.fault.PostFault.TheVariants as fault
+use Rattle.model_steps.specs.Posting.{holds_zero, is_too_long, post_refusal, posted}
+use Rattle.model_steps.specs.Stamps.{is_stamp}
 
 -- the first refusal that applies to a draft, those aside that the base decides
 abbrev pub draft_refusal : LinkFile → List ℕ → Draft → Stamp → Option PostFault

@@ -1,8 +1,8 @@
 -- The answers of loading a system.
 use Rattle.std.specs.Prelude.{Result, Ok, Err}
-use Rattle.echo_base.specs.declared.fault.BaseFault.{BaseFault}
-use Rattle.echo_base.specs.Base.{Base}
-use Rattle.echo_steps.specs.SystemState.{SystemState}
+use Rattle.base_file.specs.declared.fault.BaseFault.{BaseFault}
+use Rattle.base_file.specs.Base.{Base}
+use Rattle.model_steps.specs.SystemState.{SystemState}
 
 -- its base, or the fault
 abbrev pub base_in : Result SystemState BaseFault → Result Base BaseFault

@@ -1,17 +1,17 @@
 -- Steps of a system that has its messages and cursor in a store.
 use Rattle.std.specs.Prelude.{◌≡◌, ◌++◌, true, false, ℕ, List, Option, Some, option_to_list, Result, Ok, Err}
-use Rattle.echo_base.specs.Base.{Base}
+use Rattle.base_file.specs.Base.{Base}
 use Rattle.echo_filed.specs.Filed.{Filed}
 use Rattle.echo_links.specs.Links.{LinkFile}
-use Rattle.echo_store.specs.Store.{LooksOn, StoreState}
-use Rattle.echo_store.specs.declared.store_error.StoreError.{StoreError}
-use Rattle.echo_steps.specs.declared.draft.Draft.{Draft}
-use Rattle.echo_steps.specs.declared.stamp.Stamp.{Stamp}
-use Rattle.echo_steps.specs.declared.fault.PostFault.TheVariants as fault
-use Rattle.echo_steps.specs.declared.outcome.Outcome.{Outcome}
-use Rattle.echo_steps.specs.declared.outcome.Outcome.TheVariants as outcome
-use Rattle.echo_steps.specs.Posting.{IsPostFault, post_refusal}
-use Rattle.echo_steps.specs.Stamps.{is_stamp}
+use Rattle.base_store.specs.Store.{LooksOn, StoreState}
+use Rattle.base_store.specs.declared.store_error.StoreError.{StoreError}
+use Rattle.model_steps.specs.declared.draft.Draft.{Draft}
+use Rattle.model_steps.specs.declared.stamp.Stamp.{Stamp}
+use Rattle.model_steps.specs.declared.fault.PostFault.TheVariants as fault
+use Rattle.model_steps.specs.declared.outcome.Outcome.{Outcome}
+use Rattle.model_steps.specs.declared.outcome.Outcome.TheVariants as outcome
+use Rattle.model_steps.specs.Posting.{IsPostFault, post_refusal}
+use Rattle.model_steps.specs.Stamps.{is_stamp}
 use Rattle.echo_toss.specs.declared.stop.PostStop.{PostStop}
 use Rattle.echo_toss.specs.declared.stop.PostStop.TheVariants as post
 use Rattle.echo_toss.specs.declared.stop.ScanStop.{ScanStop}

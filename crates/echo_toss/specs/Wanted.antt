@@ -7,13 +7,13 @@ use Rattle.echo_text.specs.Refusal.{text_refusal}
 use Rattle.echo_links.specs.Links.{LinkFile, has_area, is_link}
 use Rattle.echo_filed.specs.Filed.{Filed, key_of}
 use Rattle.echo_filed.specs.declared.key.Key.{Key}
-use Rattle.echo_base.specs.Base.{is_known}
+use Rattle.base_file.specs.Base.{is_known}
 use Rattle.echo_toss.specs.declared.tossing.Verdict.{Verdict}
 use Rattle.echo_toss.specs.declared.tossing.Verdict.TheVariants.{Left, New}
 use Rattle.echo_filed.specs.Written.{echo_of}
-use Rattle.echo_steps.specs.declared.outcome.Outcome.{Outcome}
-use Rattle.echo_steps.specs.declared.outcome.Outcome.TheVariants as outcome
-use Rattle.echo_steps.specs.Tossing.{toss_outcome, tossing}
+use Rattle.model_steps.specs.declared.outcome.Outcome.{Outcome}
+use Rattle.model_steps.specs.declared.outcome.Outcome.TheVariants as outcome
+use Rattle.model_steps.specs.Tossing.{toss_outcome, tossing}
 use Rattle.echo_toss.specs.declared.receiving.Reading.{Reading}
 use Rattle.echo_toss.specs.declared.receiving.Reading.TheVariants.{Unwanted, Wanted}
 

@@ -3,15 +3,15 @@ ghost use Rattle.std.specs.Prelude.{◌≡◌, ◌++◌, All, None, IfOk, OnOk};
 ghost use Rattle.std.specs.List.{flat_map};
 ghost use Rattle.echo_text.specs.Echo.{IsLine, ended};
 ghost use Rattle.echo_filed.specs.Filed.{id_line};
-ghost use Rattle.echo_steps.specs.Posting.{origin_line, posted, posted_lines, reply_lines};
+ghost use Rattle.model_steps.specs.Posting.{origin_line, posted, posted_lines, reply_lines};
 ghost use Rattle.echo_toss.specs.Refusals.{draft_refusal};
 
 use crate::moment::date_of;
 use echo_addr::Items;
 use echo_filed::Filed;
 use echo_links::LinkFile;
-use echo_steps::{Draft, Stamp};
 use echo_text::{Echo, Lines, MsgId, push_line, push_lines, trimmed};
+use model_steps::{Draft, Stamp};
 use std::alloc::{AllocError, Global};
 
 pub(crate) fn posted(

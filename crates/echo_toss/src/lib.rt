@@ -1,13 +1,14 @@
 //! The tosser: what one system does to its base.
 //!
-//! Promise: `post`, `toss_message`, `scan` and `purge` are the steps of echo_steps on the whole state of the
+//! Promise: `post`, `toss_message`, `scan` and `purge` are the steps of model_steps on the whole state of the
 //! system. `toss` makes the step of each message of a packet, in order. A refused call changes nothing.
 //! `post_in`, `toss_in`, `toss_packet_in` and `scan_in` are the same steps over any store, and commit nothing.
+//! `resend_in` makes a packet of scanned messages again, and changes nothing.
 //!
 //! Begin with `tosser` (the type) and `tossing` (one received message; `receiving` reads it). `packets` tosses
 //! a whole packet, `tally` counts outcomes. `posting` files a draft; `refusing`, `drafting`, `moment` and
-//! `stop` are its parts. `scanning` exports by `outgoing`, `packing` and `sets`. Then `purging`, `storing` (the
-//! base is written and read), `fault`, and `laws`.
+//! `stop` are its parts. `scanning` exports by `outgoing`, `packing` and `sets`; so does `resending`. Then
+//! `purging`, `storing` (the base is written and read), `fault`, and `laws`.
 #![tactic(auto)]
 
 mod drafting;
@@ -21,6 +22,7 @@ mod posting;
 mod purging;
 mod receiving;
 mod refusing;
+mod resending;
 mod scanning;
 mod sets;
 mod stop;
@@ -29,14 +31,15 @@ mod tally;
 mod tosser;
 mod tossing;
 
-pub use echo_base::BaseFault;
+pub use base_file::BaseFault;
 pub use echo_filed::Filed;
 pub use echo_links::{LinkFault, LinkFile};
-pub use echo_steps::{Draft, Outcome, Packet, PostFault, ScanFault, Stamp};
 pub use fault::{TossCause, TossFault};
 pub use laws::packet_laws;
+pub use model_steps::{Draft, Outcome, Packet, PostFault, ScanFault, Stamp};
 pub use packets::{opened, toss_packet_in};
 pub use posting::post_in;
+pub use resending::{Resend, resend_in};
 pub use scanning::scan_in;
 pub use stop::{PostStop, ScanStop, StoppedToss, TossStop};
 pub use tally::Tally;

@@ -1,9 +1,9 @@
 //! Checks a stamp, and writes it as a DateTime.
 ghost use Rattle.std.specs.Prelude.{◌≡◌, ◌≤◌, ◌+◌, ◌*◌, ◌/◌, ◌%◌, ◌-◌, true};
 ghost use Rattle.std.specs.Int.{is_in_range};
-ghost use Rattle.echo_steps.specs.Stamps.{date_of, is_stamp};
+ghost use Rattle.model_steps.specs.Stamps.{date_of, is_stamp};
 
-use echo_steps::Stamp;
+use model_steps::Stamp;
 
 /// The months as a DateTime has them (FTS-0001).
 const MONTHS: [u8; 36] = *b"JanFebMarAprMayJunJulAugSepOctNovDec";

@@ -1,23 +1,23 @@
 //! The outgoing form of a message that waits for a scan.
-ghost use Rattle.std.specs.Prelude.{◌≡◌, ◌<◌, ◌∷◌, ◌++◌, ◌&&◌, not, false, length, map, filter, drop, option_map, unwrap_or, IfOk};
+ghost use Rattle.std.specs.Prelude.{◌≡◌, ◌<◌, [], ◌∷◌, ◌++◌, ◌&&◌, not, false, length, map, filter, drop, option_map, unwrap_or, IfOk, OnOk};
 ghost use Rattle.std.specs.List.{list_any};
 ghost use Rattle.echo_addr.specs.Address.{net_node_of};
 ghost use Rattle.echo_packet.specs.Message.{HasNoZero};
 ghost use Rattle.echo_links.specs.Links.{links_of, same_address};
 ghost use Rattle.echo_filed.specs.Sets.{entry_set, same_entry};
 ghost use Rattle.echo_filed.specs.Written.{text_of};
-ghost use Rattle.echo_disk.specs.Disk.{Honestly};
-ghost use Rattle.echo_base.specs.Base.{Base};
-ghost use Rattle.echo_store.specs.Store.{HasStoreCause, LooksOn};
-ghost use Rattle.echo_steps.specs.Scanning.{exported, message_out, targets};
-ghost use Rattle.echo_toss.specs.Exports.{IsOutgoingAt, nowhere, outgoing_of};
+ghost use Rattle.disk_io.specs.Disk.{Honestly};
+ghost use Rattle.base_file.specs.Base.{Base};
+ghost use Rattle.base_store.specs.Store.{HasStoreCause, LooksOn};
+ghost use Rattle.model_steps.specs.Scanning.{exported, message_out, targets};
+ghost use Rattle.echo_toss.specs.Exports.{GrowsByMessageAt, has_some, nowhere, outgoing_of, sent_of};
 
 use crate::sets::entry_set;
+use base_store::{Store, StoreError};
 use echo_addr::{Address, Items, NetNode};
 use echo_filed::Filed;
 use echo_links::LinkFile;
 use echo_packet::Packed;
-use echo_store::{Store, StoreError};
 use echo_text::{Echo, write_parts};
 use std::alloc::{AllocError, Global};
 use std::marker::Model;
@@ -37,7 +37,7 @@ impl Model for Outgoing {
     ghost view = { λ o. record { message = o.message; targets = o.targets } };
 }
 
-/// The outgoing forms of the messages from the cursor on, in order.
+/// The outgoing forms of the messages from the cursor on that have receivers, in order. Of all others no text is made.
 pub(crate) fn waiting<T: Store>(
     alloc: Global,
     links: &LinkFile,
@@ -45,7 +45,7 @@ pub(crate) fn waiting<T: Store>(
 ) -> Result<Vec<Outgoing>, StoreError>
     requires { (T.state store.old).is_ready }
     ensures outgoing { Honestly (T.state store.new).disk ((base : Base) → (T.state store.old).keeps base
-        → IfOk result (λ all. all.items ≡ map (outgoing_of links.now) (drop base.cursor base.messages))) }
+        → IfOk result (λ all. all.items ≡ sent_of links.now (drop base.cursor base.messages))) }
     ensures looks { LooksOn (T.state store.old) (T.state store.new) }
     ensures cause { HasStoreCause (T.state store.old) (T.state store.new) (T.failures store.old) (T.failures store.new) result }
 {
@@ -53,40 +53,89 @@ pub(crate) fn waiting<T: Store>(
     let count = store.len();
     let mut at = store.cursor();
     'waiting: while at < count {
-        all.push(outgoing_at(alloc, links, store, at)?)?;
+        push_message(alloc, links, store, at, &mut all)?;
         at += 1;
     }
     Ok(all)
 }
 
-// The outgoing form of the message of this number. It is copied while it is the current one.
-fn outgoing_at<T: Store>(
+// Appends the outgoing form of the message of this number, if it has receivers. It is copied while it is the current one.
+fn push_message<T: Store>(
     alloc: Global,
     links: &LinkFile,
     store: &mut T,
     place: usize,
-) -> Result<Outgoing, StoreError>
+    all: &mut Vec<Outgoing>,
+) -> Result<(), StoreError>
     requires ready { (T.state store.old).is_ready }
     requires within { Honestly (T.state store.old).disk ((base : Base) → (T.state store.old).keeps base → place < length base.messages) }
-    ensures outgoing { Honestly (T.state store.new).disk ((base : Base) → (T.state store.old).keeps base → IfOk result (IsOutgoingAt links.now base.messages place)) }
+    ensures grown { Honestly (T.state store.new).disk ((base : Base) → (T.state store.old).keeps base
+        → OnOk result (GrowsByMessageAt links.now base.messages place all.old.items all.new.items)) }
     ensures looks { LooksOn (T.state store.old) (T.state store.new) }
     ensures cause { HasStoreCause (T.state store.old) (T.state store.new) (T.failures store.old) (T.failures store.new) result }
 {
     store.fetch(place)?;
     match store.at_hand() {
-        Some(message) => Ok(prepared(alloc, links, message)?),
+        Some(message) => Ok(push_prepared(alloc, links, message, all)?),
         None => Err(StoreError::Damaged),
     }
 }
 
-#[tactic(auto, unfolding(echo_steps::specs::Scanning::copy_to))]
-fn prepared(alloc: Global, links: &LinkFile, message: &Filed) -> Result<Outgoing, AllocError>
+/// The outgoing form of a message.
+pub(crate) fn prepared(
+    alloc: Global,
+    links: &LinkFile,
+    message: &Filed,
+) -> Result<Outgoing, AllocError>
     ensures { IfOk result (λ o. o ≡ outgoing_of links.now message.now) }
 {
-    let targets = targets(alloc, links, message)?;
+    let receivers = targets(alloc, links, message)?;
+    prepared_for(alloc, links, message, receivers)
+}
+
+// The outgoing form of a message with these receivers.
+#[tactic(auto, unfolding(model_steps::specs::Scanning::copy_to))]
+fn prepared_for(
+    alloc: Global,
+    links: &LinkFile,
+    message: &Filed,
+    receivers: Items<Address>,
+) -> Result<Outgoing, AllocError>
+    requires { receivers ≡ targets links.now message.now }
+    ensures { IfOk result (λ o. o ≡ outgoing_of links.now message.now) }
+{
     let text = exported_text(alloc, links, &message.echo)?;
     let message = packed(alloc, links, message, text)?;
-    Ok(Outgoing { message, targets })
+    Ok(Outgoing {
+        message,
+        targets: receivers,
+    })
+}
+
+// Appends the outgoing form of the message, if it has receivers.
+fn push_prepared(
+    alloc: Global,
+    links: &LinkFile,
+    message: &Filed,
+    all: &mut Vec<Outgoing>,
+) -> Result<(), AllocError>
+    ensures { OnOk result (all.new.items ≡ all.old.items ++ sent_of links.now (message.now ∷ [])) }
+{
+    let receivers = targets(alloc, links, message)?;
+    if has_some(receivers.as_slice()) {
+        all.push(prepared_for(alloc, links, message, receivers)?)?;
+    }
+    Ok(())
+}
+
+// Whether there is one.
+fn has_some(targets: &[Address]) -> bool
+    ensures { result ≡ has_some targets.now }
+{
+    match targets {
+        [] => false,
+        _ => true,
+    }
 }
 
 // The links of the area; without such an area there are none.
@@ -101,7 +150,7 @@ fn links_of<'a>(links: &'a LinkFile, tag: &[u8]) -> &'a [Address]
 }
 
 // The links that did not send the message and are not in its SEEN-BY.
-#[tactic(auto, unfolding(echo_steps::specs::Scanning::targets))]
+#[tactic(auto, unfolding(model_steps::specs::Scanning::targets))]
 fn targets(alloc: Global, links: &LinkFile, message: &Filed) -> Result<Items<Address>, AllocError>
     ensures { IfOk result (λ found. found ≡ targets links.now message.now) }
 {

@@ -1,9 +1,9 @@
 //! Whole packets: the header, then message by message.
 ghost use Rattle.std.specs.Prelude.{◌≡◌, [], MatchResult};
-ghost use Rattle.echo_disk.specs.Disk.{Honestly};
-ghost use Rattle.echo_base.specs.Base.{Base};
-ghost use Rattle.echo_store.specs.Store.{CommitsNothing, HasStoreCause};
-ghost use Rattle.echo_steps.specs.Tossing.{destination_of, sender_of, zone_of};
+ghost use Rattle.disk_io.specs.Disk.{Honestly};
+ghost use Rattle.base_file.specs.Base.{Base};
+ghost use Rattle.base_store.specs.Store.{CommitsNothing, HasStoreCause};
+ghost use Rattle.model_steps.specs.Tossing.{destination_of, sender_of, zone_of};
 ghost use Rattle.echo_toss.specs.Tallies.{all_counted, tally_of};
 ghost use Rattle.echo_toss.specs.PacketSteps.{CountsToss, PacketStep};
 ghost use Rattle.echo_toss.specs.Messages.{CountsStop, IsOpened, IsUnopened};
@@ -14,11 +14,11 @@ use crate::stop::{StoppedToss, TossStop};
 use crate::tally::Tally;
 use crate::tosser::Tosser;
 use crate::tossing::toss_in;
+use base_store::Store;
+use disk_io::Source;
 use echo_addr::Address;
-use echo_device::Source;
 use echo_links::LinkFile;
 use echo_packet::{HEADER_BYTES, Header, Limits, read_header, read_next};
-use echo_store::Store;
 use std::alloc::Global;
 use std::hash::BuildHasher;
 

@@ -2,8 +2,8 @@
 ghost use Rattle.std.specs.Prelude.{◌≡◌, [], ◌∷◌, ◌++◌, true, map, filter, IfOk, OnOk};
 ghost use Rattle.std.specs.List.{flat_map};
 ghost use Rattle.echo_filed.specs.Sets.{address_set};
-ghost use Rattle.echo_steps.specs.Scanning.{header_to};
-ghost use Rattle.echo_steps.specs.Stamps.{is_stamp};
+ghost use Rattle.model_steps.specs.Scanning.{header_to};
+ghost use Rattle.model_steps.specs.Stamps.{is_stamp};
 ghost use Rattle.echo_toss.specs.Exports.{goes_ready, packet_ready, packets_out, ready_copy, ready_of};
 
 use crate::outgoing::Outgoing;
@@ -11,7 +11,7 @@ use crate::sets::address_set;
 use echo_addr::{Address, Items};
 use echo_links::LinkFile;
 use echo_packet::{Header, PackedCopy};
-use echo_steps::{Packet, Stamp};
+use model_steps::{Packet, Stamp};
 use std::alloc::{AllocError, Global};
 use std::marker::Model;
 
@@ -142,9 +142,9 @@ fn goes_to(one: &Ready, address: Address) -> bool
     one.targets.as_slice().binary_search(&address).is_ok()
 }
 
-// The header of a packet to the address.
-#[tactic(auto, unfolding(echo_steps::specs::Scanning::header_to))]
-fn header_to(links: &LinkFile, stamp: Stamp, address: Address) -> Header
+/// The header of a packet to the address.
+#[tactic(auto, unfolding(model_steps::specs::Scanning::header_to))]
+pub(crate) fn header_to(links: &LinkFile, stamp: Stamp, address: Address) -> Header
     requires { is_stamp stamp ≡ true }
     ensures { result ≡ header_to links.now stamp address }
 {

@@ -2,10 +2,10 @@ ghost use Rattle.std.specs.Prelude.{◌≡◌, None, IfErr, IfOk, MatchResult, O
 ghost use Rattle.std.specs.List.{list_any};
 ghost use Rattle.echo_text.specs.Ids.{id_of};
 ghost use Rattle.echo_filed.specs.Filed.{has_id, key_of};
-ghost use Rattle.echo_disk.specs.Disk.{Honestly};
-ghost use Rattle.echo_base.specs.Base.{Base};
-ghost use Rattle.echo_store.specs.Store.{CommitsNothing, GoesOn, HasStoreCause, LooksOn, Undoes, with_message};
-ghost use Rattle.echo_steps.specs.Posting.{PostStep, post_refusal, posted};
+ghost use Rattle.disk_io.specs.Disk.{Honestly};
+ghost use Rattle.base_file.specs.Base.{Base};
+ghost use Rattle.base_store.specs.Store.{CommitsNothing, GoesOn, HasStoreCause, LooksOn, Undoes, with_message};
+ghost use Rattle.model_steps.specs.Posting.{PostStep, post_refusal, posted};
 ghost use Rattle.echo_toss.specs.Refusals.{IsPrepared, draft_refusal};
 ghost use Rattle.echo_toss.specs.Stores.{IsPostStop, LooksWhereRefused, post_answer};
 
@@ -13,12 +13,12 @@ use crate::drafting::posted;
 use crate::refusing::judge;
 use crate::stop::PostStop;
 use crate::tosser::Tosser;
+use base_store::{Store, StoreError};
 use echo_addr::Address;
 use echo_filed::{Filed, Key};
 use echo_links::LinkFile;
-use echo_steps::{Draft, PostFault, Stamp};
-use echo_store::{Store, StoreError};
 use echo_text::MsgId;
+use model_steps::{Draft, PostFault, Stamp};
 use std::alloc::{AllocError, Global};
 use std::hash::BuildHasher;
 

@@ -1,14 +1,14 @@
-ghost use Rattle.echo_steps.specs.Purging.{PurgeStep};
+ghost use Rattle.model_steps.specs.Purging.{PurgeStep};
 
 use crate::tosser::Tosser;
-use echo_store::PurgedStore;
+use base_store::PurgedStore;
 use std::alloc::AllocError;
 use std::hash::BuildHasher;
 
 impl<S: BuildHasher> Tosser<S> {
     /// Leaves of each scanned message with an id nothing of its text but the id, so that the message
     /// stays known. Answers how many messages changed.
-    #[tactic(auto, unfolding(echo_steps::specs::Purging::changed, echo_steps::specs::Purging::purged))]
+    #[tactic(auto, unfolding(model_steps::specs::Purging::changed, model_steps::specs::Purging::purged))]
     pub fn purge(&mut self) -> Result<u64, AllocError>
         ensures { PurgeStep self.old result self.new }
     {

@@ -4,7 +4,7 @@ ghost use Rattle.echo_text.specs.Refusal.{text_refusal};
 ghost use Rattle.echo_addr.specs.declared.address.Address.{Address as System};
 ghost use Rattle.echo_filed.specs.Filed.{key_of};
 ghost use Rattle.echo_filed.specs.Written.{echo_of};
-ghost use Rattle.echo_steps.specs.Tossing.{received};
+ghost use Rattle.model_steps.specs.Tossing.{received};
 ghost use Rattle.echo_toss.specs.Wanted.{IsRead, refused_by};
 
 use crate::drafting::copied;
@@ -12,8 +12,8 @@ use echo_addr::Address;
 use echo_filed::{Filed, Key};
 use echo_links::LinkFile;
 use echo_packet::Packed;
-use echo_steps::Outcome;
 use echo_text::{EchoView, TextFault, view_text};
+use model_steps::Outcome;
 use std::alloc::{AllocError, Global};
 
 /// The kind of a message, whatever the base.

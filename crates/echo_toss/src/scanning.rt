@@ -1,10 +1,10 @@
 ghost use Rattle.std.specs.Prelude.{◌≡◌, true, false, IfErr, IfOk, OnErr, OnOk};
-ghost use Rattle.echo_disk.specs.Disk.{Honestly};
-ghost use Rattle.echo_disk.specs.Runs.{ChangesNothing};
-ghost use Rattle.echo_base.specs.Base.{Base};
-ghost use Rattle.echo_store.specs.Store.{CommitsNothing, GoesOn, HasStoreCause, LooksOn, Undoes, all_scanned};
-ghost use Rattle.echo_steps.specs.Scanning.{ScanStep, scanned};
-ghost use Rattle.echo_steps.specs.Stamps.{is_stamp};
+ghost use Rattle.disk_io.specs.Disk.{Honestly};
+ghost use Rattle.disk_io.specs.Runs.{ChangesNothing};
+ghost use Rattle.base_file.specs.Base.{Base};
+ghost use Rattle.base_store.specs.Store.{CommitsNothing, GoesOn, HasStoreCause, LooksOn, Undoes, all_scanned};
+ghost use Rattle.model_steps.specs.Scanning.{ScanStep, scanned};
+ghost use Rattle.model_steps.specs.Stamps.{is_stamp};
 ghost use Rattle.echo_toss.specs.Exports.{listed};
 ghost use Rattle.echo_toss.specs.Stores.{IsScanStop, scan_answer};
 
@@ -13,9 +13,9 @@ use crate::outgoing::waiting;
 use crate::packing::packets;
 use crate::stop::ScanStop;
 use crate::tosser::Tosser;
+use base_store::{Store, StoreError};
 use echo_links::LinkFile;
-use echo_steps::{Packet, ScanFault, Stamp};
-use echo_store::{Store, StoreError};
+use model_steps::{Packet, ScanFault, Stamp};
 use std::alloc::Global;
 use std::hash::BuildHasher;
 

@@ -1,12 +1,12 @@
 //! Why a step of a system with its messages in a store was not done.
 ghost use Rattle.std.specs.Prelude.{◌≡◌};
-ghost use Rattle.echo_store.specs.declared.store_error.StoreError.TheVariants as error;
+ghost use Rattle.base_store.specs.declared.store_error.StoreError.TheVariants as error;
 
 use crate::fault::TossCause;
 use crate::tally::Tally;
+use base_store::StoreError;
 use echo_packet::PacketFault;
-use echo_steps::PostFault;
-use echo_store::StoreError;
+use model_steps::PostFault;
 use std::alloc::AllocError;
 use thiserror::Error;
 

@@ -1,18 +1,18 @@
 //! Writes and reads the base of a system.
 ghost use Rattle.std.specs.Prelude.{◌≡◌, IfErr, IfOk, IfSome, Result};
 ghost use Rattle.echo_packet.specs.Header.{AreBytes};
-ghost use Rattle.echo_base.specs.declared.fault.BaseFault.{BaseFault as Fault};
-ghost use Rattle.echo_base.specs.Base.{IsBase};
-ghost use Rattle.echo_base.specs.BaseFile.{LoadOf, Loaded, is_countable, saved_bytes};
-ghost use Rattle.echo_base.specs.Loading.{AnswersLoad, CountsLoad, FailsToLoad, TakesBase};
-ghost use Rattle.echo_base.specs.Saving.{CountsSaved, Saves, TellsTooMany};
+ghost use Rattle.base_file.specs.declared.fault.BaseFault.{BaseFault as Fault};
+ghost use Rattle.base_file.specs.Base.{IsBase};
+ghost use Rattle.base_file.specs.BaseFile.{LoadOf, Loaded, is_countable, saved_bytes};
+ghost use Rattle.base_file.specs.Loading.{AnswersLoad, CountsLoad, FailsToLoad, TakesBase};
+ghost use Rattle.base_file.specs.Saving.{CountsSaved, Saves, TellsTooMany};
 ghost use Rattle.echo_toss.specs.Stored.{base_in};
 
 use crate::tosser::Tosser;
-use echo_base::{Base, BaseFault};
-use echo_device::{Sink, Source};
+use base_file::{Base, BaseFault};
+use base_store::MemoryStore;
+use disk_io::{Sink, Source};
 use echo_links::LinkFile;
-use echo_store::MemoryStore;
 use std::alloc::Global;
 use std::hash::BuildHasher;
 

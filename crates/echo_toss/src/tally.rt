@@ -1,7 +1,7 @@
 ghost use Rattle.std.specs.Prelude.{◌≡◌, ◌+◌, ◌<◌, ◌^◌};
 ghost use Rattle.echo_toss.specs.Tallies.{all_counted, tally_with};
 
-use echo_steps::Outcome;
+use model_steps::Outcome;
 
 /// The outcomes of the messages of a packet: how many had each.
 #[derive(Clone, Copy, Debug, PartialEq, Eq)]

@@ -1,11 +1,11 @@
 ghost use Rattle.std.specs.Prelude.{◌≡◌, ◌-◌, length, slice_get, option_copied};
-ghost use Rattle.echo_base.specs.Base.{IsBase};
-ghost use Rattle.echo_steps.specs.SystemState.{state_at_first};
+ghost use Rattle.base_file.specs.Base.{IsBase};
+ghost use Rattle.model_steps.specs.SystemState.{state_at_first};
 
-use echo_base::Base;
+use base_file::Base;
+use base_store::MemoryStore;
 use echo_filed::Filed;
 use echo_links::LinkFile;
-use echo_store::MemoryStore;
 use std::alloc::Global;
 use std::hash::BuildHasher;
 use std::marker::Model;
@@ -20,7 +20,7 @@ pub struct Tosser<S: BuildHasher> {
 }
 
 impl<S: BuildHasher> Model for Tosser<S> {
-    ghost use Rattle.echo_steps.specs.SystemState.{SystemState};
+    ghost use Rattle.model_steps.specs.SystemState.{SystemState};
 
     ghost Value = { SystemState };
 

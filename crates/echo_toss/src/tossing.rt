@@ -1,19 +1,19 @@
 ghost use Rattle.std.specs.Prelude.{◌≡◌, IfOk, OnErr, OnOk};
-ghost use Rattle.echo_disk.specs.Disk.{Honestly};
-ghost use Rattle.echo_base.specs.Base.{Base};
-ghost use Rattle.echo_store.specs.Store.{CommitsNothing, GoesOn, HasStoreCause, LooksOn, Undoes};
-ghost use Rattle.echo_steps.specs.Tossing.{TossStep, toss_outcome, tossing};
+ghost use Rattle.disk_io.specs.Disk.{Honestly};
+ghost use Rattle.base_file.specs.Base.{Base};
+ghost use Rattle.base_store.specs.Store.{CommitsNothing, GoesOn, HasStoreCause, LooksOn, Undoes};
+ghost use Rattle.model_steps.specs.Tossing.{TossStep, toss_outcome, tossing};
 ghost use Rattle.echo_toss.specs.Stores.{LooksUnlessFiled, and_filed};
 ghost use Rattle.echo_toss.specs.Wanted.{HasOwnKey, IsVerdict};
 
 use crate::receiving::{Reading, key_in, read, received};
 use crate::tosser::Tosser;
+use base_store::{Store, StoreError};
 use echo_addr::Address;
 use echo_filed::{Filed, Key};
 use echo_links::LinkFile;
 use echo_packet::Packed;
-use echo_steps::Outcome;
-use echo_store::{Store, StoreError};
+use model_steps::Outcome;
 use std::alloc::{AllocError, Global};
 use std::hash::BuildHasher;
 

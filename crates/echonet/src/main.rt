@@ -1,22 +1,22 @@
 //! The program `echonet`: it reads the words of the command line and calls the command that they name. The commands that
-//! only read are in `cmd_read` and `cmd_export`, those that change a base in `cmd_station`, and `convert` in `cmd_base`.
+//! change no base are in `cmd_read`, those that change one in `cmd_station`, and `convert` is in `cmd_input`.
 //!
-//! It is proved to be safe and to end, and no more. Begin at `main`, the last function, then read `run_words`.
+//! It is proved to be safe and to end, and no more. It is small, so that the crates below it are proved in parallel.
+//! Begin at `main`, the last function, then read `run_words`.
 #![tactic(auto)]
 
-use cmd_base::run_convert;
-use cmd_export::{run_export_jam, run_export_stored};
-use cmd_input::{Cleared, Progress, names_of};
+use cmd_input::{Cleared, Progress, names_of, run_convert};
+use cmd_notes::{Heard, Noted};
 use cmd_read::{
-    run_check, run_export, run_links, run_list, run_nodelist, run_picture, run_replay, run_show,
-    run_why,
+    run_check, run_export, run_export_jam, run_export_stored, run_links, run_list, run_nodelist,
+    run_picture, run_replay, run_resend, run_show, run_why,
 };
 use cmd_station::{
     ScanWords, run_post, run_post_mail, run_post_stored, run_purge, run_reply, run_scan, run_toss,
 };
-use echo_device::{Sink, Watched};
-use echo_status::{Fault, Status, ended};
-use echo_words::{Ending, Words, explain, parse};
+use cmd_status::{Fault, Status, ended};
+use cmd_words::{Asked, Ending, Words, explain, parse};
+use disk_io::{Sink, Watched};
 use std::process::ExitCode;
 use std::{env, io};
 
@@ -29,16 +29,26 @@ fn run_of_net<W: Sink, E: Sink>(
     errors: &mut E,
 ) -> Option<Status> {
     let status = match words {
-        Words::Show { hex, packet } => ended(run_show(rt, *hex, *packet, out), errors),
+        Words::Show { hex, text, packet } => {
+            ended(run_show(rt, *hex, *text, *packet, out), errors)
+        }
         Words::Nodelist { find, file } => ended(run_nodelist(rt, *find, *file, out), errors),
         Words::Check(words) => ended(
             run_check(rt, words, &names_of(rt, &words.links), out),
             errors,
         ),
         Words::Links { areas, links } => run_links(rt, *areas, &names_of(rt, links), out, errors),
-        Words::Why { tag, links } => ended(run_why(rt, *tag, &names_of(rt, links), out), errors),
-        Words::Picture { why, tag, links } => ended(
-            run_picture(rt, *why, *tag, &names_of(rt, links), out),
+        Words::Why { assume, tag, links } => ended(
+            run_why(rt, assume.as_slice(), *tag, &names_of(rt, links), out),
+            errors,
+        ),
+        Words::Picture {
+            why,
+            assume,
+            tag,
+            links,
+        } => ended(
+            run_picture(rt, *why, assume.as_slice(), *tag, &names_of(rt, links), out),
             errors,
         ),
         _ => return None,
@@ -55,15 +65,13 @@ fn run_of_base<W: Sink, E: Sink>(
     errors: &mut E,
 ) -> Option<Status> {
     let status = match words {
-        Words::List { area, from, base } => ended(
-            run_list(rt, *area, *from, *base, progress, out),
-            errors,
-        ),
+        Words::List(words) => ended(run_list(rt, words, progress, out), errors),
         Words::Export(words) => match (words.msg, words.jam) {
             (Some(folder), _) => run_export_stored(rt, words, folder, out, errors),
             (None, Some(path)) => run_export_jam(rt, words, path, out, errors),
             (None, None) => run_export(rt, words, out, errors),
         },
+        Words::Resend(words) => run_resend(rt, words, out, errors),
         Words::Convert { from, to } => ended(run_convert(rt, *from, *to, out), errors),
         Words::Replay { script, links } => {
             let links = names_of(rt, links);
@@ -155,20 +163,30 @@ fn words_given(rt: &HostRuntime) -> Result<Vec<String>, Status> {
     }
 }
 
+// Runs the command that is asked for, and prints notes on its faults behind them.
+fn run_asked(rt: &HostRuntime, asked: &Asked<'_>) -> Status {
+    let progress = Progress::new(rt);
+    let noted = Noted::of(rt, asked);
+    let mut out = Watched::new(Cleared::new(&progress, rt.stdout()));
+    let to = Cleared::new(&progress, rt.stderr());
+    let mut errors = Watched::new(Heard::new(rt.alloc(), to));
+    let status = run_words(rt, &asked.words, &progress, &mut out, &mut errors);
+    let printed = errors.into_inner().into_kept();
+    if let Some(noted) = noted {
+        let mut errors = Watched::new(Cleared::new(&progress, rt.stderr()));
+        noted.tell(&printed, &mut errors);
+    }
+    progress.clear();
+    status
+}
+
 fn run(rt: &HostRuntime) -> Status {
     let words = match words_given(rt) {
         Ok(words) => words,
         Err(status) => return status,
     };
     match parse(rt.alloc(), words.as_slice()) {
-        Ok(Some(asked)) => {
-            let progress = Progress::new(rt);
-            let mut out = Watched::new(Cleared::new(&progress, rt.stdout()));
-            let mut errors = Watched::new(Cleared::new(&progress, rt.stderr()));
-            let status = run_words(rt, &asked, &progress, &mut out, &mut errors);
-            progress.clear();
-            status
-        }
+        Ok(Some(asked)) => run_asked(rt, &asked),
         Ok(None) => Status::CommandLine,
         Err(error) => status_of(rt, explain(rt, &error)),
     }

@@ -1,15 +1,15 @@
 -- A toss from any readers is one from what is known of them.
 use Rattle.std.proofs.Common.{◌≡◌, ◌∙◌, refl, sym, inl, inr, Bool, List, [], ◌∷◌, Option, None, Ok, Err}
-use Rattle.echo_status.specs.Devices.{Device, Output}
-use Rattle.echo_status.specs.declared.fault.Fault.{Fault}
-use Rattle.echo_base.specs.Base.{Base}
+use Rattle.cmd_status.specs.Devices.{Device, Output}
+use Rattle.cmd_status.specs.declared.fault.Fault.{Fault}
+use Rattle.base_file.specs.Base.{Base}
 use Rattle.echo_links.specs.Links.{LinkFile}
 use Rattle.echo_packet.specs.declared.limits.Limits.{Limits}
 use Rattle.echo_toss.specs.PacketsIn.{state_in}
-use Rattle.echo_changing.specs.Coming.{Coming, Fails, Holds, Opens, Unknown}
-use Rattle.echo_changing.specs.Tossed.{TossesEachBy, TossesFileBy, run_begun}
-use Rattle.echo_changing.specs.TossedPacket.{TossRun, TossesPacketBy}
-use Rattle.echo_store_changing.specs.Tossed.{Tosses, TossesTo}
+use Rattle.cmd_report.specs.Coming.{Coming, Fails, Holds, Opens, Unknown}
+use Rattle.cmd_report.specs.Tossed.{TossesEachBy, TossesFileBy, run_begun}
+use Rattle.cmd_report.specs.TossedPacket.{TossRun, TossesPacketBy}
+use Rattle.cmd_store.specs.Tossed.{Tosses, TossesTo}
 use Rattle.law_stations.specs.Commands.{TossesAll, itself}
 
 module _ {R : Type 0} (device : R → Device) (noting : Bool) where

@@ -2,19 +2,19 @@
 use Rattle.std.proofs.Common.{◌≡◌, ◌⊎◌, inl, inr, refl, sym, subst, ap, ◌∙◌, ℕ, ◌==◌, arith, true, List, [], ◌∷◌, ◌++◌, map, Option, Some, None}
 use Rattle.std.specs.Prelude.{Bool, false, if◌then◌else◌}
 use Rattle.std.proofs.lemmas.Bool.{eqb-false, eqb-true}
-use Rattle.echo_graph.specs.Walk.{Different}
+use Rattle.model_graph.specs.Walk.{Different}
 use Rattle.echo_links.specs.Links.{LinkFile}
-use Rattle.echo_run.specs.Event.{Posting, Purging, RunEvent, Scanning}
-use Rattle.echo_run.specs.Run.{Run, System, after_events, change, fresh, nth, posting_at, purging_at, scanning, scanning_at, start}
-use Rattle.echo_run.proofs.LaterSystems.{after-append}
-use Rattle.echo_run.proofs.Lists.{yes_or_no}
-use Rattle.echo_run.proofs.WholeRuns.{fresh-empty, fresh-files}
-use Rattle.echo_steps.specs.declared.stamp.Stamp.{Stamp}
-use Rattle.echo_steps.specs.Posting.{posting}
-use Rattle.echo_steps.specs.Scanning.{scanned}
-use Rattle.echo_steps.specs.Stamps.{is_stamp}
-use Rattle.echo_status.specs.Inputs.{AreLinkFiles}
-use Rattle.echo_changing.specs.Posted.{draft_given}
+use Rattle.model_run.specs.Event.{Posting, Purging, RunEvent, Scanning}
+use Rattle.model_run.specs.Run.{Run, System, after_events, change, fresh, nth, posting_at, purging_at, scanning, scanning_at, start}
+use Rattle.model_run.proofs.LaterSystems.{after-append}
+use Rattle.model_run.proofs.Lists.{yes_or_no}
+use Rattle.model_run.proofs.WholeRuns.{fresh-empty, fresh-files}
+use Rattle.model_steps.specs.declared.stamp.Stamp.{Stamp}
+use Rattle.model_steps.specs.Posting.{posting}
+use Rattle.model_steps.specs.Scanning.{scanned}
+use Rattle.model_steps.specs.Stamps.{is_stamp}
+use Rattle.cmd_status.specs.Inputs.{AreLinkFiles}
+use Rattle.cmd_report.specs.Posted.{draft_given}
 use Rattle.law_stations.specs.Agreement.{Agrees, AreEventsOf, AreEventsOfAll, EventIsEvents, EventsAreARun, HasSystem, file_address, own_address}
 use Rattle.law_stations.specs.Commands.{Command, CommandEvent, Happen, Leads, Post, Purge, Scan, Toss}
 use Rattle.law_stations.specs.InOrder.{WasPurged}

@@ -1,19 +1,19 @@
 -- A toss of packet files, by their bytes: some first ones are tossed whole, and the next may be tossed in part.
 use Rattle.std.proofs.Common.{Bool, true, false, ◌≡◌, ◌⊎◌, inl, inr, refl, sym, subst, ap, ℕ, zero, suc, ◌+◌, ◌-◌, ◌≤◌, arith, List, [], ◌∷◌, length, Option, Some, None, Result, Ok, Err}
-use Rattle.echo_status.specs.Devices.{Device}
-use Rattle.echo_status.specs.declared.fault.Fault.{Fault}
-use Rattle.echo_status.specs.declared.fault.Fault.TheVariants.{OutOfMemory}
-use Rattle.echo_base.specs.Base.{Base}
+use Rattle.cmd_status.specs.Devices.{Device}
+use Rattle.cmd_status.specs.declared.fault.Fault.{Fault}
+use Rattle.cmd_status.specs.declared.fault.Fault.TheVariants.{OutOfMemory}
+use Rattle.base_file.specs.Base.{Base}
 use Rattle.echo_links.specs.Links.{LinkFile}
 use Rattle.echo_toss.specs.PacketsIn.{state_in}
-use Rattle.echo_steps.specs.SystemState.{SystemState}
+use Rattle.model_steps.specs.SystemState.{SystemState}
 use Rattle.echo_toss.specs.declared.fault.TossFault.{TossFault}
 use Rattle.echo_toss.specs.declared.tally.Tally.{Tally}
 use Rattle.echo_toss.specs.PacketSteps.{PacketStep}
-use Rattle.echo_changing.specs.Coming.{Coming, Fails, Holds, Unknown}
-use Rattle.echo_changing.specs.Tossed.{TossesEachBy, TossesFileBy, run_begun}
-use Rattle.echo_changing.specs.TossedPacket.{ReportsPacket, TossRun, TossesPacketBy}
-use Rattle.echo_run.proofs.Lists.{none_some}
+use Rattle.cmd_report.specs.Coming.{Coming, Fails, Holds, Unknown}
+use Rattle.cmd_report.specs.Tossed.{TossesEachBy, TossesFileBy, run_begun}
+use Rattle.cmd_report.specs.TossedPacket.{ReportsPacket, TossRun, TossesPacketBy}
+use Rattle.model_run.proofs.Lists.{none_some}
 use Rattle.law_stations.specs.Commands.{TossesAll, itself}
 use Rattle.law_stations.proofs.Readings.{TossesFront, TossesPacketThere, TossesSo, tosses-so}
 

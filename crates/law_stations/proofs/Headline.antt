@@ -2,20 +2,20 @@
 use Rattle.std.proofs.Common.{◌≡◌, refl, sym, subst, ap, ◌∙◌, ℕ, ◌≤◌, List, [], ◌∷◌, ◌++◌, length, Option, Some, Ok}
 use Rattle.std.specs.Prelude.{IsTrue}
 use Rattle.std.proofs.lemmas.List.{append-nil}
-use Rattle.echo_status.specs.Devices.{Output}
-use Rattle.echo_graph.specs.Walk.{Among}
+use Rattle.cmd_status.specs.Devices.{Output}
+use Rattle.model_graph.specs.Walk.{Among}
 use Rattle.echo_links.specs.Links.{LinkFile, has_area, upper}
 use Rattle.echo_filed.specs.Filed.{Filed, key_of}
-use Rattle.echo_steps.specs.declared.packet.Packet.{Packet}
-use Rattle.echo_run.specs.Fits.{FilesFit}
-use Rattle.echo_run.specs.Orderly.{FiledUnchanged, Orderly, Settled, sent_count}
-use Rattle.echo_run.specs.Run.{Run, System, after_events, nth, start}
-use Rattle.echo_run.specs.Tidy.{Tidy}
-use Rattle.echo_run.proofs.Histories.{among-nth}
-use Rattle.echo_status.specs.declared.fault.Fault.{Fault}
-use Rattle.echo_status.specs.declared.status.Status.TheVariants.{Good}
-use Rattle.echo_checking.specs.Checking.{CheckAnswers, RunsAreOrderly}
-use Rattle.echo_status.specs.Inputs.{AreLinkFiles}
+use Rattle.model_steps.specs.declared.packet.Packet.{Packet}
+use Rattle.model_run.specs.Fits.{FilesFit}
+use Rattle.model_run.specs.Orderly.{FiledUnchanged, Orderly, Settled, sent_count}
+use Rattle.model_run.specs.Run.{Run, System, after_events, nth, start}
+use Rattle.model_run.specs.Tidy.{Tidy}
+use Rattle.model_run.proofs.Histories.{among-nth}
+use Rattle.cmd_status.specs.declared.fault.Fault.{Fault}
+use Rattle.cmd_status.specs.declared.status.Status.TheVariants.{Good}
+use Rattle.cmd_check.specs.Checking.{CheckAnswers, RunsAreOrderly}
+use Rattle.cmd_status.specs.Inputs.{AreLinkFiles}
 use Rattle.law_stations.specs.Agreement.{HasSystem, IsPacketFile, limits_of}
 use Rattle.law_stations.specs.Commands.{CommandEvent}
 use Rattle.law_stations.specs.InOrder.{HasUnchanged, HeadlineOnNets, InOrder, IsSettled, ReadsAs}

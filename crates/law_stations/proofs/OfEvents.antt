@@ -3,28 +3,28 @@ use Rattle.std.proofs.Common.{◌≡◌, inl, inr, refl, sym, subst, ap, ◌∙�
 use Rattle.std.specs.Prelude.{is_none}
 use Rattle.std.specs.List.{AllByRecursion}
 use Rattle.std.proofs.lemmas.Bool.{cond-true}
-use Rattle.echo_graph.specs.Walk.{Among}
-use Rattle.echo_graph.proofs.Members.{Among-append_cases, Among-append_left, Among-append_right}
+use Rattle.model_graph.specs.Walk.{Among}
+use Rattle.model_graph.proofs.Members.{Among-append_cases, Among-append_left, Among-append_right}
 use Rattle.echo_packet.specs.Header.{AreBytes}
 use Rattle.echo_links.specs.Links.{LinkFile}
 use Rattle.echo_filed.specs.Filed.{Filed}
-use Rattle.echo_base.specs.Base.{Base}
-use Rattle.echo_steps.specs.declared.draft.Draft.{Draft}
-use Rattle.echo_steps.specs.declared.fault.PostFault.{PostFault}
-use Rattle.echo_steps.specs.declared.stamp.Stamp.{Stamp}
-use Rattle.echo_steps.specs.PacketFiles.{PacketFile}
-use Rattle.echo_steps.specs.Posting.{post_refusal, posted, posting}
-use Rattle.echo_steps.specs.Purging as steps
-use Rattle.echo_steps.specs.Scanning.{scanned}
-use Rattle.echo_steps.specs.Stamps.{is_stamp}
-use Rattle.echo_steps.proofs.Kept.{posting_keeps}
-use Rattle.echo_steps.proofs.Purged.{purge_keeps}
-use Rattle.echo_store.specs.Store.{all_scanned, purged, with_message}
-use Rattle.echo_run.specs.Event.{Posting, Purging, Scanning}
-use Rattle.echo_run.specs.Run.{Run, System, after_event, change, filing, posting_at, purging_at, scanning, scanning_at}
-use Rattle.echo_changing.specs.declared.posting.NewMessage.{NewMessage}
-use Rattle.echo_changing.specs.Posted.{draft_given, refusal_given}
-use Rattle.echo_changing.specs.Scanned.{file_sent}
+use Rattle.base_file.specs.Base.{Base}
+use Rattle.model_steps.specs.declared.draft.Draft.{Draft}
+use Rattle.model_steps.specs.declared.fault.PostFault.{PostFault}
+use Rattle.model_steps.specs.declared.stamp.Stamp.{Stamp}
+use Rattle.model_steps.specs.PacketFiles.{PacketFile}
+use Rattle.model_steps.specs.Posting.{post_refusal, posted, posting}
+use Rattle.model_steps.specs.Purging as steps
+use Rattle.model_steps.specs.Scanning.{scanned}
+use Rattle.model_steps.specs.Stamps.{is_stamp}
+use Rattle.model_steps.proofs.Kept.{posting_keeps}
+use Rattle.model_steps.proofs.Purged.{purge_keeps}
+use Rattle.base_store.specs.Store.{all_scanned, purged, with_message}
+use Rattle.model_run.specs.Event.{Posting, Purging, Scanning}
+use Rattle.model_run.specs.Run.{Run, System, after_event, change, filing, posting_at, purging_at, scanning, scanning_at}
+use Rattle.cmd_report.specs.declared.posting.NewMessage.{NewMessage}
+use Rattle.cmd_report.specs.Posted.{draft_given, refusal_given}
+use Rattle.cmd_report.specs.Scanned.{file_sent}
 use Rattle.echo_toss.specs.PacketsIn.{state_in}
 use Rattle.law_stations.specs.Agreement.{Agrees, HasPosting, HasSystem, IsPacketFile, base_of}
 use Rattle.law_stations.specs.Commands.{Posts, Purges, Scans}

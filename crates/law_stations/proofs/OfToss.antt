@@ -2,21 +2,21 @@
 use Rattle.std.proofs.Common.{◌≡◌, ◌≢◌, inl, inr, refl, sym, subst, ap, ◌∙◌, ℕ, zero, suc, ◌+◌, ◌-◌, ◌==◌, arith, List, [], ◌∷◌, length, map, take, Option, None, Some, Ok}
 use Rattle.std.proofs.lemmas.Bool.{cond-false, ne_eqb}
 use Rattle.std.proofs.lemmas.List.{take_all}
-use Rattle.echo_graph.specs.Walk.{Different}
+use Rattle.model_graph.specs.Walk.{Different}
 use Rattle.echo_packet.specs.declared.header.Header.{Header}
 use Rattle.echo_packet.specs.Message.{Message}
 use Rattle.echo_links.specs.Links.{LinkFile}
 use Rattle.echo_links.specs.LinkLines.{LinksOf}
-use Rattle.echo_base.specs.Base.{Base}
-use Rattle.echo_steps.specs.declared.packet.Packet.{Packet}
-use Rattle.echo_steps.specs.SystemState.{SystemState}
-use Rattle.echo_steps.specs.Tossing.{destination_of, sender_of, zone_of}
+use Rattle.base_file.specs.Base.{Base}
+use Rattle.model_steps.specs.declared.packet.Packet.{Packet}
+use Rattle.model_steps.specs.SystemState.{SystemState}
+use Rattle.model_steps.specs.Tossing.{destination_of, sender_of, zone_of}
 use Rattle.echo_toss.specs.PacketSteps.{IsForUs}
 use Rattle.echo_toss.specs.PacketsIn.{state_in}
-use Rattle.echo_run.specs.Event.{Delivery, PartDelivery, RunEvent}
-use Rattle.echo_run.specs.Run.{Run, System, after_events, change, coming, delivery, destination, nth, part_delivery, receiver, state_of, taking, tossing_at, with_index}
-use Rattle.echo_status.specs.declared.fault.Fault.{Fault}
-use Rattle.echo_changing.specs.Coming.{Coming, Fails, Holds, Unknown}
+use Rattle.model_run.specs.Event.{Delivery, PartDelivery, RunEvent}
+use Rattle.model_run.specs.Run.{Run, System, after_events, change, coming, delivery, destination, nth, part_delivery, receiver, state_of, taking, tossing_at, with_index}
+use Rattle.cmd_status.specs.declared.fault.Fault.{Fault}
+use Rattle.cmd_report.specs.Coming.{Coming, Fails, Holds, Unknown}
 use Rattle.law_stations.specs.Agreement.{Agrees, AreTossesOf, HasSystem, IsPacketFile, limits_of, own_address}
 use Rattle.law_stations.specs.Commands.{IsPacketAt, Tosses, whole_of}
 use Rattle.law_stations.specs.Nets.{Net, Paired, Station, with_base, with_indexes, with_tossed}

@@ -20,13 +20,13 @@ use Rattle.echo_filed.specs.Written.{text_of}
 use Rattle.echo_filed.proofs.Bytes.{text_no_zero}
 use Rattle.echo_filed.proofs.Plain.{all_append}
 use Rattle.echo_filed.proofs.Sets.{set_all}
-use Rattle.echo_base.specs.Base.{IsBase}
-use Rattle.echo_steps.specs.declared.stamp.Stamp.{Stamp}
-use Rattle.echo_steps.specs.Scanning.{copy_to, exported, goes_to, header_to, packet_to, packets_of, recipients, scanned, targets}
-use Rattle.echo_steps.proofs.Copies.{exported_is_echo, links_are_addresses}
-use Rattle.echo_steps.proofs.Encoding.{IsWhole, written_packet}
-use Rattle.echo_steps.specs.PacketFiles.{PacketFile}
-use Rattle.echo_changing.specs.Scanned.{file_sent}
+use Rattle.base_file.specs.Base.{IsBase}
+use Rattle.model_steps.specs.declared.stamp.Stamp.{Stamp}
+use Rattle.model_steps.specs.Scanning.{copy_to, exported, goes_to, header_to, packet_to, packets_of, recipients, scanned, targets}
+use Rattle.model_steps.proofs.Copies.{exported_is_echo, links_are_addresses}
+use Rattle.model_steps.proofs.Encoding.{IsWhole, written_packet}
+use Rattle.model_steps.specs.PacketFiles.{PacketFile}
+use Rattle.cmd_report.specs.Scanned.{file_sent}
 use Rattle.law_stations.specs.Agreement.{IsPacketFile}
 use Rattle.law_stations.specs.Nets.{Paired, bytes_of}
 

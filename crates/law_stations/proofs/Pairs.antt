@@ -1,8 +1,8 @@
 -- Two lists whose items are so, pair by pair, and lists in which one item changes.
 use Rattle.std.proofs.Common.{◌≡◌, inl, inr, refl, sym, subst, ap, ◌∙◌, ℕ, zero, suc, List, [], ◌∷◌, ◌++◌, map, Some}
-use Rattle.echo_graph.specs.Walk.{Among}
-use Rattle.echo_run.specs.Run.{change, nth}
-use Rattle.echo_run.proofs.Lists.{none_some, nth-changed, some_same}
+use Rattle.model_graph.specs.Walk.{Among}
+use Rattle.model_run.specs.Run.{change, nth}
+use Rattle.model_run.proofs.Lists.{none_some, nth-changed, some_same}
 use Rattle.law_stations.specs.Nets.{Paired}
 
 -- the other of a pair

@@ -3,13 +3,13 @@ use Rattle.std.proofs.Common.{◌≡◌, inl, inr, refl, sym, subst, ap, ◌∙�
 use Rattle.std.specs.List.{position_or_len}
 use Rattle.std.proofs.lemmas.Bool.{cond-false, cond-true}
 use Rattle.echo_addr.specs.declared.address.Address.{Address}
-use Rattle.echo_graph.specs.Walk.{Among, Different}
+use Rattle.model_graph.specs.Walk.{Among, Different}
 use Rattle.echo_links.specs.Links.{same_address}
 use Rattle.echo_links.proofs.Addresses.{same_address_decides}
-use Rattle.echo_run.specs.Event.{RunEvent}
-use Rattle.echo_run.specs.Run.{Run, System, after_events, nth}
-use Rattle.echo_run.proofs.Lists.{Among-map_to, none_some, nth-among, some_same, yes_or_no}
-use Rattle.echo_run.proofs.WholeRuns.{along, event-files, files_of}
+use Rattle.model_run.specs.Event.{RunEvent}
+use Rattle.model_run.specs.Run.{Run, System, after_events, nth}
+use Rattle.model_run.proofs.Lists.{Among-map_to, none_some, nth-among, some_same, yes_or_no}
+use Rattle.model_run.proofs.WholeRuns.{along, event-files, files_of}
 use Rattle.law_stations.specs.Agreement.{file_address, own_address}
 
 -- the first system of its address is the only one

@@ -1,12 +1,12 @@
 -- One station and its system change: what agreed with a run agrees with what becomes of it.
 use Rattle.std.proofs.Common.{◌≡◌, ◌⊎◌, inl, inr, subst, ap, ℕ, List, Some}
-use Rattle.echo_graph.specs.Walk.{Among}
+use Rattle.model_graph.specs.Walk.{Among}
 use Rattle.echo_filed.specs.Filed.{Filed}
-use Rattle.echo_base.specs.Base.{Base}
-use Rattle.echo_steps.specs.declared.packet.Packet.{Packet}
-use Rattle.echo_run.specs.Run.{Run, System, change, nth}
-use Rattle.echo_run.proofs.Histories.{after-then, before-then, there-then}
-use Rattle.echo_run.proofs.Lists.{nth-among}
+use Rattle.base_file.specs.Base.{Base}
+use Rattle.model_steps.specs.declared.packet.Packet.{Packet}
+use Rattle.model_run.specs.Run.{Run, System, change, nth}
+use Rattle.model_run.proofs.Histories.{after-then, before-then, there-then}
+use Rattle.model_run.proofs.Lists.{nth-among}
 use Rattle.law_stations.specs.Agreement.{Agrees, HasPosting, HasSystem, IsPacketFile}
 use Rattle.law_stations.specs.Nets.{Net, Paired, Station, with_base, with_indexes}
 use Rattle.law_stations.proofs.Pairs.{paired-put}

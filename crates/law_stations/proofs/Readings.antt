@@ -8,8 +8,8 @@ use Rattle.echo_packet.specs.declared.fault.PacketFault.TheVariants as fault
 use Rattle.echo_packet.specs.Header.{header_bytes, word}
 use Rattle.echo_packet.specs.Message.{AreMessages, IsMessage, Message, messages_bytes}
 use Rattle.echo_packet.specs.Packet.{PacketOf}
-use Rattle.echo_steps.specs.SystemState.{SystemState}
-use Rattle.echo_steps.specs.Tossing.{sender_of, tossed}
+use Rattle.model_steps.specs.SystemState.{SystemState}
+use Rattle.model_steps.specs.Tossing.{sender_of, tossed}
 use Rattle.echo_toss.specs.declared.fault.TossCause.{TossCause}
 use Rattle.echo_toss.specs.declared.fault.TossCause.TheVariants as stop
 use Rattle.echo_toss.specs.declared.fault.TossFault.{TossFault}

@@ -1,22 +1,22 @@
 -- A net that agrees with a run is sound.
 use Rattle.std.proofs.Common.{◌≡◌, inl, inr, refl, sym, subst, ap, ◌∙◌, ℕ, ◌≤◌, List, [], ◌∷◌, Some}
-use Rattle.echo_graph.specs.Walk.{Among}
+use Rattle.model_graph.specs.Walk.{Among}
 use Rattle.echo_links.specs.Links.{IsFile, LinkFile}
 use Rattle.echo_filed.specs.Filed.{Filed, key_of}
-use Rattle.echo_steps.specs.declared.packet.Packet.{Packet}
-use Rattle.echo_steps.specs.SystemState.{SystemState}
-use Rattle.echo_run.specs.Fits.{FilesFit}
-use Rattle.echo_run.specs.Orderly.{SameContent, count, tag_of}
-use Rattle.echo_run.specs.Run.{Run, System, after_events, fresh, nth, start}
-use Rattle.echo_run.specs.Keeping.{Content}
-use Rattle.echo_run.proofs.Areas.{key-tag}
-use Rattle.echo_run.proofs.EachSystem.{run-kept}
-use Rattle.echo_run.proofs.Lists.{Among-map_from, nth-among}
-use Rattle.echo_run.proofs.Origins.{run-traced}
-use Rattle.echo_run.proofs.WholeRuns.{run-ok}
-use Rattle.echo_run.proofs.TosserLaws.{the_laws}
-use Rattle.echo_run.proofs.WellFormed.{filed-once}
-use Rattle.echo_status.specs.Inputs.{AreLinkFiles}
+use Rattle.model_steps.specs.declared.packet.Packet.{Packet}
+use Rattle.model_steps.specs.SystemState.{SystemState}
+use Rattle.model_run.specs.Fits.{FilesFit}
+use Rattle.model_run.specs.Orderly.{SameContent, count, tag_of}
+use Rattle.model_run.specs.Run.{Run, System, after_events, fresh, nth, start}
+use Rattle.model_run.specs.Keeping.{Content}
+use Rattle.model_run.proofs.Areas.{key-tag}
+use Rattle.model_run.proofs.EachSystem.{run-kept}
+use Rattle.model_run.proofs.Lists.{Among-map_from, nth-among}
+use Rattle.model_run.proofs.Origins.{run-traced}
+use Rattle.model_run.proofs.WholeRuns.{run-ok}
+use Rattle.model_run.proofs.TosserLaws.{the_laws}
+use Rattle.model_run.proofs.WellFormed.{filed-once}
+use Rattle.cmd_status.specs.Inputs.{AreLinkFiles}
 use Rattle.law_stations.specs.Agreement.{Agrees, HasSystem, IsPacketFile, limits_of}
 use Rattle.law_stations.specs.Commands.{CommandEvent}
 use Rattle.law_stations.specs.InOrder.{IsSound, IsUnchanged, NetsAreSound, ReadsAs, StationHolds}

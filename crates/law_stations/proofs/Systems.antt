@@ -6,8 +6,8 @@ use Rattle.echo_links.specs.LinkLines.{LinksOf}
 use Rattle.echo_links.proofs.LinkAnswers.{link_only}
 use Rattle.echo_links.proofs.LinkFiles.{file_is_file}
 use Rattle.echo_filed.specs.Filed.{Filed}
-use Rattle.echo_steps.specs.SystemState.{SystemState}
-use Rattle.echo_run.specs.Run.{System, state_of}
+use Rattle.model_steps.specs.SystemState.{SystemState}
+use Rattle.model_run.specs.Run.{System, state_of}
 use Rattle.law_stations.specs.Agreement.{HasSystem}
 use Rattle.law_stations.specs.InOrder.{StationSays}
 use Rattle.law_stations.specs.Nets.{Station}

@@ -4,19 +4,19 @@ use Rattle.std.specs.Prelude.{option_to_list}
 use Rattle.std.specs.List.{AllByRecursion}
 use Rattle.std.proofs.lemmas.Bool.{cases_Bool, cond-false, cond-true}
 use Rattle.echo_addr.specs.declared.address.Address.{Address}
-use Rattle.echo_graph.specs.Walk.{Among}
-use Rattle.echo_graph.proofs.Members.{Among-append_cases, Among-append_left}
+use Rattle.model_graph.specs.Walk.{Among}
+use Rattle.model_graph.proofs.Members.{Among-append_cases, Among-append_left}
 use Rattle.echo_packet.specs.Message.{IsMessage, Message}
 use Rattle.echo_links.specs.Links.{IsFile, LinkFile}
 use Rattle.echo_filed.specs.Filed.{Filed, HasSmallSender}
-use Rattle.echo_base.specs.Base.{IsBase}
-use Rattle.echo_steps.specs.SystemState.{SystemState}
-use Rattle.echo_steps.specs.Tossing.{sender_of, received, tossed, tossing, zone_of}
-use Rattle.echo_steps.proofs.Received.{tossing_received}
-use Rattle.echo_steps.proofs.Kept.{tossing_keeps}
-use Rattle.echo_run.specs.Run.{System, filing, state_of, tossing_at}
-use Rattle.echo_run.proofs.Lists.{none_some}
-use Rattle.echo_run.proofs.States.{tossing-state}
+use Rattle.base_file.specs.Base.{IsBase}
+use Rattle.model_steps.specs.SystemState.{SystemState}
+use Rattle.model_steps.specs.Tossing.{sender_of, received, tossed, tossing, zone_of}
+use Rattle.model_steps.proofs.Received.{tossing_received}
+use Rattle.model_steps.proofs.Kept.{tossing_keeps}
+use Rattle.model_run.specs.Run.{System, filing, state_of, tossing_at}
+use Rattle.model_run.proofs.Lists.{none_some}
+use Rattle.model_run.proofs.States.{tossing-state}
 use Rattle.law_stations.specs.Agreement.{HasPosting}
 use Rattle.law_stations.proofs.Readings.{TossesFront}
 use Rattle.law_stations.proofs.Unpurged.{IsAsFiled, tossing-as_filed}

@@ -1,18 +1,18 @@
 -- A net of stations and a run of systems that say the same.
 use Rattle.std.specs.Prelude.{◌≡◌, ◌≢◌, ◌⊎◌, ℕ, List, [], ◌∷◌, ◌++◌, map, length, None, Ok}
 use Rattle.echo_addr.specs.declared.address.Address.{Address}
-use Rattle.echo_graph.specs.Walk.{Among, Different}
+use Rattle.model_graph.specs.Walk.{Among, Different}
 use Rattle.echo_packet.specs.Packet.{PacketOf}
 use Rattle.echo_packet.specs.declared.limits.Limits.{Limits}
 use Rattle.echo_links.specs.Links.{LinkFile}
 use Rattle.echo_links.specs.LinkLines.{LinksOf}
 use Rattle.echo_filed.specs.Filed.{Filed}
-use Rattle.echo_base.specs.Base.{Base, IsBase}
-use Rattle.echo_steps.specs.declared.packet.Packet.{Packet}
-use Rattle.echo_run.specs.Event.{Delivery, PartDelivery, Posting, Purging, RunEvent, Scanning}
-use Rattle.echo_run.specs.Run.{Run, System, after_events, run_of}
-use Rattle.echo_status.specs.Inputs.{AreLinkFiles}
-use Rattle.echo_changing.specs.Posted.{draft_given}
+use Rattle.base_file.specs.Base.{Base, IsBase}
+use Rattle.model_steps.specs.declared.packet.Packet.{Packet}
+use Rattle.model_run.specs.Event.{Delivery, PartDelivery, Posting, Purging, RunEvent, Scanning}
+use Rattle.model_run.specs.Run.{Run, System, after_events, run_of}
+use Rattle.cmd_status.specs.Inputs.{AreLinkFiles}
+use Rattle.cmd_report.specs.Posted.{draft_given}
 use Rattle.law_stations.specs.Commands.{Command, CommandEvent, Happen, Happens, Post, Purge, Scan, Toss}
 use Rattle.law_stations.specs.Nets.{Net, Paired, Station, first_net}
 

@@ -1,7 +1,7 @@
 -- Kinds of commands; which command it is may depend on what it finds.
 use Rattle.std.specs.Prelude.{◌≡◌, ℕ, List}
-use Rattle.echo_changing.specs.declared.posting.NewMessage.{NewMessage}
-use Rattle.echo_changing.specs.FreeSerial.{with_serial}
+use Rattle.cmd_report.specs.declared.posting.NewMessage.{NewMessage}
+use Rattle.cmd_report.specs.FreeSerial.{with_serial}
 use Rattle.law_stations.specs.Commands.{Command, Post, Purge, Toss}
 
 -- the posting of these words

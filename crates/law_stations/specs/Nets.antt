@@ -1,9 +1,9 @@
 -- Nets of stations, and the packet files between them.
 use Rattle.std.specs.Prelude.{ℕ, List, [], ◌∷◌, ◌++◌, map}
-use Rattle.echo_base.specs.Base.{Base}
+use Rattle.base_file.specs.Base.{Base}
 use Rattle.echo_filed.specs.Filed.{Filed}
-use Rattle.echo_run.specs.Run.{change, with_index}
-use Rattle.echo_steps.specs.PacketFiles.{PacketFile}
+use Rattle.model_run.specs.Run.{change, with_index}
+use Rattle.model_steps.specs.PacketFiles.{PacketFile}
 
 -- the items of two lists are so, pair by pair
 abbrev pub Paired : {X Y : Type 0} → (X → Y → Type 0) → List X → List Y → Type 0

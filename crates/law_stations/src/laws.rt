@@ -1,18 +1,18 @@
 //! Laws about the definitions. Each law is the contract of a function that does nothing.
 
 ghost use Rattle.std.specs.Prelude.{◌≡◌, Bool, List, Ok, Option};
-ghost use Rattle.echo_base.specs.Base.{Base};
+ghost use Rattle.base_file.specs.Base.{Base};
 ghost use Rattle.echo_links.specs.Links.{LinkFile};
 ghost use Rattle.echo_packet.specs.declared.limits.Limits.{Limits};
-ghost use Rattle.echo_status.specs.Devices.{Output, device_of};
-ghost use Rattle.echo_status.specs.declared.fault.Fault.{Fault};
-ghost use Rattle.echo_changing.specs.Coming.{Coming};
-ghost use Rattle.echo_store_changing.specs.Tossed.{Tosses, TossesTo};
+ghost use Rattle.cmd_status.specs.Devices.{Output, device_of};
+ghost use Rattle.cmd_status.specs.declared.fault.Fault.{Fault};
+ghost use Rattle.cmd_report.specs.Coming.{Coming};
+ghost use Rattle.cmd_store.specs.Tossed.{Tosses, TossesTo};
 ghost use Rattle.law_stations.specs.Agreement.{EventIsEvents, EventsAreARun};
 ghost use Rattle.law_stations.specs.Commands.{TossesAll};
 ghost use Rattle.law_stations.specs.InOrder.{HeadlineOnNets, NetsAreSound};
 
-use echo_device::Source;
+use disk_io::Source;
 
 /// `toss` does the same over any readers as over the known bytes of them: the same fault stops it, and the same
 /// files remain.

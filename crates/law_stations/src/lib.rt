@@ -1,12 +1,49 @@
 //! Laws about nets of stations: their commands make of their bases a run of systems.
+//! There is little code, since each law is the contract of a function that does nothing.
 //!
-//! The promise is in `laws`. Begin with specs/: `Nets` (stations, packet files) and `Commands` (the effect of a
-//! command on them). `Agreement` says when a net and a run agree, `InOrder` is the promise about a net.
+//! Promise: a net of stations keeps what the model promises (`laws`). Where crashes stop commands, the disks show what
+//! they would show without crashes (`crash_laws`). One station alone keeps its part, whatever bytes `toss` gets
+//! (`lone_laws`).
+//!
+//! Begin with specs/: `Nets` (stations, packet files) and `Commands` (the effect of a command on them). `Agreement` says
+//! when a net and a run agree, `InOrder` is the promise about a net.
+//!
+//! For crashes: `Disks` (files under their names, and temporary files), `Stopping` (how far a command gets), `CanEnd`
+//! (the files of stopped scans) and `OverCrashes` (the promise about the disks). For one station: `LoneStations`
+//! and `AloneInOrder`, and with crashes `LoneDisks` and `AloneOverCrashes`.
+//!
+//! For commands on disks: what a crash leaves of a command is what the law over crashes allows (`commands`, `scanning`,
+//! `disk_laws`). Whatever the steps of a sequence, the disks show what the headline over crashes speaks of
+//! (`sequence_laws`). Begin with specs/: `DiskKinds` (which command events a command may be), `OnDisks` (a link file and
+//! a base on a disk as those of a station), `Scans` (the same with the packets of a scan) and `Neighbours` (other
+//! stations on the same disk). Then `Seats` (stations on disks), `Steps` (what a step does), `Asked` and `Scanned`
+//! (which steps commands are) and `Sequences` (the promise).
 #![tactic(auto)]
 
+mod commands;
+mod crash_laws;
+mod disk_laws;
 mod laws;
+mod lone_laws;
+mod scanning;
+mod sequence_laws;
 
+pub use commands::{mail_as_may, post_as_may, purge_as_may, reply_as_may, toss_as_may};
+pub use crash_laws::{
+    crashes_are_none, left_packets_can_end, nets_are_in_order_over_crashes,
+    nets_are_sound_over_crashes, whole_commands_are_among_them,
+};
+pub use disk_laws::others_stay;
 pub use laws::{
     command_is_events, commands_are_a_run, nets_are_in_order, nets_are_sound,
     tosses_answer_what_stopped_them, tosses_are_what_is_known,
+};
+pub use lone_laws::{
+    faultless_tosses_are_whole, lone_stations_are_in_order,
+    lone_stations_are_in_order_over_crashes, what_lone_stations_show_stays,
+    what_lone_stations_show_stays_over_crashes,
+};
+pub use scanning::scan_as_may;
+pub use sequence_laws::{
+    commands_go_on, scans_go_on, sequences_are_among, sequences_are_in_order, tosses_go_on,
 };

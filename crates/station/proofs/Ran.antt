@@ -1,16 +1,16 @@
 -- A command on a store that was opened, as one on the station.
 use Rattle.std.proofs.Common.{◌≡◌, inl, inr, ⊎_elim, ◌∙◌, ℕ, List, Result, Ok, Err, ap, sym, subst}
 use Rattle.std.specs.Prelude.{Bool, true, false, IfErr, OnOk}
-use Rattle.echo_base.specs.Base.{Base}
-use Rattle.echo_disk.specs.Disk.{DiskState, Files}
-use Rattle.echo_disk.specs.Runs.{ChangesNothing, LeavesOnly}
-use Rattle.echo_disk.proofs.Moments.{then_nothing, then_run, weaker_run}
-use Rattle.echo_store.specs.Store.{HasStoreCause, IsSameStore, KeepsBeside, LooksOn, SameBesideStore, StandsForEither, StandsBeside, StoreState}
-use Rattle.echo_store.proofs.Runs.{same_store}
-use Rattle.echo_store_changing.specs.Answered.{HasCommitted, MayMake, StandsForMade, StaysWhereMet}
-use Rattle.echo_store_changing.specs.Stops.{store_answer}
-use Rattle.echo_store_changing.specs.declared.stop.Stop.{Stop}
-use Rattle.echo_store_changing.specs.declared.stop.Stop.TheVariants.{Met, Store}
+use Rattle.base_file.specs.Base.{Base}
+use Rattle.disk_io.specs.Disk.{DiskState, Files}
+use Rattle.disk_io.specs.Runs.{ChangesNothing, LeavesOnly}
+use Rattle.disk_io.proofs.Moments.{then_nothing, then_run, weaker_run}
+use Rattle.base_store.specs.Store.{HasStoreCause, IsSameStore, KeepsBeside, LooksOn, SameBesideStore, StandsForEither, StandsBeside, StoreState}
+use Rattle.base_store.proofs.Runs.{same_store}
+use Rattle.cmd_store.specs.Answered.{HasCommitted, MayMake, StandsForMade, StaysWhereMet}
+use Rattle.cmd_store.specs.Stops.{store_answer}
+use Rattle.cmd_store.specs.declared.stop.Stop.{Stop}
+use Rattle.cmd_store.specs.declared.stop.Stop.TheVariants.{Met, Store}
 use Rattle.station.specs.Opening.{IsOpenFor}
 use Rattle.station.specs.Place.{IsOfPlace, KeepsElsewhere, Place, SameElsewhere, StandsAlone, StandsOrWasLeft}
 use Rattle.station.specs.Running.{IsKept, IsRunOn, MadeOrWasLeft, StandsAsBefore, StandsWhereMet}

@@ -1,9 +1,9 @@
 -- The disk of a store is used beneath it, for files that are not its own.
 use Rattle.std.specs.Prelude.{◌≡◌, ℕ, List}
-use Rattle.echo_base.specs.Base.{Base}
-use Rattle.echo_disk.specs.Disk.{DiskState, Files}
-use Rattle.echo_placing.specs.Changes.{ChangesOnly}
-use Rattle.echo_store.specs.Store.{IsSameStore, StoreState}
+use Rattle.base_file.specs.Base.{Base}
+use Rattle.disk_io.specs.Disk.{DiskState, Files}
+use Rattle.disk_atomic.specs.Changes.{ChangesOnly}
+use Rattle.base_store.specs.Store.{IsSameStore, StoreState}
 
 -- nothing has changed at the paths of the store's own files
 abbrev pub KeepsOwn : StoreState → DiskState → DiskState → Type 0

@@ -1,3 +1,6 @@
+pub mod Paths
+pub mod Faults
+pub mod Links
 pub mod Beneath
 pub mod Opening
 pub mod Place

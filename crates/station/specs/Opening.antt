@@ -1,12 +1,12 @@
 -- How a station is opened as a store.
 use Rattle.std.specs.Prelude.{◌≡◌, ◌≤◌, ◌⊎◌, ℕ, List, Option, None}
-use Rattle.echo_base.specs.Base.{Base}
-use Rattle.echo_device.specs.Device.{Failed}
-use Rattle.echo_disk.specs.Disk.{DiskState, Honestly}
-use Rattle.echo_disk.specs.Runs.{LeavesOnly}
+use Rattle.base_file.specs.Base.{Base}
+use Rattle.disk_io.specs.Device.{Failed}
+use Rattle.disk_io.specs.Disk.{DiskState, Honestly}
+use Rattle.disk_io.specs.Runs.{LeavesOnly}
 use Rattle.echo_links.specs.Links.{LinkFile}
-use Rattle.echo_status.specs.declared.fault.Fault.{Fault}
-use Rattle.echo_store.specs.Store.{StoreState}
+use Rattle.cmd_status.specs.declared.fault.Fault.{Fault}
+use Rattle.base_store.specs.Store.{StoreState}
 use Rattle.station.specs.Place.{IsOfPlace, KeepsElsewhere, Place, StandsOrWasLeft}
 
 -- no file is locked: of the two locks, the files whose locks they hold

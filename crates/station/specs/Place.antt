@@ -1,8 +1,8 @@
 -- Where the base of a station is kept.
 use Rattle.std.specs.Prelude.{◌≡◌, ◌⊎◌, ◌↔◌, ℕ, List}
-use Rattle.echo_base.specs.Base.{Base}
-use Rattle.echo_disk.specs.Disk.{DiskState, Files}
-use Rattle.echo_store.specs.Store.{StoreState}
+use Rattle.base_file.specs.Base.{Base}
+use Rattle.disk_io.specs.Disk.{DiskState, Files}
+use Rattle.base_store.specs.Store.{StoreState}
 
 -- which files stand for which base, and which paths are the station's own
 pub record Place : Type 1 where

@@ -1,14 +1,14 @@
 -- A command is run on a station.
 use Rattle.std.specs.Prelude.{◌≡◌, ◌⊎◌, Result, Err, IfErr, OnOk, IsErrOf}
-use Rattle.echo_base.specs.Base.{Base}
-use Rattle.echo_disk.specs.Disk.{DiskState, Files}
-use Rattle.echo_disk.specs.Runs.{LeavesOnly}
+use Rattle.base_file.specs.Base.{Base}
+use Rattle.disk_io.specs.Disk.{DiskState, Files}
+use Rattle.disk_io.specs.Runs.{LeavesOnly}
 use Rattle.echo_links.specs.Links.{LinkFile}
-use Rattle.echo_status.specs.declared.fault.Fault.{Fault}
-use Rattle.echo_status.specs.Devices.{Output}
-use Rattle.echo_store.specs.declared.store_error.StoreError.TheVariants.{Damaged, Device}
-use Rattle.echo_store_changing.specs.declared.stop.Stop.{Stop}
-use Rattle.echo_store_changing.specs.declared.stop.Stop.TheVariants.{Met, Store}
+use Rattle.cmd_status.specs.declared.fault.Fault.{Fault}
+use Rattle.cmd_status.specs.Devices.{Output}
+use Rattle.base_store.specs.declared.store_error.StoreError.TheVariants.{Damaged, Device}
+use Rattle.cmd_store.specs.declared.stop.Stop.{Stop}
+use Rattle.cmd_store.specs.declared.stop.Stop.TheVariants.{Met, Store}
 use Rattle.station.specs.Place.{Place, SameElsewhere, StandsOrWasLeft}
 
 -- the files stand for a base that the command makes, as they are seen and whatever a crash leaves

@@ -1,12 +1,12 @@
 //! What a program does with the store of a station before the command.
 ghost use Rattle.std.specs.Prelude.{◌≡◌, ◌≤◌, ◌⊎◌, None, Some, IfErr, OnOk};
-ghost use Rattle.echo_status.specs.declared.fault.Fault.{Fault as TheFault};
-ghost use Rattle.echo_store.specs.Store.{LooksOn};
+ghost use Rattle.cmd_status.specs.declared.fault.Fault.{Fault as TheFault};
+ghost use Rattle.base_store.specs.Store.{LooksOn};
 
-use echo_status::Fault;
-use echo_store::Store;
+use base_store::Store;
+use cmd_status::Fault;
 
-/// What a program does with a store that is open, before the command: it may look at it, and stop the command.
+/// Work of a program on an open store before the command: it may look at the store, and stop the command.
 pub trait BeforeCommand<'a, S: Store> {
     // Why it stopped a command.
     ghost stops: { Self → TheFault → Type 0 };
@@ -14,7 +14,7 @@ pub trait BeforeCommand<'a, S: Store> {
     // Whether it lets the command run.
     ghost lets: { Self → Type 0 };
 
-    /// Is handed the store, under the locks of the command.
+    /// Gets the store, under the locks of the command.
     fn prepare(&mut self, store: &mut S) -> Result<(), Fault<'a>>
         requires { (S.state store.old).is_ready }
         ensures looks { LooksOn (S.state store.old) (S.state store.new) }
@@ -37,7 +37,7 @@ impl<'a, S: Store> BeforeCommand<'a, S> for Nothing {
     }
 }
 
-/// Stops the command by the fault of something that was not read, unless what is done first stops it.
+/// Stops the command by the fault of an input that was not read, unless the first work stops it.
 #[derive(Drop)]
 pub struct Unread<'a, Q> {
     pub first: Q,

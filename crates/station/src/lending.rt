@@ -1,26 +1,26 @@
-//! A station whose disk can be used beneath its store, for files that are not the store's own.
+//! A station whose disk can be used without its store, for files that do not belong to the store.
 ghost use Rattle.std.specs.Prelude.{◌≡◌, ◌↔◌, ℕ, List, IsTrue};
-ghost use Rattle.echo_disk.specs.Runs.{ChangesNothing};
-ghost use Rattle.echo_store.specs.Store.{LooksOn, StoreState};
+ghost use Rattle.disk_io.specs.Runs.{ChangesNothing};
+ghost use Rattle.base_store.specs.Store.{LooksOn, StoreState};
 ghost use Rattle.station.specs.Beneath.{IsGivenBack};
 
 use crate::opening::OpenStation;
-use echo_disk::Disk;
+use disk_io::Disk;
 use std::alloc::Global;
 
-/// Tells the paths of a station's own files from others.
+/// Knows the paths of a station's own files.
 pub trait OwnPaths {
     // The paths of its own files.
     ghost is_own: { Self → List ℕ → Type 0 };
 
-    /// Whether a file of its own has this path.
+    /// Whether one of its own files has this path.
     fn owns(&self, path: &[u8]) -> bool
         ensures { IsTrue result ↔ is_own self.now path.now };
 }
 
-/// A station whose disk can be taken out of its store, used for other files, and given back.
+/// A station whose disk can be taken out of its store, used for other files, and returned.
 pub trait LendStation<'a, D: Disk>: OpenStation<'a, D> {
-    /// What the store has beside the disk.
+    /// The parts of the store without the disk.
     type Rest;
 
     type Paths: OwnPaths + Drop;
@@ -28,7 +28,7 @@ pub trait LendStation<'a, D: Disk>: OpenStation<'a, D> {
     // What the store is with this disk.
     ghost store_on: { Self.Rest → D → StoreState };
 
-    /// The paths of its own files, told from others.
+    /// Knows the paths of its own files.
     fn paths(&self) -> Self::Paths
         ensures { (m : List ℕ) → Self.Paths.is_own result m ↔ (Self.place self.now).is_own m };
 

@@ -1,18 +1,18 @@
-//! What a kind of station owes.
+//! The trait of a kind of station.
 ghost use Rattle.std.specs.Prelude.{◌≡◌, ◌⊎◌, ℕ, List, Option, IfErr, IfOk, OnOk};
-ghost use Rattle.echo_disk.specs.Disk.{DiskState, Honestly};
-ghost use Rattle.echo_disk.specs.Runs.{ChangesNothing};
+ghost use Rattle.disk_io.specs.Disk.{DiskState, Honestly};
+ghost use Rattle.disk_io.specs.Runs.{ChangesNothing};
 ghost use Rattle.echo_links.specs.Links.{LinkFile as TheLinks};
-ghost use Rattle.echo_status.specs.declared.fault.Fault.{Fault as TheFault};
+ghost use Rattle.cmd_status.specs.declared.fault.Fault.{Fault as TheFault};
 ghost use Rattle.station.specs.Opening.{AreFree, HaveFailed, IsNotOpened, IsOpened};
 ghost use Rattle.station.specs.Place.{Place};
 
+use crate::FileLock;
 use crate::locks::Locks;
-use echo_disk::Disk;
+use base_store::PurgedStore;
+use cmd_status::Fault;
+use disk_io::Disk;
 use echo_links::LinkFile;
-use echo_station_files::FileLock;
-use echo_status::Fault;
-use echo_store::PurgedStore;
 use std::alloc::Global;
 
 /// The link file of a station, and its base as a store.
@@ -33,19 +33,19 @@ pub struct Stopped<'a, D> {
 pub trait OpenStation<'a, D: Disk> {
     type Kept: PurgedStore;
 
-    // Which files stand for which base, and which paths are its own.
+    // Which files hold which base, and which paths belong to it.
     ghost place: { Self → Place };
 
-    // What an honest disk has to have.
+    // The premise of an honest disk.
     ghost can_open: { Self → DiskState → Type 0 };
 
-    // The files whose locks are held are those that it needs.
+    // The locked files are those that it needs.
     ghost is_locked: { Self → Option (List ℕ) → Option (List ℕ) → Type 0 };
 
     // The link file that the disk showed.
     ghost reads: { Self → DiskState → TheLinks → Type 0 };
 
-    // Why it is not opened: where a device failed, and the disk before and now.
+    // Why it is not opened: whether a device failed, and the disk before and now.
     ghost is_shut: { Self → Type 0 → DiskState → DiskState → TheFault → Type 0 };
 
     /// Takes the locks, reads the link file and opens the base as a store.

@@ -1,29 +1,28 @@
 //! A command is run on a station.
 ghost use Rattle.std.specs.Prelude.{◌≡◌, ◌⊎◌, OnOk};
-ghost use Rattle.echo_disk.specs.Disk.{Honestly};
-ghost use Rattle.echo_disk.specs.Runs.{ChangesNothing};
-ghost use Rattle.echo_status.specs.Devices.{output_of};
+ghost use Rattle.disk_io.specs.Disk.{Honestly};
+ghost use Rattle.disk_io.specs.Runs.{ChangesNothing};
+ghost use Rattle.cmd_status.specs.Devices.{output_of};
 ghost use Rattle.station.specs.Opening.{AreFree, HaveFailed};
 ghost use Rattle.station.specs.Place.{KeepsElsewhere};
 ghost use Rattle.station.specs.Running.{RunsIn};
 
+use crate::FileLock;
 use crate::before::BeforeCommand;
 use crate::locks::Locks;
 use crate::opening::{OpenStation, Opened};
-use echo_device::Sink;
-use echo_disk::Disk;
-use echo_station_files::FileLock;
-use echo_store_changing::{Stop, StoreCommand};
+use cmd_store::{Stop, StoreCommand};
+use disk_io::{Disk, Sink};
 use std::alloc::Global;
 
-/// The disk after a command, and how that ended.
+/// The disk after a command, and how the command ended.
 #[derive(Drop)]
 pub struct Ended<'a, D, A> {
     pub disk: D,
     pub done: Result<A, Stop<'a>>,
 }
 
-/// Opens a station as a store, hands that to the program, and runs a command on it.
+/// Opens a station as a store, gives it to the program, and runs a command on it.
 pub fn run_command<
     'a,
     D: Disk,

@@ -1,12 +1,12 @@
 -- What is found of what was listed, one by one.
 use Rattle.std.proofs.Common.{◌≡◌, ⊎_elim, ◌∙◌, ◌<◌, ◌≤◌, ℕ, List, [], ◌∷◌, ◌++◌, ap, arith, get_or, length, length-append, subst, sym}
 use Rattle.std.specs.Prelude.{All, AllPairs, Contains, IsSome, Option}
-use Rattle.echo_station_files.specs.Paths.{path_beside}
+use Rattle.station.specs.Paths.{path_beside}
 use Rattle.std.proofs.lemmas.Bool.{cases_lt}
 use Rattle.std.proofs.lemmas.List.{get_or_append_left}
 use Rattle.std.proofs.Math.Seq.{get_or-append_seam}
 use Rattle.std.proofs.lemmas.List.Elements.{All-append, Contains-append_left}
-use Rattle.echo_disk.specs.Disk.{Files}
+use Rattle.disk_io.specs.Disk.{Files}
 use Rattle.station_scan.specs.declared.listing.LeftPacket.{LeftPacket}
 use Rattle.station_scan.specs.declared.finding.LeftPaths.{LeftPaths}
 use Rattle.station_scan.specs.Left.{Adds, AreFound, HaveOtherLeft, IsAmong, IsBesideThere, IsFound, IsFoundWhere}

@@ -4,16 +4,16 @@ use Rattle.std.specs.Prelude.{All, Contains, Err, IsSome, None, Ok, OnOk, Result
 use Rattle.std.proofs.lemmas.Bool.{cases_lt}
 use Rattle.std.proofs.lemmas.List.{get_or-map, length-map}
 use Rattle.std.proofs.lemmas.List.Elements.{All-contains, Contains-get_or}
-use Rattle.echo_disk.specs.Disk.{DiskState, Files, IsIn}
-use Rattle.echo_disk.specs.Runs.{ChangesNothing, LeavesOnly, OneStepOn}
-use Rattle.echo_disk.proofs.Moments.{no_call, then_nothing, weaker_run}
-use Rattle.echo_placing.specs.Changes.{ChangesOnly}
-use Rattle.echo_placing.specs.Finishing.{AreAway, AreLeftIn, FinishesEach, IsLeftIn, IsOfLeft, IsOver, IsThere}
-use Rattle.echo_placing.specs.declared.finishing.Left.{Left}
-use Rattle.echo_placing.specs.declared.placing_error.PlacingError.{PlacingError}
-use Rattle.echo_placing.proofs.Changes.{only_nothing, then_only}
-use Rattle.echo_placing.proofs.Ended.{quiet_then}
-use Rattle.echo_station_files.proofs.BesidePaths.{beside_other}
+use Rattle.disk_io.specs.Disk.{DiskState, Files, IsIn}
+use Rattle.disk_io.specs.Runs.{ChangesNothing, LeavesOnly, OneStepOn}
+use Rattle.disk_io.proofs.Moments.{no_call, then_nothing, weaker_run}
+use Rattle.disk_atomic.specs.Changes.{ChangesOnly}
+use Rattle.disk_atomic.specs.Finishing.{AreAway, AreLeftIn, FinishesEach, IsLeftIn, IsOfLeft, IsOver, IsThere}
+use Rattle.disk_atomic.specs.declared.finishing.Left.{Left}
+use Rattle.disk_atomic.specs.declared.placing_error.PlacingError.{PlacingError}
+use Rattle.disk_atomic.proofs.Changes.{only_nothing, then_only}
+use Rattle.disk_atomic.proofs.Ended.{quiet_then}
+use Rattle.station.proofs.BesidePaths.{beside_other}
 use Rattle.station_scan.specs.Listing.{AreListed, IsNumbered}
 use Rattle.station_scan.specs.Sending.{IsOffOwn}
 use Rattle.station_scan.specs.declared.listing.LeftPacket.{LeftPacket}

@@ -1,11 +1,11 @@
 -- A store whose disk was lent, used and given back.
 use Rattle.std.proofs.Common.{ℕ, List}
-use Rattle.echo_disk.specs.Disk.{DiskState}
-use Rattle.echo_disk.specs.Runs.{ChangesNothing}
-use Rattle.echo_placing.specs.Changes.{ChangesOnly}
-use Rattle.echo_placing.proofs.Changes.{only_nothing, then_only, wider}
-use Rattle.echo_store.specs.Store.{LooksOn, StoreState}
-use Rattle.echo_store.proofs.Runs.{same_twice}
+use Rattle.disk_io.specs.Disk.{DiskState}
+use Rattle.disk_io.specs.Runs.{ChangesNothing}
+use Rattle.disk_atomic.specs.Changes.{ChangesOnly}
+use Rattle.disk_atomic.proofs.Changes.{only_nothing, then_only, wider}
+use Rattle.base_store.specs.Store.{LooksOn, StoreState}
+use Rattle.base_store.proofs.Runs.{same_twice}
 use Rattle.station.specs.Beneath.{HoldsAsBefore, IsGivenBack}
 use Rattle.station_scan.specs.Beneath.{IsUsedAt}
 

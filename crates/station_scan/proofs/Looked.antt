@@ -1,11 +1,11 @@
 -- A store that was looked through, before packets were sent out with its commit.
 use Rattle.std.proofs.Common.{◌≡◌, ◌⊎◌, inl, inr, ⊎_elim, ℕ, List, refl, subst}
 use Rattle.std.specs.Prelude.{All, Err, Ok, OnOk, Result}
-use Rattle.echo_disk.specs.Disk.{DiskState, Files}
-use Rattle.echo_disk.specs.Runs.{ChangesNothing, LeavesOnly, OneStepOn}
-use Rattle.echo_disk.proofs.Moments.{then_run, weaker_run}
-use Rattle.echo_placing.specs.declared.finishing.Left.{Left}
-use Rattle.echo_steps.specs.PacketFiles.{PacketFile}
+use Rattle.disk_io.specs.Disk.{DiskState, Files}
+use Rattle.disk_io.specs.Runs.{ChangesNothing, LeavesOnly, OneStepOn}
+use Rattle.disk_io.proofs.Moments.{then_run, weaker_run}
+use Rattle.disk_atomic.specs.declared.finishing.Left.{Left}
+use Rattle.model_steps.specs.PacketFiles.{PacketFile}
 use Rattle.station_scan.specs.Left.{IsLeftOf}
 use Rattle.station_scan.specs.Publishing.{IsOnDisk}
 use Rattle.station_scan.specs.Scanning.{AreSentOut, CommitsScan, IsTaken, PreparesScan, SendsOut}

@@ -2,9 +2,9 @@
 use Rattle.std.proofs.Common.{◌≡◌, ◌≢◌, ◌∙◌, ◌+◌, ◌<◌, ℕ, List, [], ◌++◌, ap, arith, append_assoc, codes, get_or, length, length-append, refl, sym}
 use Rattle.std.specs.Prelude.{All}
 use Rattle.std.proofs.lemmas.List.{append-nil, append_cancel_left, append_cancel_right, get_or-append-add}
-use Rattle.echo_disk.specs.Disk.{IsIn}
-use Rattle.echo_station_files.specs.Paths.{path_beside}
-use Rattle.echo_station_files.proofs.BesidePaths.{beside_in}
+use Rattle.disk_io.specs.Disk.{IsIn}
+use Rattle.station.specs.Paths.{path_beside}
+use Rattle.station.proofs.BesidePaths.{beside_in}
 use Rattle.station_scan.specs.Sending.{IsNameByte}
 
 -- what stands behind a path in the one beside it

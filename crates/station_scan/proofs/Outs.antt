@@ -4,18 +4,18 @@ use Rattle.std.specs.Prelude.{Err, IfErr, Ok, OnOk, Result}
 use Rattle.std.proofs.lemmas.Bool.{cases_lt}
 use Rattle.std.proofs.lemmas.List.{append-nil}
 use Rattle.std.proofs.lemmas.List.Elements.{All-contains}
-use Rattle.echo_base.specs.Base.{Base}
-use Rattle.echo_disk.specs.Disk.{DiskState, Files}
-use Rattle.echo_disk.specs.Runs.{LeavesOnly, OneStepOn}
-use Rattle.echo_disk.proofs.Moments.{left_now, then_run, weaker_run}
-use Rattle.echo_placing.specs.Finishing.{FinishesEach, IsOfLeft, IsOver}
-use Rattle.echo_placing.specs.declared.finishing.Left.{Left}
-use Rattle.echo_placing.specs.declared.placing_error.PlacingError.{PlacingError}
-use Rattle.echo_placing.specs.declared.placing_error.PlacingError.TheVariants.{Device, Taken}
-use Rattle.echo_station_files.specs.Paths.{path_beside}
-use Rattle.echo_steps.specs.PacketFiles.{PacketFile}
-use Rattle.echo_store.specs.Store.{StoreState}
-use Rattle.echo_store.proofs.Runs.{same_twice}
+use Rattle.base_file.specs.Base.{Base}
+use Rattle.disk_io.specs.Disk.{DiskState, Files}
+use Rattle.disk_io.specs.Runs.{LeavesOnly, OneStepOn}
+use Rattle.disk_io.proofs.Moments.{left_now, then_run, weaker_run}
+use Rattle.disk_atomic.specs.Finishing.{FinishesEach, IsOfLeft, IsOver}
+use Rattle.disk_atomic.specs.declared.finishing.Left.{Left}
+use Rattle.disk_atomic.specs.declared.placing_error.PlacingError.{PlacingError}
+use Rattle.disk_atomic.specs.declared.placing_error.PlacingError.TheVariants.{Device, Taken}
+use Rattle.station.specs.Paths.{path_beside}
+use Rattle.model_steps.specs.PacketFiles.{PacketFile}
+use Rattle.base_store.specs.Store.{StoreState}
+use Rattle.base_store.proofs.Runs.{same_twice}
 use Rattle.station.specs.Beneath.{HoldsAsBefore}
 use Rattle.station_scan.specs.Beneath.{IsUsedAt}
 use Rattle.station_scan.specs.Fitting.{AreTaken}

@@ -2,18 +2,18 @@
 use Rattle.std.proofs.Common.{◌≡◌, inl, inr, ⊎_elim, ◌∙◌, ◌<◌, ℕ, List, get_or, length, refl, subst, sym}
 use Rattle.std.specs.Prelude.{All, Bool, Err, false, IfOk, Ok, OnOk, Result, true}
 use Rattle.std.proofs.lemmas.List.Elements.{All-contains}
-use Rattle.echo_base.specs.Base.{Base}
-use Rattle.echo_disk.specs.Disk.{DiskState, Files, Honestly}
-use Rattle.echo_disk.specs.declared.disk_error.DiskError.{DiskError}
-use Rattle.echo_disk.specs.Runs.{ChangesNothing, LeavesOnly, OneStepOn}
-use Rattle.echo_disk.proofs.Moments.{then_run, weaker_run}
-use Rattle.echo_placing.specs.Changes.{ChangesOnly, DifferAt}
-use Rattle.echo_placing.specs.Naming.{HasItsPath, NamesEach}
-use Rattle.echo_placing.specs.Outgoing.{IsAtStaging, IsFilled, IsOfOne, SendsBytes}
-use Rattle.echo_placing.specs.Publishing.{IsApartFrom}
-use Rattle.echo_placing.specs.declared.outgoing.Outgoing.{Outgoing}
-use Rattle.echo_store.specs.Store.{Commits, MayCommit, StandsForEither, StoreState}
-use Rattle.echo_store.proofs.Runs.{same_twice}
+use Rattle.base_file.specs.Base.{Base}
+use Rattle.disk_io.specs.Disk.{DiskState, Files, Honestly}
+use Rattle.disk_io.specs.declared.disk_error.DiskError.{DiskError}
+use Rattle.disk_io.specs.Runs.{ChangesNothing, LeavesOnly, OneStepOn}
+use Rattle.disk_io.proofs.Moments.{then_run, weaker_run}
+use Rattle.disk_atomic.specs.Changes.{ChangesOnly, DifferAt}
+use Rattle.disk_atomic.specs.Naming.{HasItsPath, NamesEach}
+use Rattle.disk_atomic.specs.Outgoing.{IsAtStaging, IsFilled, IsOfOne, SendsBytes}
+use Rattle.disk_atomic.specs.Publishing.{IsApartFrom}
+use Rattle.disk_atomic.specs.declared.outgoing.Outgoing.{Outgoing}
+use Rattle.base_store.specs.Store.{Commits, MayCommit, StandsForEither, StoreState}
+use Rattle.base_store.proofs.Runs.{same_twice}
 use Rattle.station.specs.Beneath.{HoldsAsBefore}
 use Rattle.station_scan.specs.Beneath.{IsUsedAt}
 use Rattle.station_scan.specs.Publishing.{AreGoing, ArePublished, AreStaged, CommitsWith, IsClear, IsGoingAt, IsNamedAs, IsPublishedAt, KeepsBut, KeepsStoreBut, PublishesOn}

@@ -1,18 +1,18 @@
 -- A scan of a store that was opened, as one of the station.
 use Rattle.std.proofs.Common.{◌⊎◌, inl, inr, ⊎_elim, ◌∙◌, ℕ, List, Result, Ok, Err, refl, subst, sym, ◌++◌}
 use Rattle.std.specs.Prelude.{OnOk, get_or}
-use Rattle.echo_base.specs.Base.{Base}
-use Rattle.echo_disk.specs.Disk.{DiskState, Files}
-use Rattle.echo_disk.specs.Runs.{ChangesNothing, LeavesOnly, OneStepOn}
-use Rattle.echo_disk.proofs.Moments.{left_now, nothing_twice, then_nothing, then_run, weaker_run}
+use Rattle.base_file.specs.Base.{Base}
+use Rattle.disk_io.specs.Disk.{DiskState, Files}
+use Rattle.disk_io.specs.Runs.{ChangesNothing, LeavesOnly, OneStepOn}
+use Rattle.disk_io.proofs.Moments.{left_now, nothing_twice, then_nothing, then_run, weaker_run}
 use Rattle.echo_links.specs.Links.{LinkFile}
-use Rattle.echo_placing.specs.declared.finishing.Left.{Left}
-use Rattle.echo_station_files.specs.Paths.{dotted, path_beside}
-use Rattle.echo_status.specs.Devices.{Output}
-use Rattle.echo_steps.specs.PacketFiles.{PacketFile}
-use Rattle.echo_steps.specs.declared.stamp.Stamp.{Stamp}
-use Rattle.echo_store.specs.Store.{StoreState, all_scanned}
-use Rattle.echo_store_changing.specs.declared.stop.Stop.{Stop}
+use Rattle.disk_atomic.specs.declared.finishing.Left.{Left}
+use Rattle.station.specs.Paths.{dotted, path_beside}
+use Rattle.cmd_status.specs.Devices.{Output}
+use Rattle.model_steps.specs.PacketFiles.{PacketFile}
+use Rattle.model_steps.specs.declared.stamp.Stamp.{Stamp}
+use Rattle.base_store.specs.Store.{StoreState, all_scanned}
+use Rattle.cmd_store.specs.declared.stop.Stop.{Stop}
 use Rattle.station.specs.Opening.{IsOpenFor}
 use Rattle.station.specs.Place.{IsOfPlace, KeepsElsewhere, Place, StandsAlone, StandsOrWasLeft}
 use Rattle.station.proofs.Ran.{stopped_on}

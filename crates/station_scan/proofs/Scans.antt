@@ -1,17 +1,17 @@
 -- A scan of a store.
 use Rattle.std.proofs.Common.{◌≡◌, ◌<◌, ℕ, List, [], Result, Ok, arith, inl, refl, subst}
 use Rattle.std.specs.Prelude.{Err}
-use Rattle.echo_base.specs.Base.{Base}
-use Rattle.echo_disk.specs.Disk.{DiskState, Files}
-use Rattle.echo_disk.specs.Runs.{ChangesNothing}
-use Rattle.echo_disk.proofs.Moments.{no_call}
+use Rattle.base_file.specs.Base.{Base}
+use Rattle.disk_io.specs.Disk.{DiskState, Files}
+use Rattle.disk_io.specs.Runs.{ChangesNothing}
+use Rattle.disk_io.proofs.Moments.{no_call}
 use Rattle.echo_links.specs.Links.{LinkFile}
-use Rattle.echo_station_files.specs.Paths.{dotted}
-use Rattle.echo_status.specs.Devices.{Output}
-use Rattle.echo_steps.specs.PacketFiles.{PacketFile}
-use Rattle.echo_steps.specs.declared.stamp.Stamp.{Stamp}
-use Rattle.echo_store.specs.Store.{IsSameStore, StoreState, all_scanned}
-use Rattle.echo_store_changing.specs.Scanned.{ScansOn}
+use Rattle.station.specs.Paths.{dotted}
+use Rattle.cmd_status.specs.Devices.{Output}
+use Rattle.model_steps.specs.PacketFiles.{PacketFile}
+use Rattle.model_steps.specs.declared.stamp.Stamp.{Stamp}
+use Rattle.base_store.specs.Store.{IsSameStore, StoreState, all_scanned}
+use Rattle.cmd_store.specs.Scanned.{ScansOn}
 use Rattle.echo_toss.specs.PacketsIn.{state_in}
 use Rattle.station_scan.specs.Scanning.{IsTaken, ScansOnStore, SendsOut}
 use Rattle.station_scan.specs.Stops.{IsOfPlacing, most}

@@ -3,17 +3,17 @@ use Rattle.std.proofs.Common.{◌≡◌, ◌≢◌, ◌∙◌, inl, inr, ⊎_eli
 use Rattle.std.specs.Prelude.{All, Contains}
 use Rattle.std.proofs.lemmas.List.{append-nil}
 use Rattle.std.proofs.lemmas.List.Elements.{All-contains}
-use Rattle.echo_base.specs.Base.{Base}
-use Rattle.echo_disk.specs.Disk.{DiskState, Files, IsIn}
-use Rattle.echo_disk.specs.Runs.{LeavesOnly}
-use Rattle.echo_disk.proofs.Moments.{weaker_run}
-use Rattle.echo_placing.specs.Outgoing.{ArePlaced, IsAtStaging, IsFree, IsOfOne}
-use Rattle.echo_placing.specs.Trying.{WasTried}
-use Rattle.echo_placing.specs.Publishing.{IsApartFrom}
-use Rattle.echo_placing.specs.declared.outgoing.Outgoing.{Outgoing}
-use Rattle.echo_station_files.specs.Paths.{path_beside}
-use Rattle.echo_steps.specs.PacketFiles.{PacketFile}
-use Rattle.echo_store.specs.Store.{StoreState}
+use Rattle.base_file.specs.Base.{Base}
+use Rattle.disk_io.specs.Disk.{DiskState, Files, IsIn}
+use Rattle.disk_io.specs.Runs.{LeavesOnly}
+use Rattle.disk_io.proofs.Moments.{weaker_run}
+use Rattle.disk_atomic.specs.Outgoing.{ArePlaced, IsAtStaging, IsFree, IsOfOne}
+use Rattle.disk_atomic.specs.Trying.{WasTried}
+use Rattle.disk_atomic.specs.Publishing.{IsApartFrom}
+use Rattle.disk_atomic.specs.declared.outgoing.Outgoing.{Outgoing}
+use Rattle.station.specs.Paths.{path_beside}
+use Rattle.model_steps.specs.PacketFiles.{PacketFile}
+use Rattle.base_store.specs.Store.{StoreState}
 use Rattle.station_scan.specs.declared.sending.TwoPaths.{TwoPaths}
 use Rattle.station_scan.specs.Fitting.{AreFitting, AreTaken}
 use Rattle.station_scan.specs.Left.{IsOfNameOff}

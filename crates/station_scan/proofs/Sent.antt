@@ -3,17 +3,17 @@ use Rattle.std.proofs.Common.{◌≡◌, ◌≢◌, ◌⊎◌, inl, inr, ⊎_eli
 use Rattle.std.specs.Prelude.{All, AllPairs, Contains}
 use Rattle.std.proofs.lemmas.List.{get_or-map, length-map}
 use Rattle.std.proofs.lemmas.List.Elements.{All-contains, Contains-get_or}
-use Rattle.echo_device.specs.Fixed.{AreBytes}
-use Rattle.echo_disk.specs.Disk.{DiskState, Files, IsIn}
-use Rattle.echo_steps.specs.PacketFiles.{PacketFile}
-use Rattle.echo_placing.specs.Naming.{HasItsPath, StandsWhole as outgoing_whole}
-use Rattle.echo_placing.specs.Outgoing.{AreApart, ArePlaced, IsBesideOne, IsOfOne}
-use Rattle.echo_placing.specs.Outgoing as outgoing
-use Rattle.echo_placing.specs.Publishing.{IsApartFrom}
-use Rattle.echo_placing.specs.declared.outgoing.Outgoing.{Outgoing}
-use Rattle.echo_placing.proofs.Packets.{nobody}
-use Rattle.echo_station_files.specs.Paths.{path_beside}
-use Rattle.echo_station_files.proofs.BesidePaths.{beside_other}
+use Rattle.disk_io.specs.Fixed.{AreBytes}
+use Rattle.disk_io.specs.Disk.{DiskState, Files, IsIn}
+use Rattle.model_steps.specs.PacketFiles.{PacketFile}
+use Rattle.disk_atomic.specs.Naming.{HasItsPath, StandsWhole as outgoing_whole}
+use Rattle.disk_atomic.specs.Outgoing.{AreApart, ArePlaced, IsBesideOne, IsOfOne}
+use Rattle.disk_atomic.specs.Outgoing as outgoing
+use Rattle.disk_atomic.specs.Publishing.{IsApartFrom}
+use Rattle.disk_atomic.specs.declared.outgoing.Outgoing.{Outgoing}
+use Rattle.disk_atomic.proofs.Packets.{nobody}
+use Rattle.station.specs.Paths.{path_beside}
+use Rattle.station.proofs.BesidePaths.{beside_other}
 use Rattle.station_scan.specs.declared.sending.TwoPaths.{TwoPaths}
 use Rattle.station_scan.specs.Publishing.{IsFreeIn}
 use Rattle.station_scan.specs.Sending.{AreSent, HasBytes, HaveOtherPaths, IsAtItsPath, IsFreeAt, IsGoneBeside, IsNameByte, IsOffOwn, StandsWhole, file_paths}

@@ -4,13 +4,13 @@ use Rattle.std.specs.Prelude.{All, Contains}
 use Rattle.std.proofs.lemmas.Bool.{cases_lt}
 use Rattle.std.proofs.lemmas.List.{get_or_default}
 use Rattle.std.proofs.lemmas.List.Elements.{All-contains, Contains-get_or}
-use Rattle.echo_disk.specs.Disk.{DiskState}
-use Rattle.echo_placing.specs.Changes.{ChangesOnly, DifferAt, HasOnDisk}
-use Rattle.echo_placing.specs.Outgoing.{ArePlaced, IsAtStaging, IsStaged}
-use Rattle.echo_placing.specs.Trying.{Tries, WasTried}
-use Rattle.echo_placing.specs.declared.outgoing.Outgoing.{Outgoing}
-use Rattle.echo_placing.proofs.Changes.{stays_on_disk, wider}
-use Rattle.echo_placing.proofs.Packets.{path_not_beside}
+use Rattle.disk_io.specs.Disk.{DiskState}
+use Rattle.disk_atomic.specs.Changes.{ChangesOnly, DifferAt, HasOnDisk}
+use Rattle.disk_atomic.specs.Outgoing.{ArePlaced, IsAtStaging, IsStaged}
+use Rattle.disk_atomic.specs.Trying.{Tries, WasTried}
+use Rattle.disk_atomic.specs.declared.outgoing.Outgoing.{Outgoing}
+use Rattle.disk_atomic.proofs.Changes.{stays_on_disk, wider}
+use Rattle.disk_atomic.proofs.Packets.{path_not_beside}
 use Rattle.station_scan.specs.Publishing.{IsTrial}
 
 -- it was tried after a run at these paths

@@ -1,18 +1,18 @@
 -- What is so of a disk once nothing more has changed, and before.
 use Rattle.std.proofs.Common.{inl, inr, ⊎_elim, ◌∙◌, ℕ, List, get_or, refl, subst, sym}
 use Rattle.std.specs.Prelude.{All, Bool, Err, IfErr, IfOk, Ok, OnOk, Result}
-use Rattle.echo_disk.specs.Disk.{DiskState, Files}
-use Rattle.echo_disk.specs.Runs.{ChangesNothing, LeavesOnly, OneStepOn}
-use Rattle.echo_disk.proofs.Moments.{then_nothing, then_run, weaker_run}
-use Rattle.echo_placing.specs.Changes.{HasOnDisk}
-use Rattle.echo_placing.specs.Finishing.{FinishesEach, IsOfLeft, IsOver}
-use Rattle.echo_placing.specs.Naming.{HasItsPath, NamesEach}
-use Rattle.echo_placing.specs.Outgoing.{IsStaged}
-use Rattle.echo_placing.specs.declared.finishing.Left.{Left}
-use Rattle.echo_placing.specs.declared.outgoing.Outgoing.{Outgoing}
-use Rattle.echo_placing.specs.declared.placing_error.PlacingError.{PlacingError}
-use Rattle.echo_placing.proofs.Changes.{left_there, only_nothing, then_only}
-use Rattle.echo_placing.proofs.Ended.{quiet_then}
+use Rattle.disk_io.specs.Disk.{DiskState, Files}
+use Rattle.disk_io.specs.Runs.{ChangesNothing, LeavesOnly, OneStepOn}
+use Rattle.disk_io.proofs.Moments.{then_nothing, then_run, weaker_run}
+use Rattle.disk_atomic.specs.Changes.{HasOnDisk}
+use Rattle.disk_atomic.specs.Finishing.{FinishesEach, IsOfLeft, IsOver}
+use Rattle.disk_atomic.specs.Naming.{HasItsPath, NamesEach}
+use Rattle.disk_atomic.specs.Outgoing.{IsStaged}
+use Rattle.disk_atomic.specs.declared.finishing.Left.{Left}
+use Rattle.disk_atomic.specs.declared.outgoing.Outgoing.{Outgoing}
+use Rattle.disk_atomic.specs.declared.placing_error.PlacingError.{PlacingError}
+use Rattle.disk_atomic.proofs.Changes.{left_there, only_nothing, then_only}
+use Rattle.disk_atomic.proofs.Ended.{quiet_then}
 use Rattle.station_scan.specs.Left.{AreAllLeft, EndsLeft, IsEndedAt, IsLeftOf}
 use Rattle.station_scan.specs.Publishing.{AreStaged, NoneStays}
 use Rattle.station_scan.specs.declared.unpublished.Unpublished.{Unpublished}

@@ -1,7 +1,7 @@
 -- The disk of a store is used beneath it.
 use Rattle.std.specs.Prelude.{ℕ, List}
-use Rattle.echo_placing.specs.Changes.{ChangesOnly}
-use Rattle.echo_store.specs.Store.{IsSameStore, StoreState}
+use Rattle.disk_atomic.specs.Changes.{ChangesOnly}
+use Rattle.base_store.specs.Store.{IsSameStore, StoreState}
 use Rattle.station.specs.Beneath.{AreSettledByOwn, HoldsAsBefore}
 
 -- The disk was used at these paths, none of which is the store's own: the store holds what it held.

@@ -1,10 +1,10 @@
 -- Packets that go to paths of their own.
 use Rattle.std.specs.Prelude.{◌≡◌, ◌⊎◌, ℕ, List, All, AllPairs, map}
-use Rattle.echo_disk.specs.Disk.{Files}
-use Rattle.echo_placing.specs.declared.outgoing.Outgoing.{Outgoing}
-use Rattle.echo_placing.specs.declared.placing_error.PlacingError.TheVariants.{Memory, Taken}
-use Rattle.echo_station_files.specs.Paths.{path_beside}
-use Rattle.echo_steps.specs.PacketFiles.{PacketFile}
+use Rattle.disk_io.specs.Disk.{Files}
+use Rattle.disk_atomic.specs.declared.outgoing.Outgoing.{Outgoing}
+use Rattle.disk_atomic.specs.declared.placing_error.PlacingError.TheVariants.{Memory, Taken}
+use Rattle.station.specs.Paths.{path_beside}
+use Rattle.model_steps.specs.PacketFiles.{PacketFile}
 use Rattle.station_scan.specs.Sending.{AreSent, HaveOtherPaths, IsFreeAt, IsNamed, IsOffOwn, file_paths}
 use Rattle.station_scan.specs.declared.unpublished.Unpublished.{Unpublished}
 use Rattle.station_scan.specs.declared.unpublished.Unpublished.TheVariants.{Packets}

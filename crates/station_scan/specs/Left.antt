@@ -1,12 +1,12 @@
 -- What earlier scans left is brought to its end.
 use Rattle.std.specs.Prelude.{◌≡◌, ◌≢◌, ◌⊎◌, ◌<◌, ◌≤◌, ℕ, List, [], ◌∷◌, ◌++◌, length, get_or, All, AllPairs, Contains, IsSome, None, OnOk, Result}
-use Rattle.echo_disk.specs.Disk.{DiskState, Files}
-use Rattle.echo_disk.specs.Runs.{LeavesOnly, OneStepOn}
-use Rattle.echo_placing.specs.Changes.{ChangesOnly}
-use Rattle.echo_placing.specs.Finishing.{FinishesEach, IsOfLeft, IsOver}
-use Rattle.echo_placing.specs.declared.finishing.Left.{Left}
-use Rattle.echo_placing.specs.declared.placing_error.PlacingError.{PlacingError}
-use Rattle.echo_station_files.specs.Paths.{path_beside}
+use Rattle.disk_io.specs.Disk.{DiskState, Files}
+use Rattle.disk_io.specs.Runs.{LeavesOnly, OneStepOn}
+use Rattle.disk_atomic.specs.Changes.{ChangesOnly}
+use Rattle.disk_atomic.specs.Finishing.{FinishesEach, IsOfLeft, IsOver}
+use Rattle.disk_atomic.specs.declared.finishing.Left.{Left}
+use Rattle.disk_atomic.specs.declared.placing_error.PlacingError.{PlacingError}
+use Rattle.station.specs.Paths.{path_beside}
 use Rattle.station_scan.specs.declared.listing.LeftPacket.{LeftPacket}
 use Rattle.station_scan.specs.declared.finding.LeftPaths.{LeftPaths}
 use Rattle.station_scan.specs.Listing.{IsNumbered, StandsBeside}

@@ -1,7 +1,7 @@
 -- What earlier scans left beside the names of packets.
 use Rattle.std.specs.Prelude.{◌≡◌, ℕ, List, ◌++◌, All, Contains, codes, decimal, IsSome}
-use Rattle.echo_disk.specs.Disk.{Files}
-use Rattle.echo_station_files.specs.Paths.{path_beside}
+use Rattle.disk_io.specs.Disk.{Files}
+use Rattle.station.specs.Paths.{path_beside}
 use Rattle.station_scan.specs.declared.listing.LeftPacket.{LeftPacket}
 use Rattle.station_scan.specs.Sending.{IsNameByte}
 

@@ -1,21 +1,21 @@
 -- Packets and the commit of a store.
 use Rattle.std.specs.Prelude.{◌≡◌, ◌≤◌, ◌⊎◌, ℕ, List, length, Bool, true, false, All, None, Result, Ok, Err, IsErrOf}
-use Rattle.echo_base.specs.Base.{Base}
-use Rattle.echo_device.specs.Device.{Failed}
-use Rattle.echo_disk.specs.Disk.{DiskState, Files, Honestly, IsIn}
-use Rattle.echo_disk.specs.declared.disk_error.DiskError.{DiskError}
-use Rattle.echo_disk.specs.declared.disk_error.DiskError.TheVariants as disk_error
-use Rattle.echo_disk.specs.Runs.{KeepsAlone, KeepsFlushed, KeepsNamed, LeavesOnly, OneStepOn}
-use Rattle.echo_placing.specs.Changes.{DifferAt}
-use Rattle.echo_placing.specs.Naming.{HasItsPath, StandsWhole}
-use Rattle.echo_placing.specs.Outgoing.{ArePlaced, IsAtStaging, IsFilled, IsFree, IsGoneBeside, IsOfOne, IsStaged, SendsBytes}
-use Rattle.echo_placing.specs.Publishing.{IsApartFrom, placing_cause}
-use Rattle.echo_placing.specs.Trying.{WasTried}
-use Rattle.echo_placing.specs.declared.outgoing.Outgoing.{Outgoing}
-use Rattle.echo_placing.specs.declared.placing_error.PlacingError.TheVariants as placing
-use Rattle.echo_store.specs.Store.{Commits, IsSameStore, StoreState}
-use Rattle.echo_store.specs.declared.store_error.StoreError.{StoreError}
-use Rattle.echo_store.specs.declared.store_error.StoreError.TheVariants as store
+use Rattle.base_file.specs.Base.{Base}
+use Rattle.disk_io.specs.Device.{Failed}
+use Rattle.disk_io.specs.Disk.{DiskState, Files, Honestly, IsIn}
+use Rattle.disk_io.specs.declared.disk_error.DiskError.{DiskError}
+use Rattle.disk_io.specs.declared.disk_error.DiskError.TheVariants as disk_error
+use Rattle.disk_io.specs.Runs.{KeepsAlone, KeepsFlushed, KeepsNamed, LeavesOnly, OneStepOn}
+use Rattle.disk_atomic.specs.Changes.{DifferAt}
+use Rattle.disk_atomic.specs.Naming.{HasItsPath, StandsWhole}
+use Rattle.disk_atomic.specs.Outgoing.{ArePlaced, IsAtStaging, IsFilled, IsFree, IsGoneBeside, IsOfOne, IsStaged, SendsBytes}
+use Rattle.disk_atomic.specs.Publishing.{IsApartFrom, placing_cause}
+use Rattle.disk_atomic.specs.Trying.{WasTried}
+use Rattle.disk_atomic.specs.declared.outgoing.Outgoing.{Outgoing}
+use Rattle.disk_atomic.specs.declared.placing_error.PlacingError.TheVariants as placing
+use Rattle.base_store.specs.Store.{Commits, IsSameStore, StoreState}
+use Rattle.base_store.specs.declared.store_error.StoreError.{StoreError}
+use Rattle.base_store.specs.declared.store_error.StoreError.TheVariants as store
 use Rattle.station.specs.Beneath.{HoldsAsBefore}
 use Rattle.station_scan.specs.declared.unpublished.Unpublished.{Unpublished}
 use Rattle.station_scan.specs.declared.unpublished.Unpublished.TheVariants.{Base as OfBase, Beside, Packets}

@@ -1,22 +1,22 @@
 -- A scan is run on a station.
 use Rattle.std.specs.Prelude.{◌≡◌, ◌⊎◌, ◌<◌, ℕ, List, Result, Ok, Err, All, IfErr, IsErrOf, OnOk}
-use Rattle.echo_base.specs.Base.{Base}
-use Rattle.echo_disk.specs.Disk.{DiskState, Files}
-use Rattle.echo_disk.specs.Runs.{ChangesNothing, LeavesOnly, OneStepOn}
+use Rattle.base_file.specs.Base.{Base}
+use Rattle.disk_io.specs.Disk.{DiskState, Files}
+use Rattle.disk_io.specs.Runs.{ChangesNothing, LeavesOnly, OneStepOn}
 use Rattle.echo_links.specs.Links.{LinkFile}
-use Rattle.echo_placing.specs.Changes.{DifferAt}
-use Rattle.echo_placing.specs.Finishing.{FinishesEach, IsOfLeft}
-use Rattle.echo_placing.specs.declared.finishing.Left.{Left}
-use Rattle.echo_station_files.specs.Paths.{dotted}
-use Rattle.echo_status.specs.declared.fault.Fault.{Fault}
-use Rattle.echo_status.specs.Devices.{Output}
-use Rattle.echo_steps.specs.PacketFiles.{PacketFile}
-use Rattle.echo_steps.specs.declared.stamp.Stamp.{Stamp}
-use Rattle.echo_store.specs.Store.{StoreState, all_scanned}
-use Rattle.echo_store.specs.declared.store_error.StoreError.TheVariants.{Damaged, Device}
-use Rattle.echo_store_changing.specs.Scanned.{ScansOn}
-use Rattle.echo_store_changing.specs.declared.stop.Stop.{Stop}
-use Rattle.echo_store_changing.specs.declared.stop.Stop.TheVariants.{Store}
+use Rattle.disk_atomic.specs.Changes.{DifferAt}
+use Rattle.disk_atomic.specs.Finishing.{FinishesEach, IsOfLeft}
+use Rattle.disk_atomic.specs.declared.finishing.Left.{Left}
+use Rattle.station.specs.Paths.{dotted}
+use Rattle.cmd_status.specs.declared.fault.Fault.{Fault}
+use Rattle.cmd_status.specs.Devices.{Output}
+use Rattle.model_steps.specs.PacketFiles.{PacketFile}
+use Rattle.model_steps.specs.declared.stamp.Stamp.{Stamp}
+use Rattle.base_store.specs.Store.{StoreState, all_scanned}
+use Rattle.base_store.specs.declared.store_error.StoreError.TheVariants.{Damaged, Device}
+use Rattle.cmd_store.specs.Scanned.{ScansOn}
+use Rattle.cmd_store.specs.declared.stop.Stop.{Stop}
+use Rattle.cmd_store.specs.declared.stop.Stop.TheVariants.{Store}
 use Rattle.echo_toss.specs.PacketsIn.{state_in}
 use Rattle.station.specs.Place.{Place, StandsOrWasLeft}
 use Rattle.station.specs.Running.{IsNotRun, IsStopped, StandsAsBefore}

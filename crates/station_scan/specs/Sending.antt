@@ -1,11 +1,11 @@
 -- The packets of a scan, on their way to their paths.
 use Rattle.std.specs.Prelude.{◌≡◌, ◌≢◌, ◌⊎◌, ◌<◌, ℕ, List, [], ◌++◌, length, get_or, All, Contains, Some, None}
-use Rattle.echo_device.specs.Fixed.{AreBytes}
-use Rattle.echo_disk.specs.Disk.{DiskState, Files}
-use Rattle.echo_steps.specs.PacketFiles.{PacketFile}
-use Rattle.echo_placing.specs.Changes.{HasOnDisk}
-use Rattle.echo_placing.specs.declared.outgoing.Outgoing.{Outgoing}
-use Rattle.echo_station_files.specs.Paths.{path_beside}
+use Rattle.disk_io.specs.Fixed.{AreBytes}
+use Rattle.disk_io.specs.Disk.{DiskState, Files}
+use Rattle.model_steps.specs.PacketFiles.{PacketFile}
+use Rattle.disk_atomic.specs.Changes.{HasOnDisk}
+use Rattle.disk_atomic.specs.declared.outgoing.Outgoing.{Outgoing}
+use Rattle.station.specs.Paths.{path_beside}
 use Rattle.station_scan.specs.declared.sending.TwoPaths.{TwoPaths}
 
 -- a byte of a packet's name: no slash, and no tilde, which stands in what is beside a name

@@ -1,14 +1,14 @@
 -- The packets of a scan and the commit of a store.
 use Rattle.std.specs.Prelude.{◌≡◌, ◌⊎◌, ℕ, List, length, All, Result, IsErrOf}
-use Rattle.echo_base.specs.Base.{Base}
-use Rattle.echo_disk.specs.Disk.{DiskState, Files, Honestly}
-use Rattle.echo_disk.specs.Runs.{LeavesOnly, OneStepOn}
-use Rattle.echo_placing.specs.Changes.{DifferAt}
-use Rattle.echo_placing.specs.Trying.{WasTried}
-use Rattle.echo_placing.specs.declared.placing_error.PlacingError.TheVariants as placing
-use Rattle.echo_station_files.specs.Paths.{path_beside}
-use Rattle.echo_steps.specs.PacketFiles.{PacketFile}
-use Rattle.echo_store.specs.Store.{Commits, StoreState}
+use Rattle.base_file.specs.Base.{Base}
+use Rattle.disk_io.specs.Disk.{DiskState, Files, Honestly}
+use Rattle.disk_io.specs.Runs.{LeavesOnly, OneStepOn}
+use Rattle.disk_atomic.specs.Changes.{DifferAt}
+use Rattle.disk_atomic.specs.Trying.{WasTried}
+use Rattle.disk_atomic.specs.declared.placing_error.PlacingError.TheVariants as placing
+use Rattle.station.specs.Paths.{path_beside}
+use Rattle.model_steps.specs.PacketFiles.{PacketFile}
+use Rattle.base_store.specs.Store.{Commits, StoreState}
 use Rattle.station_scan.specs.Fitting.{AreTaken}
 use Rattle.station_scan.specs.Left.{IsOfNameOff}
 use Rattle.station_scan.specs.Publishing.{HasPublishCause, IsOnDisk}

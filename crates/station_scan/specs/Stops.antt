@@ -1,10 +1,10 @@
 -- Why a scan stopped.
 use Rattle.std.specs.Prelude.{ℕ, Result, Ok, Err}
-use Rattle.echo_disk.specs.declared.disk_error.DiskError.TheVariants as disk
-use Rattle.echo_placing.specs.declared.placing_error.PlacingError.TheVariants as placing
-use Rattle.echo_store.specs.declared.store_error.StoreError.TheVariants as store
-use Rattle.echo_store_changing.specs.declared.stop.Stop.{Stop}
-use Rattle.echo_store_changing.specs.declared.stop.Stop.TheVariants.{Met, Store}
+use Rattle.disk_io.specs.declared.disk_error.DiskError.TheVariants as disk
+use Rattle.disk_atomic.specs.declared.placing_error.PlacingError.TheVariants as placing
+use Rattle.base_store.specs.declared.store_error.StoreError.TheVariants as store
+use Rattle.cmd_store.specs.declared.stop.Stop.{Stop}
+use Rattle.cmd_store.specs.declared.stop.Stop.TheVariants.{Met, Store}
 use Rattle.station_scan.specs.declared.scan_stop.ScanStop.{ScanStop}
 use Rattle.station_scan.specs.declared.scan_stop.ScanStop.TheVariants.{Command, Placing, Staying, TooFar}
 use Rattle.station_scan.specs.declared.unpublished.Unpublished.{Unpublished}

@@ -1,11 +1,11 @@
-//! What is done on the disk of a store, beneath it.
+//! Parts of a scan on the disk that a store uses.
 ghost use Rattle.std.specs.Prelude.{◌≡◌, ◌≢◌, ◌≤◌, ◌⊎◌, ℕ, List, true, false, All, IfErr, IfOk, IsErrOf};
-ghost use Rattle.echo_device.specs.Device.{Failed};
-ghost use Rattle.echo_disk.specs.Disk.{Honestly};
-ghost use Rattle.echo_disk.specs.Runs.{HasCause, LeavesOnly, OneStepOn};
-ghost use Rattle.echo_placing.specs.Naming.{HasItsPath, NamesEach};
-ghost use Rattle.echo_placing.specs.Outgoing.{ArePlaced, IsAtStaging, IsFree, IsOfOne, IsStaged};
-ghost use Rattle.echo_placing.specs.Publishing.{IsApartFrom};
+ghost use Rattle.disk_io.specs.Device.{Failed};
+ghost use Rattle.disk_io.specs.Disk.{Honestly};
+ghost use Rattle.disk_io.specs.Runs.{HasCause, LeavesOnly, OneStepOn};
+ghost use Rattle.disk_atomic.specs.Naming.{HasItsPath, NamesEach};
+ghost use Rattle.disk_atomic.specs.Outgoing.{ArePlaced, IsAtStaging, IsFree, IsOfOne, IsStaged};
+ghost use Rattle.disk_atomic.specs.Publishing.{IsApartFrom};
 ghost use Rattle.station_scan.specs.Beneath.{IsUsedAt};
 ghost use Rattle.station_scan.specs.Left.{AreFreeLeft, EndsLeft, IsOfNameOff};
 ghost use Rattle.station_scan.specs.Publishing.{AreGoing, AreStaged, HasStageCause, IsTriedWith, NoneStays};
@@ -15,20 +15,20 @@ use crate::listing::Listing;
 use crate::sending::Sending;
 use crate::staging::stage_or_drop;
 use crate::unpublished::Unpublished;
-use echo_disk::{Disk, DiskError};
-use echo_placing::{Outgoing, PlacingError, name_packets};
-use echo_store::Store;
+use base_store::Store;
+use disk_atomic::{Outgoing, PlacingError, name_packets};
+use disk_io::{Disk, DiskError};
 use station::{LendStation, OwnPaths};
 use std::alloc::Global;
 
-/// A store after a part of a scan, and what that part answered.
+/// A store after a part of a scan, and the answer of that part.
 #[derive(Drop)]
 pub struct Used<S, A> {
     pub store: S,
     pub done: A,
 }
 
-/// Writes each packet beside its path, and tries whether files there get second paths.
+/// Writes each packet into its staging file, and tries whether files there can get a second path.
 pub(crate) fn stage_on<'a, D: Disk, P: LendStation<'a, D>>(
     alloc: Global,
     store: P::Kept,
@@ -52,7 +52,7 @@ pub(crate) fn stage_on<'a, D: Disk, P: LendStation<'a, D>>(
     Used { store, done }
 }
 
-/// Gives each packet its path, and answers whether all have theirs.
+/// Gives each packet its path, and returns whether all have theirs.
 pub(crate) fn name_on<'a, D: Disk, P: LendStation<'a, D>>(
     alloc: Global,
     store: P::Kept,
@@ -76,7 +76,7 @@ pub(crate) fn name_on<'a, D: Disk, P: LendStation<'a, D>>(
     Used { store, done }
 }
 
-/// Brings what earlier scans left to its end, by the cursor of the base that was committed.
+/// Names or removes the packets that earlier scans left, by the cursor of the committed base.
 pub(crate) fn finish_on<'a, D: Disk, P: LendStation<'a, D>, G: Listing>(
     alloc: Global,
     store: P::Kept,

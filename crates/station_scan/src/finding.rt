@@ -1,18 +1,18 @@
 //! Which packets earlier scans left.
 ghost use Rattle.std.specs.Prelude.{◌≡◌, ◌≤◌, true, false, All, Contains, IfOk, IfSome, OnOk, None};
-ghost use Rattle.echo_disk.specs.Disk.{Honestly};
-ghost use Rattle.echo_disk.specs.Runs.{ChangesNothing, HasCause};
+ghost use Rattle.disk_io.specs.Disk.{Honestly};
+ghost use Rattle.disk_io.specs.Runs.{ChangesNothing, HasCause};
 ghost use Rattle.station_scan.specs.declared.finding.LeftPaths.{LeftPaths};
 ghost use Rattle.station_scan.specs.Left.{Adds, AreFound, HaveOtherLeft, IsBesideThere, IsFoundAs, IsFoundWhere, IsToFind};
 
 use crate::fitting::{differ, is_name, is_off_own};
 use crate::listing::LeftPacket;
 use crate::sending::{TwoPaths, two_paths};
-use echo_disk::{Disk, DiskError};
+use disk_io::{Disk, DiskError};
 use station::OwnPaths;
 use std::alloc::Global;
 
-/// A packet that stands beside its name: its two paths, and how many messages were scanned before.
+/// A packet in a staging file: its two paths, and how many messages were scanned before.
 #[derive(Drop)]
 pub(crate) struct LeftPaths {
     pub two: TwoPaths,
@@ -32,7 +32,7 @@ fn is_another(one: &LeftPaths, others: &[LeftPaths]) -> bool
     true
 }
 
-// The packet that was listed, where a file stands beside it and neither of its paths is the station's own.
+// The listed packet, if its staging file exists and neither of its paths belongs to the station.
 fn found_of<D: Disk, O: OwnPaths>(
     alloc: Global,
     disk: &mut D,
@@ -61,7 +61,7 @@ fn found_of<D: Disk, O: OwnPaths>(
     }))
 }
 
-// Adds that, where none of those so far has its path.
+// Adds that packet, if none so far has its path.
 fn add_found<D: Disk, O: OwnPaths>(
     alloc: Global,
     disk: &mut D,
@@ -87,7 +87,7 @@ fn add_found<D: Disk, O: OwnPaths>(
     Ok(())
 }
 
-/// Those of the packets that were listed beside which files stand, once each.
+/// Those of the listed packets whose staging files exist, once each.
 pub(crate) fn find_left<D: Disk, O: OwnPaths>(
     alloc: Global,
     disk: &mut D,

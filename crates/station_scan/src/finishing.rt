@@ -1,17 +1,17 @@
-//! What earlier scans left is brought to its end.
+//! The packets that earlier scans left are named or removed.
 ghost use Rattle.std.specs.Prelude.{◌≡◌, ◌≢◌, ◌≤◌, ◌⊎◌, List, All, IfOk, IsErrOf};
-ghost use Rattle.echo_device.specs.Device.{Failed};
-ghost use Rattle.echo_disk.specs.Disk.{Honestly};
-ghost use Rattle.echo_placing.specs.Changes.{ChangesOnly};
-ghost use Rattle.echo_placing.specs.Finishing.{AreLeftIn};
-ghost use Rattle.echo_placing.specs.Publishing.{HasPlacingCause};
-ghost use Rattle.echo_placing.specs.declared.finishing.Left.{Left};
+ghost use Rattle.disk_io.specs.Device.{Failed};
+ghost use Rattle.disk_io.specs.Disk.{Honestly};
+ghost use Rattle.disk_atomic.specs.Changes.{ChangesOnly};
+ghost use Rattle.disk_atomic.specs.Finishing.{AreLeftIn};
+ghost use Rattle.disk_atomic.specs.Publishing.{HasPlacingCause};
+ghost use Rattle.disk_atomic.specs.declared.finishing.Left.{Left};
 ghost use Rattle.station_scan.specs.Left.{AreFreeLeft, AreLent, EndsLeft, EndsThese, IsBesideThere, IsFreeFound, IsOfNameOff, IsOfPaths};
 
 use crate::finding::{LeftPaths, find_left};
 use crate::listing::Listing;
-use echo_disk::{Disk, sync_folder_of};
-use echo_placing::{Left, PlacingError, finish_stopped};
+use disk_atomic::{Left, PlacingError, finish_stopped};
+use disk_io::{Disk, sync_folder_of};
 use station::OwnPaths;
 use std::alloc::{AllocError, Global};
 
@@ -31,7 +31,7 @@ fn lend<'a>(alloc: Global, paths: &'a [LeftPaths]) -> Result<Vec<Left<'a>>, Allo
     Ok(found)
 }
 
-// Brings the packets with these paths to their end.
+// Names or removes the packets with these paths.
 fn end_these<D: Disk>(
     alloc: Global,
     disk: &mut D,
@@ -50,13 +50,13 @@ fn end_these<D: Disk>(
     if !finish_stopped(alloc, disk, folder, &found, cursor)? {
         return Err(PlacingError::Taken);
     }
-    // What is gone is to be gone on the disk.
+    // The removals are synced.
     sync_folder_of(disk, folder)?;
     Ok(())
 }
 
-/// Brings what earlier scans left beside names to its end, by the cursor of the base, which is on the disk. What is of the
-/// station's own files is no packet.
+/// Names or removes the packets that earlier scans left in staging files, by the cursor of the base, which is synced.
+/// The station's own files are no packets.
 pub(crate) fn finish_left<D: Disk, O: OwnPaths, G: Listing>(
     alloc: Global,
     disk: &mut D,

@@ -1,11 +1,11 @@
-//! Whether packets go to paths of their own.
+//! Whether packets go to paths that nothing else uses.
 ghost use Rattle.std.specs.Prelude.{◌≡◌, ◌≢◌, true, false, All, AllPairs, map};
-ghost use Rattle.echo_station_files.specs.Paths.{path_beside};
+ghost use Rattle.station.specs.Paths.{path_beside};
 ghost use Rattle.station_scan.specs.Fitting.{AreFit};
 ghost use Rattle.station_scan.specs.Sending.{HaveOtherPaths, IsNameByte, IsNamed, IsOffOwn, file_paths};
 
 use crate::sending::{Sending, TwoPaths};
-use echo_steps::PacketFile;
+use model_steps::PacketFile;
 use station::OwnPaths;
 
 /// Whether it may be a packet's name: no byte of it is a slash or a tilde.
@@ -33,7 +33,7 @@ fn is_named(file: &PacketFile) -> bool
     is_name(name)
 }
 
-// Whether each has.
+// Whether each file has such a name.
 fn are_named(files: &[PacketFile]) -> bool
     ensures yes { result ≡ true → All IsNamed files.now }
     ensures no { result ≡ false → All IsNamed files.now → ⊥ }
@@ -46,7 +46,7 @@ fn are_named(files: &[PacketFile]) -> bool
     true
 }
 
-/// Whether two paths are not the same.
+/// Whether two paths differ.
 pub(crate) fn differ(one: &[u8], other: &[u8]) -> bool
     ensures yes { result ≡ true → one.now ≢ other.now }
     ensures no { result ≡ false → one.now ≡ other.now }
@@ -80,7 +80,7 @@ fn all_differ(paths: &[TwoPaths]) -> bool
     true
 }
 
-/// Whether neither path is of the station's own files.
+/// Whether neither path belongs to the station.
 pub(crate) fn is_off_own<O: OwnPaths>(own: &O, two: &TwoPaths) -> bool
     ensures yes { result ≡ true → IsOffOwn (O.is_own own.now) two.now }
     ensures no { result ≡ false → IsOffOwn (O.is_own own.now) two.now → ⊥ }
@@ -88,7 +88,7 @@ pub(crate) fn is_off_own<O: OwnPaths>(own: &O, two: &TwoPaths) -> bool
     !own.owns(two.path.as_slice()) && !own.owns(two.beside.as_slice())
 }
 
-// Whether that is so of each.
+// Whether that holds for each.
 fn are_off_own<O: OwnPaths>(own: &O, paths: &[TwoPaths]) -> bool
     ensures yes { result ≡ true → All (IsOffOwn (O.is_own own.now)) paths.now }
     ensures no { result ≡ false → All (IsOffOwn (O.is_own own.now)) paths.now → ⊥ }
@@ -101,8 +101,8 @@ fn are_off_own<O: OwnPaths>(own: &O, paths: &[TwoPaths]) -> bool
     true
 }
 
-/// Whether each file goes to two paths of its own, which are these, and neither they nor the path that is tried are of the
-/// station's own files.
+/// Whether each file goes to two paths that no other file uses. Neither they nor the tried path may belong to the
+/// station.
 pub(crate) fn are_fit<O: OwnPaths>(
     own: &O,
     sending: Sending<'_>,

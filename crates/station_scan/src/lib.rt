@@ -1,16 +1,17 @@
-//! The command `scan` on a station, whatever its base is kept in: what earlier scans left is brought to its end, and its packets
-//! and its base are put on the disk together, whatever a crash leaves.
+//! The command `scan` on a station, whatever its base is kept in. It names or removes what earlier scans left. Then
+//! it writes its packets and its base together, whatever a crash leaves.
 //!
-//! The contract for the program: while the locks of the station are held, the scan is run with what the link file says that the
-//! disk shows, on the base for which the station's files stand. Where it ends well, what earlier scans left is at its end, each
-//! packet that the scan made stands at its path, with just its bytes, and each crash leaves that base with the cursor at its end.
-//! A crash at any moment leaves the base from before and no packet of this scan at its path, or that one and each packet whole.
+//! The contract for the program: the scan holds the locks of the station. It uses the link file as the disk shows it,
+//! and the base that the station's files hold. If it ends well, nothing of earlier scans is left. Each packet of the
+//! scan is at its path, with just its bytes, and each later crash leaves the base with the cursor at its end. A crash
+//! during the scan leaves the base from before and no packet of this scan at its path, or the new base and each
+//! packet whole.
 //!
-//! Modules in reading order: `sending` (the packets, each with its two paths), `fitting` (whether these are paths of their own),
-//! `listing` (one who lists what was left), `finding` and `finishing` (that is brought to its end), `unpublished`, `staging`
-//! (packets before a commit), `beneath` (what is done on the disk of a store), `publishing` (packets and commit), `scan_stop`,
-//! `outgoing` (what was left, and then these), `watching` (one who is told how far it is), `taking` (the packets of what waits),
-//! `putting` and `scanning`.
+//! Modules in reading order: `sending` (the packets, each with its two paths), `fitting` (whether nothing else uses
+//! these paths), `listing` (lists what earlier scans left), `finding` and `finishing` (that is named or removed),
+//! `unpublished` (errors), `staging` (packets before a commit), `beneath` (work on the disk of a store), `publishing`
+//! (packets and commit), `scan_stop`, `outgoing` (earlier packets, then these), `watching` (progress), `taking` (the
+//! packets of the waiting messages), `putting` and `scanning`.
 #![tactic(auto)]
 
 mod beneath;

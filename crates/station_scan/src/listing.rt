@@ -1,30 +1,29 @@
-//! One who lists what earlier scans left.
+//! Lists the packets that earlier scans left.
 ghost use Rattle.std.specs.Prelude.{ℕ, IfOk};
-ghost use Rattle.echo_disk.specs.Disk.{Files};
-ghost use Rattle.echo_disk.specs.Runs.{HasCause};
+ghost use Rattle.disk_io.specs.Disk.{Files};
+ghost use Rattle.disk_io.specs.Runs.{HasCause};
 ghost use Rattle.station_scan.specs.Listing.{AreListed};
 
+use disk_io::DiskError;
 use echo_addr::Items;
-use echo_disk::DiskError;
 use std::alloc::Global;
 
-/// A packet that an earlier scan left beside its name: that name, and how many messages were scanned before.
+/// A packet that an earlier scan left in a staging file: its name, and how many messages were scanned before.
 #[derive(Debug, Drop)]
 pub struct LeftPacket {
     pub name: Items<u8>,
     pub before: u32,
 }
 
-/// One who lists what stands beside the names of packets.
+/// Lists the staging files of packets.
 pub trait Listing {
-    // What it told was so of these files.
+    // What it reported was true of these files.
     ghost is_true: { Self → Files → Type 0 };
 
     // How often the device failed: a count that stays at 2^64 - 1.
     ghost failures: { Self → ℕ };
 
-    /// The packets that the system of this own name left beside their names in the folder. A folder that is not there
-    /// has none.
+    /// The packets that the system of this own name left in staging files of the folder. A missing folder has none.
     fn left_beside(
         &mut self,
         alloc: Global,

@@ -1,11 +1,11 @@
-//! The packets of a scan go out with the commit of its store, once what earlier scans left is at its end.
+//! The packets of a scan are written with the commit of its store, after earlier packets are named or removed.
 ghost use Rattle.std.specs.Prelude.{◌≡◌, ◌≢◌, ◌≤◌, ◌⊎◌, ℕ, List, All, IfErr, IfOk, IsErrOf, OnOk, map};
-ghost use Rattle.echo_station_files.specs.Paths.{path_beside};
+ghost use Rattle.station.specs.Paths.{path_beside};
 ghost use Rattle.station.specs.Beneath.{HoldsAsBefore};
-ghost use Rattle.echo_base.specs.Base.{Base};
-ghost use Rattle.echo_device.specs.Device.{Failed};
-ghost use Rattle.echo_disk.specs.Disk.{Honestly};
-ghost use Rattle.echo_store.specs.Store.{Commits, MayCommit};
+ghost use Rattle.base_file.specs.Base.{Base};
+ghost use Rattle.disk_io.specs.Device.{Failed};
+ghost use Rattle.disk_io.specs.Disk.{Honestly};
+ghost use Rattle.base_store.specs.Store.{Commits, MayCommit};
 ghost use Rattle.station_scan.specs.Fitting.{AreFitting, IsUnfit};
 ghost use Rattle.station_scan.specs.Publishing.{HasPublishCause, KeepsStoreBut};
 ghost use Rattle.station_scan.specs.Scanning.{IsTouched, SendsOut};
@@ -20,15 +20,14 @@ use crate::publishing::publish;
 use crate::scan_stop::ScanStop;
 use crate::sending::{Sending, TwoPaths, outgoing_of, paths_of};
 use crate::unpublished::Unpublished;
-use echo_disk::Disk;
-use echo_placing::{Outgoing, PlacingError};
-use echo_station_files::path_beside;
-use echo_store::{Store, StoreError};
-use echo_store_changing::Stop;
-use station::{LendStation, OwnPaths};
+use base_store::{Store, StoreError};
+use cmd_store::Stop;
+use disk_atomic::{Outgoing, PlacingError};
+use disk_io::Disk;
+use station::{LendStation, OwnPaths, path_beside};
 use std::alloc::Global;
 
-// Commits the store, where there is no packet.
+// Commits the store of a scan without packets.
 fn commit_alone<'a, D: Disk, P: LendStation<'a, D>>(
     store: P::Kept,
 ) -> Used<P::Kept, Result<(), Unpublished>>
@@ -51,7 +50,7 @@ fn commit_alone<'a, D: Disk, P: LendStation<'a, D>>(
     }
 }
 
-// The packets of these files at these paths, where each has paths of its own that are not the station's.
+// The packets of these files at these paths, if nothing else uses the paths of each and none belongs to the station.
 fn fitting_packets<'p, O: OwnPaths>(
     alloc: Global,
     paths: &O,
@@ -70,7 +69,7 @@ fn fitting_packets<'p, O: OwnPaths>(
     Ok(outgoing_of(alloc, sending.files, two)?)
 }
 
-// Puts these packets, and the commit of the store, on the disk.
+// Writes these packets, and commits the store.
 fn publish_packets<'a, D: Disk, P: LendStation<'a, D>>(
     alloc: Global,
     store: P::Kept,
@@ -116,8 +115,7 @@ fn publish_packets<'a, D: Disk, P: LendStation<'a, D>>(
     publish::<D, P>(alloc, store, sending.outbound, &trial, &packets)
 }
 
-// Puts the packets of a scan, and the commit of its store, on the disk. Where there is no packet the folder need not be
-// there.
+// Writes the packets of a scan, and commits its store. A scan without packets needs no folder.
 fn publish_files<'a, D: Disk, P: LendStation<'a, D>>(
     alloc: Global,
     store: P::Kept,
@@ -140,8 +138,8 @@ fn publish_files<'a, D: Disk, P: LendStation<'a, D>>(
     }
 }
 
-/// Brings what earlier scans left to its end, by the cursor of the base that was committed, and puts these packets and the
-/// commit of the store on the disk.
+/// Names or removes what earlier scans left, by the cursor of the committed base. Then it writes these packets and
+/// commits the store.
 pub(crate) fn send_out<'a, D: Disk, P: LendStation<'a, D>, G: Listing>(
     alloc: Global,
     store: P::Kept,
@@ -157,7 +155,7 @@ pub(crate) fn send_out<'a, D: Disk, P: LendStation<'a, D>, G: Listing>(
         → SendsOut (G.is_true listing.new (P.Kept.state store).disk.seen) (Failed (P.Kept.failures store) (P.Kept.failures result.store) ⊎ Failed (G.failures listing.old) (G.failures listing.new)) (P.Paths.is_own paths.now)
         sending.entry.outbound.now sending.entry.own.now ((P.Kept.state store).stands first) ((P.Kept.state store).stands next) cursor sending.entry.files.now (P.Kept.state store).disk (P.Kept.state result.store).disk result.done) }
 
-    // Where files of the folder get no second path nothing is committed.
+    // If files of the folder can get no second path, nothing is committed.
     ensures tried { HoldsAsBefore (P.Kept.state store) (P.Kept.state result.store) ⊎ WasTriedFor D.state (P.Paths.is_own paths.now) sending.entry.outbound.now sending.entry.own.now sending.entry.files.now (P.Kept.state store).disk }
     ensures keeps { KeepsStoreBut (IsTouched (P.Kept.state store).is_own sending.entry.outbound.now) (P.Kept.state store) (P.Kept.state result.store) }
     ensures later { P.Kept.failures store ≤ P.Kept.failures result.store }
@@ -178,7 +176,7 @@ pub(crate) fn send_out<'a, D: Disk, P: LendStation<'a, D>, G: Listing>(
     }
 }
 
-// How the scan ended, where it was published so.
+// How a scan with this publication ended.
 fn stop_done<'a>(done: Result<(), Unpublished>) -> Result<(), ScanStop<'a>>
     ensures { result ≡ scan_done done }
 {

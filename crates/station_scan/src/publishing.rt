@@ -1,23 +1,23 @@
 //! Packets and the commit of a store, together.
 ghost use Rattle.std.specs.Prelude.{◌≡◌, ◌⊎◌, All, IfErr, OnOk, IsErrOf};
-ghost use Rattle.echo_disk.specs.Disk.{Honestly};
-ghost use Rattle.echo_placing.specs.Outgoing.{ArePlaced, IsFree, IsOfOne};
-ghost use Rattle.echo_placing.specs.Publishing.{IsApartFrom};
+ghost use Rattle.disk_io.specs.Disk.{Honestly};
+ghost use Rattle.disk_atomic.specs.Outgoing.{ArePlaced, IsFree, IsOfOne};
+ghost use Rattle.disk_atomic.specs.Publishing.{IsApartFrom};
 ghost use Rattle.station.specs.Beneath.{HoldsAsBefore};
 ghost use Rattle.station_scan.specs.Publishing.{AreGoing, ArePublished, AreStaged, HasCommitCause, HasPublishCause, IsGoingAt, IsNamedAs, IsPublishedAt, IsTriedWith, KeepsStoreBut, MayCommitWith, MayPublish, StopsCommitting, StopsPublishing};
 
 use crate::beneath::{Used, name_on, stage_on};
 use crate::unpublished::Unpublished;
-use echo_disk::{Disk, DiskError};
-use echo_placing::{Outgoing, PlacingError};
-use echo_store::Store;
+use base_store::Store;
+use disk_atomic::{Outgoing, PlacingError};
+use disk_io::{Disk, DiskError};
 use station::LendStation;
 use std::alloc::Global;
 
-/// Puts packets and the commit of a store on the disk: each packet beside its path, then what the store holds, and then
-/// each packet gets its path. Where a path is taken before the commit, a packet cannot be written, or a file of the folder does
-/// not get the second path that is tried, nothing is committed, and what was written beside the paths is removed; where a path
-/// is taken in between, the packet stays beside it. No path of a packet may be one of the store's own.
+/// Writes packets and commits a store: each packet goes into its staging file, then the store commits, then each
+/// packet gets its path. Nothing is committed if a path is in use before the commit, a packet cannot be written, or a
+/// file of the folder cannot get the tried second path; then the staging files are removed. If a path becomes used in
+/// between, the packet keeps its staging file. No path of a packet may belong to the store.
 pub fn publish<'a, D: Disk, P: LendStation<'a, D>>(
     alloc: Global,
     store: P::Kept,
@@ -31,10 +31,10 @@ pub fn publish<'a, D: Disk, P: LendStation<'a, D>>(
     ensures left { Honestly (P.Kept.state result.store).disk (IfErr result.done (StopsPublishing packets.now trial.now (P.Kept.state store) (P.Kept.state result.store))) }
     ensures taken { Honestly (P.Kept.state result.store).disk (IsErrOf result.done (Unpublished.Packets PlacingError.Taken) → All (IsFree (P.Kept.state store).disk) packets.now → ⊥) }
 
-    // Where files of the folder get no second path nothing is committed.
+    // If files of the folder can get no second path, nothing is committed.
     ensures tried { HoldsAsBefore (P.Kept.state store) (P.Kept.state result.store) ⊎ IsTriedWith D.state packets.now trial.now (P.Kept.state store).disk }
 
-    // A crash at any moment leaves no commit and none of the packets at its path, or the commit and each packet whole.
+    // A crash at any time leaves no commit and none of the packets at its path, or the commit and each packet whole.
     ensures any_moment { MayPublish packets.now trial.now (P.Kept.state store) (P.Kept.state result.store) }
     ensures keeps { KeepsStoreBut (IsPublishedAt (P.Kept.state store) (IsGoingAt packets.now trial.now)) (P.Kept.state store) (P.Kept.state result.store) }
     ensures cause { HasPublishCause (P.Kept.state store) (P.Kept.state result.store) (P.Kept.failures store) (P.Kept.failures result.store) result.done }
@@ -53,7 +53,7 @@ pub fn publish<'a, D: Disk, P: LendStation<'a, D>>(
     }
 }
 
-// Commits the store, and gives each packet its path, where they stand beside their paths.
+// Commits the store, and gives each packet in a staging file its path.
 fn commit_staged<'a, D: Disk, P: LendStation<'a, D>>(
     alloc: Global,
     store: P::Kept,
@@ -84,7 +84,7 @@ fn commit_staged<'a, D: Disk, P: LendStation<'a, D>>(
     }
 }
 
-// Whether packets got their paths, as it is answered.
+// The answer for whether packets got their paths.
 fn named_done(named: Result<bool, DiskError>) -> Result<(), Unpublished>
     ensures { IsNamedAs named result }
 {

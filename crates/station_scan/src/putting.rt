@@ -1,9 +1,9 @@
-//! The packets that were taken of a store are put in place.
+//! The packets of a scan are written under their names.
 ghost use Rattle.std.specs.Prelude.{◌≡◌, ◌≤◌, ◌⊎◌, ℕ, List, IsErrOf};
-ghost use Rattle.echo_base.specs.Base.{Base};
-ghost use Rattle.echo_device.specs.Device.{Failed};
-ghost use Rattle.echo_disk.specs.Disk.{Honestly};
-ghost use Rattle.echo_station_files.specs.Paths.{dotted};
+ghost use Rattle.base_file.specs.Base.{Base};
+ghost use Rattle.disk_io.specs.Device.{Failed};
+ghost use Rattle.disk_io.specs.Disk.{Honestly};
+ghost use Rattle.station.specs.Paths.{dotted};
 ghost use Rattle.station.specs.Beneath.{HoldsAsBefore};
 ghost use Rattle.station_scan.specs.Publishing.{KeepsStoreBut};
 ghost use Rattle.station_scan.specs.Scanning.{IsTouched, SendsOut};
@@ -15,19 +15,18 @@ use crate::outgoing::send_out;
 use crate::scan_stop::ScanStop;
 use crate::scanning::Scan;
 use crate::sending::Sending;
-use echo_disk::Disk;
+use base_store::{Store, StoreError};
+use cmd_store::Stop;
+use disk_io::Disk;
 use echo_links::LinkFile;
-use echo_station_files::system_name;
-use echo_steps::PacketFile;
-use echo_store::{Store, StoreError};
-use echo_store_changing::Stop;
-use station::{LendStation, OwnPaths};
+use model_steps::PacketFile;
+use station::{LendStation, OwnPaths, system_name};
 use std::alloc::Global;
 
-/// How many scanned messages the number in a packet's name can have, as it is read again: it has four bytes.
+/// The most scanned messages that the number in a packet's name can count: it is read back as four bytes.
 const MOST: usize = 4_294_967_295;
 
-/// Puts these packets, and the commit of the store, in place. The cursor is that from before the scan.
+/// Writes these packets, and commits the store. The cursor is that from before the scan.
 pub(crate) fn put_taken<'a, 's, D: Disk, P: LendStation<'a, D>, G: Listing, T>(
     alloc: Global,
     links: &LinkFile,

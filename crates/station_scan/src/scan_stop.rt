@@ -1,20 +1,20 @@
-//! Why a scan was not put in place.
+//! Why a scan failed.
 use crate::unpublished::Unpublished;
-use echo_disk::DiskError;
-use echo_placing::PlacingError;
-use echo_store_changing::Stop;
+use cmd_store::Stop;
+use disk_atomic::PlacingError;
+use disk_io::DiskError;
 use std::alloc::AllocError;
 
-/// Why a scan was not put in place.
+/// Why a scan failed.
 #[derive(Debug, Drop)]
 pub enum ScanStop<'a> {
-    /// What the command met, or why the base was not opened, or not committed.
+    /// The command's fault, or why the base was not opened or not committed.
     Command(Stop<'a>),
-    /// What earlier scans left was not brought to its end, or the packets were not put in place.
+    /// Packets of earlier scans were not named or removed, or new packets were not written.
     Placing(PlacingError),
-    /// The packets were not put in place, and some may stay beside their paths.
+    /// The packets were not written, and some staging files may be left.
     Staying(DiskError),
-    /// More messages were scanned than the number in a packet's name can have.
+    /// More messages were scanned than the number in a packet's name can count.
     TooFar,
 }
 
@@ -47,7 +47,7 @@ impl<'a> From<PlacingError> for ScanStop<'a> {
 impl<'a> From<AllocError> for ScanStop<'a> {
     ghost use Rattle.std.specs.Prelude.{◌≡◌};
     ghost use Rattle.station_scan.specs.declared.scan_stop.ScanStop.TheVariants.{Placing};
-    ghost use Rattle.echo_placing.specs.declared.placing_error.PlacingError.TheVariants.{Memory};
+    ghost use Rattle.disk_atomic.specs.declared.placing_error.PlacingError.TheVariants.{Memory};
 
     ghost from_gives = { λ _ e. e ≡ Placing Memory };
 

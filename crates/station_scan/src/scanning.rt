@@ -1,10 +1,10 @@
 //! The command `scan` on a station.
 ghost use Rattle.std.specs.Prelude.{◌≡◌, ◌≢◌, ◌≤◌, ◌⊎◌, ◌↔◌, ℕ, List, IsErrOf, OnOk};
-ghost use Rattle.echo_base.specs.Base.{Base};
-ghost use Rattle.echo_device.specs.Device.{Failed};
-ghost use Rattle.echo_disk.specs.Disk.{Honestly};
-ghost use Rattle.echo_disk.specs.Runs.{ChangesNothing};
-ghost use Rattle.echo_status.specs.Devices.{output_of};
+ghost use Rattle.base_file.specs.Base.{Base};
+ghost use Rattle.disk_io.specs.Device.{Failed};
+ghost use Rattle.disk_io.specs.Disk.{Honestly};
+ghost use Rattle.disk_io.specs.Runs.{ChangesNothing};
+ghost use Rattle.cmd_status.specs.Devices.{output_of};
 ghost use Rattle.station.specs.Opening.{AreFree, HaveFailed};
 ghost use Rattle.station_scan.specs.Publishing.{KeepsBut, KeepsStoreBut};
 ghost use Rattle.station_scan.specs.Scanning.{IsTouched, ScansIn, ScansOnStore};
@@ -15,18 +15,16 @@ use crate::putting::put_taken;
 use crate::scan_stop::ScanStop;
 use crate::taking::{Taken, take_waiting};
 use crate::watching::Watching;
-use echo_device::Sink;
-use echo_disk::Disk;
+use base_store::{Store, StoreError};
+use cmd_store::Stop;
+use disk_io::{Disk, Sink};
 use echo_links::LinkFile;
-use echo_station_files::FileLock;
-use echo_steps::Stamp;
-use echo_store::{Store, StoreError};
-use echo_store_changing::Stop;
-use station::{BeforeCommand, LendStation, Locks, OpenStation, Opened};
+use model_steps::Stamp;
+use station::{BeforeCommand, FileLock, LendStation, Locks, OpenStation, Opened};
 use std::alloc::Global;
 
-/// A scan: its stamp, the folder of packets, whose path ends in a slash or is empty, one who lists what earlier scans left
-/// there, and one who is told how far it is.
+/// A scan: its stamp, the folder of packets (a path that ends in a slash, or an empty one), a list of what earlier
+/// scans left there, and a progress report.
 #[derive(Drop)]
 pub struct Scan<'s, G, T> {
     pub stamp: Stamp,
@@ -35,16 +33,16 @@ pub struct Scan<'s, G, T> {
     pub watch: T,
 }
 
-/// The disk after a scan, and how that ended.
+/// The disk after a scan, and how the scan ended.
 #[derive(Drop)]
 pub struct Scanned<'a, D> {
     pub disk: D,
     pub done: Result<(), ScanStop<'a>>,
 }
 
-/// `scan --at STAMP LINKS BASE DIR`: the lines of the packets of the messages that wait are printed, what earlier scans left
-/// in the folder of packets is brought to its end, the packets go into it, and in the base none waits. No path of a packet may
-/// be one of the station's own.
+/// `scan --at STAMP LINKS BASE DIR`: prints the lines of the packets of the waiting messages. It names or removes
+/// what earlier scans left in the folder of packets, writes the packets there, and moves the cursor to the end of the
+/// base. No path of a packet may belong to the station.
 pub fn run_scan<
     'a,
     's,
@@ -105,7 +103,7 @@ pub fn run_scan<
     }
 }
 
-// Makes the packets of a store that is open, and puts them in place.
+// Makes the packets of an open store, and writes them.
 fn scan_kept<'a, 's, D: Disk, P: LendStation<'a, D>, G: Listing, T: Watching, W: Sink>(
     alloc: Global,
     links: &LinkFile,

@@ -2,21 +2,21 @@
 ghost use Rattle.std.specs.Prelude.{◌≡◌, map, length, IfOk};
 ghost use Rattle.station_scan.specs.Sending.{AreSent, file_paths, two_paths};
 
+use disk_atomic::Outgoing;
 use echo_addr::Items;
-use echo_placing::Outgoing;
-use echo_station_files::path_beside;
-use echo_steps::PacketFile;
+use model_steps::PacketFile;
+use station::path_beside;
 use std::alloc::{AllocError, Global};
 
-/// The path that a packet is to have, and the one beside it at which it stands before.
+/// The path of a packet, and its staging path before that.
 #[derive(Drop)]
 pub struct TwoPaths {
     pub path: Items<u8>,
     pub beside: Items<u8>,
 }
 
-/// Where the packets of a scan go, and which: the folder, whose path ends in a slash or is empty, and the own name, which
-/// the paths beside have.
+/// The packets of a scan and their folder, whose path ends in a slash or is empty. The own name is in their staging
+/// paths.
 #[derive(Clone, Copy)]
 pub(crate) struct Sending<'p> {
     pub outbound: &'p [u8],
@@ -42,7 +42,7 @@ pub(crate) fn two_paths(
     })
 }
 
-/// Those of each file.
+/// The two paths of each file.
 pub(crate) fn paths_of(
     alloc: Global,
     folder: &[u8],
@@ -59,7 +59,7 @@ pub(crate) fn paths_of(
     Ok(all)
 }
 
-/// The packets of these files, which go to these paths.
+/// The packets of these files, at these paths.
 pub(crate) fn outgoing_of<'a>(
     alloc: Global,
     files: &'a [PacketFile],

@@ -1,18 +1,18 @@
-//! Packets that are put beside their paths before a commit.
+//! Packets are written into staging files before a commit.
 ghost use Rattle.std.specs.Prelude.{◌≡◌, ◌≢◌, ℕ, List, true, false, All, IfErr, IfOk, None};
-ghost use Rattle.echo_disk.specs.Disk.{Honestly, IsIn};
-ghost use Rattle.echo_disk.specs.Runs.{HasCause};
-ghost use Rattle.echo_placing.specs.Changes.{ChangesOnly};
-ghost use Rattle.echo_placing.specs.Outgoing.{ArePlaced, IsAtStaging, IsFree, IsStaged};
+ghost use Rattle.disk_io.specs.Disk.{Honestly, IsIn};
+ghost use Rattle.disk_io.specs.Runs.{HasCause};
+ghost use Rattle.disk_atomic.specs.Changes.{ChangesOnly};
+ghost use Rattle.disk_atomic.specs.Outgoing.{ArePlaced, IsAtStaging, IsFree, IsStaged};
 ghost use Rattle.station_scan.specs.Publishing.{AreStaged, HasStageCause, IsTrial, IsTriedWith, NoneStays};
 
 use crate::unpublished::Unpublished;
-use echo_disk::{Disk, DiskError, sync_folder_of};
-use echo_placing::{Outgoing, PlacingError, drop_beside, stage_packets, try_link};
+use disk_atomic::{Outgoing, PlacingError, drop_beside, stage_packets, try_link};
+use disk_io::{Disk, DiskError, sync_folder_of};
 use std::alloc::Global;
 
-// Gives the first of the packets, which stand beside their paths, the path that is tried, and takes that away again. Then what
-// the folder has is on the disk.
+// Gives the first of the packets, which are in staging files, the tried path, and removes that path again. Then the
+// folder is synced.
 fn try_first<D: Disk>(
     disk: &mut D,
     outbound: &[u8],
@@ -38,8 +38,8 @@ fn try_first<D: Disk>(
     try_link(disk, outbound, first.beside, trial)
 }
 
-// Writes each packet beside its path, and puts it on the disk, with that nothing has the path. Then it is tried whether files
-// of the folder get second paths.
+// Writes each packet into its staging file, and syncs it, with nothing at its path. Then it tries whether files of
+// the folder can get a second path.
 fn stage_tried<D: Disk>(
     alloc: Global,
     disk: &mut D,
@@ -61,8 +61,8 @@ fn stage_tried<D: Disk>(
     try_first(disk, outbound, trial, packets)
 }
 
-/// Writes each packet beside its path, puts it on the disk, and tries whether files of the folder get second paths. Where a path
-/// is taken it answers `false`, and writes none. Where that cannot be done, what stands beside the paths is removed.
+/// Writes each packet into its staging file, syncs it, and tries whether files of the folder can get a second path.
+/// If a path is in use it returns `false`, and writes no packet. If this fails, the staging files are removed.
 pub(crate) fn stage_or_drop<D: Disk>(
     alloc: Global,
     disk: &mut D,

@@ -1,21 +1,21 @@
-//! The packets of what waits in a store.
+//! The packets of the messages that wait in a store.
 ghost use Rattle.std.specs.Prelude.{◌≡◌, OnOk};
-ghost use Rattle.echo_base.specs.Base.{Base};
-ghost use Rattle.echo_disk.specs.Disk.{Honestly};
-ghost use Rattle.echo_disk.specs.Runs.{ChangesNothing};
-ghost use Rattle.echo_status.specs.Devices.{output_of};
-ghost use Rattle.echo_store.specs.Store.{GoesOn, HasStoreCause, IsSameStore, all_scanned};
-ghost use Rattle.echo_store_changing.specs.Scanned.{ScansOn};
-ghost use Rattle.echo_store_changing.specs.Stops.{store_answer};
+ghost use Rattle.base_file.specs.Base.{Base};
+ghost use Rattle.disk_io.specs.Disk.{Honestly};
+ghost use Rattle.disk_io.specs.Runs.{ChangesNothing};
+ghost use Rattle.cmd_status.specs.Devices.{output_of};
+ghost use Rattle.base_store.specs.Store.{GoesOn, HasStoreCause, IsSameStore, all_scanned};
+ghost use Rattle.cmd_store.specs.Scanned.{ScansOn};
+ghost use Rattle.cmd_store.specs.Stops.{store_answer};
 ghost use Rattle.echo_toss.specs.PacketsIn.{state_in};
 
 use crate::watching::{Watched, Watching};
+use base_store::Store;
+use cmd_store::{Stop, scan_on};
+use disk_io::Sink;
 use echo_addr::Items;
-use echo_device::Sink;
 use echo_links::LinkFile;
-use echo_steps::{PacketFile, Stamp};
-use echo_store::Store;
-use echo_store_changing::{Stop, scan_on};
+use model_steps::{PacketFile, Stamp};
 use std::alloc::Global;
 
 /// A store after a scan of it, and its packets.
@@ -26,7 +26,7 @@ pub(crate) struct Taken<'a, S> {
 }
 
 /// Makes the packets of the messages that wait, prints a line for each, and moves the cursor in the store. Nothing is
-/// committed. It is told which message is taken at hand.
+/// committed. The watcher hears of each message.
 pub(crate) fn take_waiting<'a, S: Store, T: Watching, W: Sink>(
     alloc: Global,
     stamp: Stamp,

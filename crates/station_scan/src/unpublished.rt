@@ -1,17 +1,18 @@
-//! Why packets and a base were not put on the disk.
-use echo_disk::DiskError;
-use echo_placing::PlacingError;
-use echo_store::StoreError;
+//! Why packets and a base were not written.
+use base_store::StoreError;
+use disk_atomic::PlacingError;
+use disk_io::DiskError;
 use std::alloc::AllocError;
 use thiserror::Error;
 
-/// Why packets and a base were not put on the disk.
+/// Why packets and a base were not written.
 #[derive(Clone, Copy, Debug, PartialEq, Eq, Error)]
 pub enum Unpublished {
-    /// A packet was not put beside its path, and none stays there; or one did not get its path once the base was committed.
+    /// A packet was not written, and no staging file is left; or a packet did not get its path after the base was
+    /// committed.
     #[error("{0}")]
     Packets(PlacingError),
-    /// A packet was not put beside its path, and some may stay beside theirs.
+    /// A packet was not written, and some staging files may be left.
     #[error("{0}")]
     Beside(DiskError),
     /// The base was not committed.
@@ -33,7 +34,7 @@ impl From<StoreError> for Unpublished {
 impl From<AllocError> for Unpublished {
     ghost use Rattle.std.specs.Prelude.{◌≡◌};
     ghost use Rattle.station_scan.specs.declared.unpublished.Unpublished.TheVariants.{Packets};
-    ghost use Rattle.echo_placing.specs.declared.placing_error.PlacingError.TheVariants.{Memory};
+    ghost use Rattle.disk_atomic.specs.declared.placing_error.PlacingError.TheVariants.{Memory};
 
     ghost from_gives = { λ _ e. e ≡ Packets Memory };
 

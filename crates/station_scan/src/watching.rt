@@ -1,14 +1,14 @@
-//! How far a scan is: each message that waits is taken at hand once, so a store tells it.
+//! The progress of a scan: it fetches each waiting message once, so its store can report that.
+use base_store::{Store, StoreError};
 use echo_filed::{Filed, Key};
-use echo_store::{Store, StoreError};
 
-/// One who is told how far a scan is.
+/// Watches the progress of a scan.
 pub trait Watching {
-    /// Is told that the message of this number, counted from 0, is taken at hand, of so many.
+    /// The scan fetches the message of this number, counted from 0, of so many.
     fn tell(&self, place: usize, messages: usize);
 }
 
-/// A store that tells which of its messages is taken at hand.
+/// A store that reports which of its messages is fetched.
 #[derive(Drop)]
 pub struct Watched<'w, S, T> {
     pub store: S,

@@ -13,7 +13,7 @@ use crate::limits::Limits;
 use crate::message::{broken_fault, read_next};
 use crate::packed::Packed;
 use crate::reader::{PacketReader, Stage};
-use echo_device::{Source, read_fixed};
+use disk_io::{Source, read_fixed};
 use std::alloc::Global;
 
 /// The header at the front of the source; no byte after it is consumed.

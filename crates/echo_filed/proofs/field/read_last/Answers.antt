@@ -1,6 +1,6 @@
 use Rattle.std.proofs.Common.{◌≡◌, [], List, ℕ, Bool, Option, true, false, refl, subst, sym}
 use Rattle.std.proofs.lemmas.Result.{err_from_is_err_and}
-use Rattle.echo_device.specs.declared.fixed.Broken.{Broken}
+use Rattle.disk_io.specs.declared.fixed.Broken.{Broken}
 use Rattle.echo_filed.specs.Stored.{after_length, after_long_length}
 use Rattle.echo_filed.specs.Fields.{Breaks, IsLongString, IsShortString, LastFits, last_of}
 use Rattle.echo_filed.proofs.Layouts.{ends_first, ends_second, nothing_field}

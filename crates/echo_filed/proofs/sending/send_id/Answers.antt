@@ -1,6 +1,6 @@
 use Rattle.std.proofs.Common.{◌≡◌, ◌∙◌, [], ap}
 use Rattle.std.specs.Prelude.{unwrap_or}
-use Rattle.echo_device.proofs.Devices.{SendsFront-more}
+use Rattle.disk_io.proofs.Devices.{SendsFront-more}
 use Rattle.echo_text.specs.Echo.{msgid_of}
 use Rattle.echo_packet.proofs.SentMessage.{SendsAll-as, SendsFront-as, Sends-at_err, Sends-behind}
 use Rattle.echo_filed.specs.Stored.{after_length, after_long_length}

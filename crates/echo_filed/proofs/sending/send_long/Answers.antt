@@ -1,6 +1,6 @@
 use Rattle.std.proofs.Common.{length}
 use Rattle.echo_filed.specs.Stored.{long}
-use Rattle.echo_device.proofs.Devices.{SendsFront-more}
+use Rattle.disk_io.proofs.Devices.{SendsFront-more}
 use Rattle.echo_packet.proofs.SentMessage.{SendsAll-as, SendsFront-as, Sends-at_err, Sends-behind}
 use Rattle.echo_filed.proofs.sending.send_long.Goals as goal
 

@@ -1,5 +1,5 @@
 use Rattle.std.proofs.Common.{◌≡◌, ◌∙◌, ◌++◌, false, ap, sym}
-use Rattle.echo_device.proofs.Devices.{SendsAll-front, SendsAll-then, SendsFront-more}
+use Rattle.disk_io.proofs.Devices.{SendsAll-front, SendsAll-then, SendsFront-more}
 use Rattle.echo_packet.proofs.SentMessage.{SendsAll-as, SendsFront-as, Sends-at_err, Sends-behind}
 use Rattle.echo_filed.specs.Stored.{Second, stored_as, stored_bytes}
 use Rattle.echo_filed.specs.Sending.{front_bytes, strings_bytes}

@@ -1,5 +1,5 @@
 use Rattle.std.proofs.Common.{◌≡◌, ◌∙◌, ◌++◌, ap}
-use Rattle.echo_device.proofs.Devices.{SendsAll-front, SendsFront-more}
+use Rattle.disk_io.proofs.Devices.{SendsAll-front, SendsFront-more}
 use Rattle.echo_packet.proofs.SentMessage.{SendsAll-as, SendsFront-as, Sends-at_err, Sends-behind}
 use Rattle.echo_filed.specs.Stored.{after_length}
 use Rattle.echo_filed.proofs.Sendings.{Sends-as}

@@ -2,8 +2,8 @@ use Rattle.std.proofs.Common.{◌∙◌, ℕ, List, sym, subst, ap}
 use Rattle.std.specs.Prelude.{Contains}
 use Rattle.std.proofs.lemmas.Option.{MatchOption-at_some}
 use Rattle.echo_addr.specs.declared.address.Address.{Address}
-use Rattle.echo_graph.specs.Rows.{linked}
-use Rattle.echo_run.specs.Tidy.{Carries, Tidy, lists}
+use Rattle.model_graph.specs.Rows.{linked}
+use Rattle.model_run.specs.Tidy.{Carries, Tidy, lists}
 use Rattle.echo_net.specs.declared.link.Link.{Link}
 use Rattle.echo_net.specs.Faults.{AreInOrder, AreSoundLinks, IsFirstFault, numbered}
 use Rattle.echo_net.specs.Rows.{AreRows}

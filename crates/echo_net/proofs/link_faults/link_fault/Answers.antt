@@ -1,7 +1,7 @@
 use Rattle.std.proofs.Common.{subst, MatchOption, Option}
 use Rattle.std.proofs.lemmas.Option.{MatchOption-at_some}
 use Rattle.echo_addr.specs.declared.address.Address.{Address}
-use Rattle.echo_graph.specs.Walk.{Different}
+use Rattle.model_graph.specs.Walk.{Different}
 use Rattle.std.specs.Prelude.{Contains}
 use Rattle.echo_net.specs.declared.link.Link.{Link}
 use Rattle.echo_net.specs.Firsts.{HasTwin, IsSmallest, IsSmallestPair, StandsTwice}

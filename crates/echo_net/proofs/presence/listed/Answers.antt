@@ -1,6 +1,6 @@
 use Rattle.std.proofs.Common.{◌≡◌, ◌<◌, ◌+◌, ◌++◌, ◌∙◌, ℕ, List, length, get_or, sym, subst, ap, arith}
 use Rattle.echo_addr.specs.declared.address.Address.{Address}
-use Rattle.echo_run.specs.Tidy.{Carries}
+use Rattle.model_run.specs.Tidy.{Carries}
 use Rattle.echo_net.specs.Absent.{IsWhy, absent_as}
 use Rattle.echo_net.proofs.Absences.{AreListed, all_listed, one_more_judged}
 use Rattle.echo_net.proofs.presence.listed.Goals as goal

@@ -1,7 +1,7 @@
 use Rattle.std.proofs.Common.{take, ℕ}
 use Rattle.std.specs.List.{AllZip}
 use Rattle.echo_net.specs.declared.link.Link.{Link}
-use Rattle.echo_graph.specs.Walk.{IsAt}
+use Rattle.model_graph.specs.Walk.{IsAt}
 use Rattle.echo_net.proofs.rows.row.Given as goal
 
 abbrev pub invariant-links : goal.invariant-links

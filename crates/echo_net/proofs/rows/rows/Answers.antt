@@ -1,6 +1,6 @@
 use Rattle.std.proofs.Common.{◌≡◌, ◌<◌, ◌+◌, ◌++◌, ◌∷◌, [], ℕ, List, length, sym, subst, ap, ◌∙◌}
 use Rattle.echo_addr.specs.declared.address.Address.{Address}
-use Rattle.echo_graph.specs.Rows.{links_at}
+use Rattle.model_graph.specs.Rows.{links_at}
 use Rattle.echo_net.specs.declared.link.Link.{Link}
 use Rattle.echo_net.specs.Rows.{IsRow, system_at}
 use Rattle.echo_net.proofs.Runs.{is_row, one_row_more}

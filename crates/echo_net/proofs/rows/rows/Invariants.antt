@@ -1,5 +1,5 @@
 use Rattle.std.proofs.Common.{◌≡◌, ◌<◌, ℕ, length}
-use Rattle.echo_graph.specs.Rows.{links_at}
+use Rattle.model_graph.specs.Rows.{links_at}
 use Rattle.echo_net.specs.Rows.{IsRow, system_at}
 use Rattle.echo_net.proofs.rows.rows.Given as goal
 

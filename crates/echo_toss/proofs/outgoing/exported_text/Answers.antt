@@ -4,7 +4,7 @@ use Rattle.echo_addr.specs.Address.{net_node_of}
 use Rattle.echo_addr.specs.ShortLines.{ComesBefore}
 use Rattle.echo_text.specs.Echo.{EchoText, IsEcho}
 use Rattle.echo_filed.specs.Written.{text_of}
-use Rattle.echo_steps.proofs.Copies.{exported_is_echo}
+use Rattle.model_steps.proofs.Copies.{exported_is_echo}
 use Rattle.echo_packet.specs.Message.{HasNoZero}
 use Rattle.echo_toss.proofs.Exports.{exported_made, exported_no_zero, written_is}
 use Rattle.echo_toss.proofs.outgoing.exported_text.Goals as goal

@@ -1,6 +1,6 @@
-use Rattle.std.proofs.Common.{◌∷◌, ◌++◌, [], ap, sym, ◌∙◌, arith}
-use Rattle.echo_store.proofs.Runs.{looks_twice}
-use Rattle.echo_toss.specs.Exports.{Outgoing, outgoing_of}
+use Rattle.std.proofs.Common.{sym, arith}
+use Rattle.base_store.proofs.Runs.{looks_twice}
+use Rattle.echo_toss.specs.Exports.{is_sent, outgoing_of}
 use Rattle.echo_toss.proofs.Exports.{next_waits}
 use Rattle.echo_toss.proofs.outgoing.waiting.Goals as goal
 
@@ -8,12 +8,11 @@ pub waiting-preserved : goal.waiting-preserved
 waiting-preserved g c =
     let so = c.waiting.invariant in (
       λ honest base kept.
-          let was = so.0 (c.outgoing_at.ensures.looks.quiet.honest honest) base kept in
-          let found = c.in_ok-outgoing_at.ensures.outgoing honest base (so.1.keeps base kept) in (
+          let was = so.0 (c.push_message.ensures.looks.quiet.honest honest) base kept in
+          let found = c.in_ok-push_message.ensures.grown honest base (so.1.keeps base kept) in (
             was.0,
-            next_waits (outgoing_of c.args.links.now) base.messages c.waiting.at found.0 _ _ _ (sym found.1) was.1
-                (c.in_ok-push.ensures.items ∙ ap (λ (o : Outgoing). c.waiting.all.items ++ o ∷ []) found.2),
+            next_waits is_sent (outgoing_of c.args.links.now) base.messages c.waiting.at found.0 _ _ _ (sym found.1) was.1 found.2,
           ),
-      looks_twice _ _ _ so.1 c.outgoing_at.ensures.looks,
-      omega (arith, so.2, c.outgoing_at.ensures.cause.later),
+      looks_twice _ _ _ so.1 c.push_message.ensures.looks,
+      omega (arith, so.2, c.push_message.ensures.cause.later),
     )

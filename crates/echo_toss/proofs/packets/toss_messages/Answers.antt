@@ -1,7 +1,7 @@
 use Rattle.std.proofs.Common.{◌∙◌, ◌+◌, ap, arith, refl}
 use Rattle.std.proofs.lemmas.Result.{err_from_is_err_and}
-use Rattle.echo_store.proofs.Runs.{commits_none, goes_on_twice}
-use Rattle.echo_steps.specs.Tossing.{toss_outcome, tossing}
+use Rattle.base_store.proofs.Runs.{commits_none, goes_on_twice}
+use Rattle.model_steps.specs.Tossing.{toss_outcome, tossing}
 use Rattle.echo_toss.specs.Tallies.{all_counted, tally_with}
 use Rattle.echo_toss.specs.Stores.{and_filed}
 use Rattle.echo_toss.proofs.PacketTosses.{one_more_taken}

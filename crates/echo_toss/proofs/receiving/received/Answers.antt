@@ -1,7 +1,7 @@
 use Rattle.std.proofs.Common.{◌≡◌, sym, subst, ◌∙◌, Some, arith}
 use Rattle.echo_filed.specs.Filed.{IsFiled}
-use Rattle.echo_steps.specs.Tossing.{received}
-use Rattle.echo_steps.proofs.Kept.{received_filed}
+use Rattle.model_steps.specs.Tossing.{received}
+use Rattle.model_steps.proofs.Kept.{received_filed}
 use Rattle.echo_toss.proofs.Tossed.{made_received}
 use Rattle.echo_toss.proofs.receiving.received.Goals as goal
 

@@ -1,6 +1,6 @@
 use Rattle.std.proofs.Common.{◌≡◌, ◌≤◌, ap, arith, inl, inr, refl}
-use Rattle.echo_station_files.proofs.Failures.{failed_wider}
-use Rattle.echo_store_changing.specs.Stops.{store_answer}
+use Rattle.station.proofs.Failures.{failed_wider}
+use Rattle.cmd_store.specs.Stops.{store_answer}
 use Rattle.station.proofs.Ran.{elsewhere_after, looks_of, looks_open, run_on, stopped_on}
 use Rattle.station.proofs.running.run_command.Goals as goal
 

@@ -1,6 +1,6 @@
 use Rattle.std.proofs.Common.{◌≡◌, refl, true, All}
-use Rattle.echo_placing.specs.Naming.{HasItsPath}
-use Rattle.echo_placing.specs.Outgoing.{IsOfOne}
+use Rattle.disk_atomic.specs.Naming.{HasItsPath}
+use Rattle.disk_atomic.specs.Outgoing.{IsOfOne}
 use Rattle.station_scan.proofs.Published.{own_not_of}
 use Rattle.station_scan.proofs.Through.{are_staged, have_their_paths, names_through, ok_gives}
 use Rattle.station_scan.proofs.Lent.{held, used}

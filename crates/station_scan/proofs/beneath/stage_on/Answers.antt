@@ -1,5 +1,5 @@
 use Rattle.std.proofs.Common.{◌≡◌, ◌∙◌, ⊎_elim, All, false, get_or, inl, inr, refl, true}
-use Rattle.echo_placing.specs.Outgoing.{IsAtStaging, IsFree}
+use Rattle.disk_atomic.specs.Outgoing.{IsAtStaging, IsFree}
 use Rattle.station_scan.specs.Publishing.{AreStaged, IsTriedWith}
 use Rattle.station_scan.proofs.Published.{own_not_staging}
 use Rattle.station_scan.proofs.Through.{gone_through, ok_gives, staged_through}

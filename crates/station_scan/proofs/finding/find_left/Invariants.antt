@@ -2,8 +2,8 @@
 use Rattle.std.proofs.Common.{◌≤◌}
 use Rattle.std.specs.Prelude.{All}
 use Rattle.std.specs.List.{AllWithin}
-use Rattle.echo_disk.specs.Disk.{Honestly}
-use Rattle.echo_disk.specs.Runs.{ChangesNothing}
+use Rattle.disk_io.specs.Disk.{Honestly}
+use Rattle.disk_io.specs.Runs.{ChangesNothing}
 use Rattle.station_scan.specs.Left.{AreFound, IsBesideThere, IsFoundWhere}
 use Rattle.station_scan.proofs.finding.find_left.Given as goal
 

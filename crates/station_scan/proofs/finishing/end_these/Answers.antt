@@ -1,7 +1,7 @@
 use Rattle.std.proofs.Common.{subst, sym}
 use Rattle.std.proofs.lemmas.Result.{err_from_is_err_and}
-use Rattle.echo_placing.specs.Finishing.{IsOfLeft}
-use Rattle.echo_placing.proofs.Changes.{only_nothing, then_only, wider}
+use Rattle.disk_atomic.specs.Finishing.{IsOfLeft}
+use Rattle.disk_atomic.proofs.Changes.{only_nothing, then_only, wider}
 use Rattle.station_scan.specs.Left.{AreLent, IsOfPaths}
 use Rattle.station_scan.proofs.Lefts.{are_free, are_there, nothing_these, of_paths, quiet_start, settled_these, unsettled_these}
 use Rattle.station_scan.proofs.finishing.end_these.Goals as goal

@@ -1,7 +1,7 @@
 use Rattle.std.proofs.Common.{◌≡◌, ◌∙◌, All, List, arith, get_or, subst, sym, vec_len}
 use Rattle.std.proofs.lemmas.Bool.{eqb-true}
 use Rattle.std.proofs.lemmas.Result.{err_from_is_err_and}
-use Rattle.echo_placing.proofs.Changes.{only_nothing, then_only, wider}
+use Rattle.disk_atomic.proofs.Changes.{only_nothing, then_only, wider}
 use Rattle.station_scan.specs.declared.finding.LeftPaths.{LeftPaths}
 use Rattle.station_scan.specs.declared.listing.LeftPacket.{LeftPacket}
 use Rattle.station_scan.specs.Left.{AreFound, EndsThese, IsBesideThere, IsFoundWhere, IsOfNameOff, IsOfPaths}

@@ -1,7 +1,7 @@
 use Rattle.std.proofs.Common.{◌≡◌, ◌∙◌, ◌<◌, ◌≤◌, ⊎_elim, ℕ, ap, arith, get_or, length, refl, subst, sym, vec_len}
 use Rattle.std.proofs.lemmas.Bool.{cases_lt}
 use Rattle.std.proofs.lemmas.List.{get_or_default}
-use Rattle.echo_placing.specs.declared.finishing.Left.{Left}
+use Rattle.disk_atomic.specs.declared.finishing.Left.{Left}
 use Rattle.station_scan.specs.declared.finding.LeftPaths.{LeftPaths}
 use Rattle.station_scan.specs.Left.{IsLent}
 use Rattle.station_scan.proofs.finishing.lend.Goals as goal

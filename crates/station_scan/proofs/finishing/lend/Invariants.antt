@@ -1,6 +1,6 @@
 -- The packets of the paths up to here are there.
 use Rattle.std.proofs.Common.{◌≡◌, ◌<◌, ℕ, length, get_or}
-use Rattle.echo_placing.specs.declared.finishing.Left.{Left}
+use Rattle.disk_atomic.specs.declared.finishing.Left.{Left}
 use Rattle.station_scan.specs.declared.finding.LeftPaths.{LeftPaths}
 use Rattle.station_scan.specs.Left.{IsLent}
 use Rattle.station_scan.proofs.finishing.lend.Given as goal

@@ -1,5 +1,5 @@
 use Rattle.std.proofs.Common.{◌≡◌, ◌⊎◌, ◌∙◌, inl, inr, ⊎_elim, ℕ, List, refl, subst, sym}
-use Rattle.echo_placing.specs.declared.outgoing.Outgoing.{Outgoing}
+use Rattle.disk_atomic.specs.declared.outgoing.Outgoing.{Outgoing}
 use Rattle.station_scan.specs.Fitting.{AreFitting}
 use Rattle.station_scan.proofs.Sends.{fit_going, fit_keeps, fit_moments, fit_sent, fit_taken, fit_tried}
 use Rattle.station_scan.proofs.Through.{on_ok_gives}

@@ -1,7 +1,7 @@
 use Rattle.std.proofs.Common.{◌⊎◌, ◌≤◌, Result, arith, inl, inr, subst}
-use Rattle.echo_device.specs.Device.{Failed}
-use Rattle.echo_placing.specs.declared.placing_error.PlacingError.{PlacingError}
-use Rattle.echo_station_files.proofs.Failures.{failed_wider}
+use Rattle.disk_io.specs.Device.{Failed}
+use Rattle.disk_atomic.specs.declared.placing_error.PlacingError.{PlacingError}
+use Rattle.station.proofs.Failures.{failed_wider}
 use Rattle.station_scan.specs.Fitting.{AreTaken}
 use Rattle.station_scan.specs.Left.{EndsLeft}
 use Rattle.station_scan.specs.Stops.{most}

@@ -1,8 +1,8 @@
 use Rattle.std.proofs.Common.{◌≡◌, ◌≤◌, ◌⊎◌, Err, arith, inl, inr, refl}
-use Rattle.echo_device.specs.Device.{Failed}
-use Rattle.echo_station_files.proofs.Failures.{failed_wider}
-use Rattle.echo_store_changing.specs.declared.stop.Stop.TheVariants.{Met}
-use Rattle.echo_status.specs.Devices.{output_of}
+use Rattle.disk_io.specs.Device.{Failed}
+use Rattle.station.proofs.Failures.{failed_wider}
+use Rattle.cmd_store.specs.declared.stop.Stop.TheVariants.{Met}
+use Rattle.cmd_status.specs.Devices.{output_of}
 use Rattle.station.specs.Opening.{HaveFailed}
 use Rattle.station.proofs.Ran.{looks_of, looks_open, stopped_on}
 use Rattle.station_scan.proofs.Runs.{scan_keeps, scanned_on}

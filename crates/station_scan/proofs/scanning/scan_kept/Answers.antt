@@ -1,13 +1,13 @@
 use Rattle.std.proofs.Common.{◌⊎◌, ◌≤◌, List, Result, ⊎_elim, arith, inl, inr, subst}
 use Rattle.std.specs.Prelude.{OnOk}
-use Rattle.echo_device.specs.Device.{Failed}
-use Rattle.echo_status.specs.Devices.{output_of}
-use Rattle.echo_steps.specs.PacketFiles.{PacketFile}
-use Rattle.echo_store.specs.Store.{GoesOn, all_scanned}
-use Rattle.echo_station_files.proofs.Failures.{failed_wider}
-use Rattle.echo_station_files.specs.Paths.{dotted}
-use Rattle.echo_store_changing.specs.Scanned.{ScansOn}
-use Rattle.echo_store_changing.specs.declared.stop.Stop.{Stop}
+use Rattle.disk_io.specs.Device.{Failed}
+use Rattle.cmd_status.specs.Devices.{output_of}
+use Rattle.model_steps.specs.PacketFiles.{PacketFile}
+use Rattle.base_store.specs.Store.{GoesOn, all_scanned}
+use Rattle.station.proofs.Failures.{failed_wider}
+use Rattle.station.specs.Paths.{dotted}
+use Rattle.cmd_store.specs.Scanned.{ScansOn}
+use Rattle.cmd_store.specs.declared.stop.Stop.{Stop}
 use Rattle.echo_toss.specs.PacketsIn.{state_in}
 use Rattle.station_scan.specs.Scanning.{SendsOut}
 use Rattle.station_scan.proofs.Scans.{scans_ok}

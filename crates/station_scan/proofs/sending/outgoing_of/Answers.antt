@@ -1,7 +1,7 @@
 use Rattle.std.proofs.Common.{◌≡◌, ◌∙◌, ◌<◌, ◌≤◌, ⊎_elim, ℕ, ap, arith, get_or, length, refl, subst, sym, vec_len}
 use Rattle.std.proofs.lemmas.Bool.{cases_lt}
 use Rattle.std.proofs.lemmas.List.{get_or_default}
-use Rattle.echo_placing.specs.declared.outgoing.Outgoing.{Outgoing}
+use Rattle.disk_atomic.specs.declared.outgoing.Outgoing.{Outgoing}
 use Rattle.station_scan.specs.declared.sending.TwoPaths.{TwoPaths}
 use Rattle.station_scan.specs.Sending.{IsSent}
 use Rattle.station_scan.proofs.sending.outgoing_of.Goals as goal

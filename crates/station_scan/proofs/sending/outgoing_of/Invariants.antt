@@ -1,7 +1,7 @@
 -- The packets of the files up to here are there.
 use Rattle.std.proofs.Common.{◌≡◌, ◌<◌, ℕ, length, get_or}
-use Rattle.echo_steps.specs.PacketFiles.{PacketFile}
-use Rattle.echo_placing.specs.declared.outgoing.Outgoing.{Outgoing}
+use Rattle.model_steps.specs.PacketFiles.{PacketFile}
+use Rattle.disk_atomic.specs.declared.outgoing.Outgoing.{Outgoing}
 use Rattle.station_scan.specs.declared.sending.TwoPaths.{TwoPaths}
 use Rattle.station_scan.specs.Sending.{IsSent}
 use Rattle.station_scan.proofs.sending.outgoing_of.Given as goal

@@ -1,5 +1,5 @@
-use Rattle.echo_placing.specs.Outgoing.{IsAtStaging}
-use Rattle.echo_placing.proofs.Changes.{then_only}
+use Rattle.disk_atomic.specs.Outgoing.{IsAtStaging}
+use Rattle.disk_atomic.proofs.Changes.{then_only}
 use Rattle.station_scan.proofs.staging.stage_or_drop.Goals as goal
 
 pub returns-in-Ok-drop_beside-clause-changes : goal.returns-in-Ok-drop_beside-clause-changes

@@ -2,9 +2,9 @@ use Rattle.std.proofs.Common.{◌≡◌, ◌≢◌, ◌∙◌, ℕ, List, get_or
 use Rattle.std.specs.Prelude.{All, None}
 use Rattle.std.proofs.lemmas.List.Elements.{Contains-get_or}
 use Rattle.std.proofs.lemmas.Result.{IfOk-weaker}
-use Rattle.echo_disk.specs.Disk.{IsIn}
-use Rattle.echo_placing.specs.Outgoing.{IsAtStaging, IsBesideOne, IsFree}
-use Rattle.echo_placing.proofs.Changes.{then_only, wider}
+use Rattle.disk_io.specs.Disk.{IsIn}
+use Rattle.disk_atomic.specs.Outgoing.{IsAtStaging, IsBesideOne, IsFree}
+use Rattle.disk_atomic.proofs.Changes.{then_only, wider}
 use Rattle.station_scan.specs.Publishing.{AreStaged, IsTriedWith}
 use Rattle.station_scan.proofs.Staged.{path_off, tried_after}
 use Rattle.station_scan.proofs.staging.stage_tried.Goals as goal

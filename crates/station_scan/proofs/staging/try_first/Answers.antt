@@ -1,9 +1,9 @@
 use Rattle.std.proofs.Common.{◌≡◌, ◌≢◌, ◌⊎◌, ◌<◌, ◌∙◌, inl, inr, true, length, arith, refl, sym}
 use Rattle.std.proofs.lemmas.Bool.{eqb-false, eqb-true}
 use Rattle.std.proofs.lemmas.Result.{IfOk-weaker}
-use Rattle.echo_placing.proofs.Whole.{some_is_there}
-use Rattle.echo_placing.specs.Trying.{WasTried}
-use Rattle.echo_placing.specs.Outgoing.{IsAtStaging}
+use Rattle.disk_atomic.proofs.Whole.{some_is_there}
+use Rattle.disk_atomic.specs.Trying.{WasTried}
+use Rattle.disk_atomic.specs.Outgoing.{IsAtStaging}
 use Rattle.station_scan.specs.Publishing.{IsTriedWith}
 use Rattle.station_scan.proofs.Staged.{at_staging, first_other, first_staged, still_staged, tried_after, tried_changes}
 use Rattle.station_scan.proofs.staging.try_first.Goals as goal

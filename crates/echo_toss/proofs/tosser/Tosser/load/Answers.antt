@@ -1,10 +1,10 @@
 use Rattle.std.proofs.Common.{IfSome, Ok, Result, subst}
 use Rattle.std.proofs.lemmas.Result.{err_from_is_err_and}
 use Rattle.echo_packet.specs.Header.{AreBytes}
-use Rattle.echo_base.specs.declared.fault.BaseFault.{BaseFault as Fault}
-use Rattle.echo_base.specs.Base.{Base}
-use Rattle.echo_base.specs.BaseFile.{LoadOf, Loaded}
-use Rattle.echo_base.specs.Loading.{AnswersLoad}
+use Rattle.base_file.specs.declared.fault.BaseFault.{BaseFault as Fault}
+use Rattle.base_file.specs.Base.{Base}
+use Rattle.base_file.specs.BaseFile.{LoadOf, Loaded}
+use Rattle.base_file.specs.Loading.{AnswersLoad}
 use Rattle.echo_toss.proofs.tosser.Tosser.load.Goals as goal
 
 pub returns-in_err-base-clause-only : goal.returns-in_err-base-clause-only

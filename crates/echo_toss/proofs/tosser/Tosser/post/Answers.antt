@@ -1,7 +1,7 @@
 use Rattle.std.proofs.Common.{refl, subst, sym, ap}
-use Rattle.echo_base.specs.Base.{Base}
-use Rattle.echo_steps.specs.SystemState.{SystemState}
-use Rattle.echo_steps.specs.Posting.{PostStep}
+use Rattle.base_file.specs.Base.{Base}
+use Rattle.model_steps.specs.SystemState.{SystemState}
+use Rattle.model_steps.specs.Posting.{PostStep}
 use Rattle.echo_toss.proofs.Judged.{is_fault}
 use Rattle.echo_toss.proofs.tosser.Tosser.post.Goals as goal
 use Rattle.echo_toss.proofs.tosser.Tosser.post.Goals.{in-Ok, in-Err-Refused, in-Err-Store}

@@ -1,5 +1,5 @@
 use Rattle.std.proofs.Common.{refl, subst}
-use Rattle.echo_steps.specs.SystemState.{SystemState}
+use Rattle.model_steps.specs.SystemState.{SystemState}
 use Rattle.echo_toss.specs.PacketSteps.{PacketStep}
 use Rattle.echo_toss.specs.PacketsIn.{state_in}
 use Rattle.echo_toss.proofs.PacketsIn.{tossed_at}

@@ -1,0 +1,214 @@
+-- Why a base was not loaded, by what was taken of it.
+use Rattle.std.proofs.Common.{◌≡◌, false, ℕ, ◌^◌, ◌<◌, ◌≤◌, List, [], ◌∷◌, ◌++◌, length, map, take, refl, sym, ap, subst, ◌∙◌, Option, Some, None, Result, Ok, Err, arith, inl, inr, true}
+use Rattle.std.specs.Prelude.{IfErr, IfOk, IfSome}
+use Rattle.std.specs.Io.KnownBytes.{Consumes}
+use Rattle.std.specs.List.{AllByRecursion, flat_map}
+use Rattle.std.proofs.KnownBytes.{Consumes-trans, Consumes-whole}
+use Rattle.std.proofs.lemmas.Grind.{flat_map-append}
+use Rattle.std.proofs.lemmas.List.{append-nil, append_assoc, length-append, length-map, take_at}
+use Rattle.echo_packet.specs.Header.{AreBytes}
+use Rattle.disk_io.specs.declared.fixed.Broken.{Broken}
+use Rattle.disk_io.specs.declared.fixed.Broken.TheVariants as broken
+use Rattle.echo_filed.specs.Filed.{Filed}
+use Rattle.echo_filed.specs.declared.stored.Version.{Version}
+use Rattle.echo_filed.specs.declared.stored.Version.TheVariants.{First, Second}
+use Rattle.echo_filed.specs.Stored.{IsStored, Stored, long, message_in, stored_bytes}
+use Rattle.echo_filed.specs.Fields.{Breaks, EndsIn, IsLong, StopsIn}
+use Rattle.echo_filed.proofs.Plain.{all_append}
+use Rattle.base_file.specs.declared.base.loading.Head.{Head}
+use Rattle.base_file.specs.declared.fault.BaseFault.{BaseFault}
+use Rattle.base_file.specs.declared.fault.BaseFault.TheVariants as fault
+use Rattle.base_file.specs.Base.{Base}
+use Rattle.base_file.specs.BaseFile.{AreSound, BaseFaultOf, BaseOf, Begins, IsDamagedAt, LoadOf, Loaded, head_bytes, is_damaged, magic}
+use Rattle.base_file.specs.Loading.{AnswersLoad, FailsToLoad, LoadFault, TakesAll, TakesBase, TakesDamaged, TakesHead, TakesStored, TakesNextStored, fault_behind}
+use Rattle.base_file.proofs.Loading.{only_outcome, say_more, sound_more}
+
+if_any : {X : Type 0} (o : Option X) → IfSome o (λ _. Unit {0})
+if_any None = tt
+if_any (Some x) = tt
+
+-- behind some bytes, the input or the device ended inside a field
+pub cut_fails : {X : Type 0} {F : X → Type 0} {w : X → List ℕ} (n : ℕ) (front : List ℕ) (a b c : Option (List ℕ)) (e : Broken) → Consumes a b front
+    → ((came : List ℕ) → EndsIn X F w came → BaseFaultOf (front ++ came) (fault.Truncated n)) → Breaks X F w b c e → FailsToLoad a c (fault_behind e n)
+cut_fails n front a b c broken.Cut took is h = record {
+  wrong = Consumes-whole a c (front ++ h.0.0) (λ bytes. LoadFault bytes (fault.Truncated n)) (Consumes-trans a b c front h.0.0 took h.0.1) h.1 (is h.0.0 h.0.2);
+  inside = λ r. absurd (cc);
+}
+cut_fails n front a b c broken.Device took is h = record {
+  wrong = if_any a;
+  inside = λ r. (front ++ h.0, Consumes-trans a b c front h.0 took h.1, inr (n, is h.0 h.2));
+}
+cut_fails n front a b c broken.Memory took is h = record { wrong = if_any a; inside = λ r. absurd (cc) }
+
+-- the head ends inside one of its numbers
+part_of_long : (came : List ℕ) → EndsIn ℕ IsLong long came → length came < 4
+part_of_long came inside =
+    let some = inside.some in
+    omega (arith, ap length inside.cut, length-append came inside.missing)
+
+pub cursor_cut : (version : Version) (came : List ℕ) → EndsIn ℕ IsLong long came → BaseFaultOf (magic version ++ came) (fault.Truncated 0)
+cursor_cut First came inside = inl (refl, refl, omega (arith, part_of_long came inside))
+cursor_cut Second came inside = inl (refl, refl, omega (arith, part_of_long came inside))
+
+pub number_cut : (version : Version) (cursor : ℕ) (came : List ℕ) → EndsIn ℕ IsLong long came → BaseFaultOf ((magic version ++ long cursor) ++ came) (fault.Truncated 0)
+number_cut First cursor came inside = inl (refl, refl, omega (arith, part_of_long came inside))
+number_cut Second cursor came inside = inl (refl, refl, omega (arith, part_of_long came inside))
+
+pub head_taken : (version : Version) (cursor number : ℕ) (a b c d : Option (List ℕ)) → Consumes a b (magic version) → Consumes b c (long cursor) → Consumes c d (long number)
+    → Consumes a d (head_bytes version cursor number)
+unfolding head_bytes
+head_taken version cursor number a b c d first second third =
+    Consumes-trans a b d (magic version) (long cursor ++ long number) first (Consumes-trans b c d (long cursor) (long number) second third)
+
+-- sound messages behind a head
+pub record HasTaken (version : Version) (cursor : ℕ) (messages : List Filed) (old new : Option (List ℕ)) : Type 0 where
+  pub all : List Stored
+  pub sizes : AllByRecursion (IsStored version) all
+  pub sound : AreSound version cursor [] all
+  pub took : Consumes old new (flat_map (stored_bytes version) all)
+  pub said : messages ≡ map (message_in version) all
+
+-- one more
+pub taken_more : (version : Version) (cursor : ℕ) (messages messages' : List Filed) (a b c : Option (List ℕ)) → HasTaken version cursor messages a b
+    → TakesNextStored version cursor messages messages' b c → HasTaken version cursor messages' a c
+taken_more version cursor messages messages' a b c so next =
+    let s = next.next in
+    let P : List Filed → Type 0 = λ l. is_damaged version cursor l s ≡ false in
+    let bytes : flat_map (stored_bytes version) (so.all ++ s ∷ []) ≡ flat_map (stored_bytes version) so.all ++ stored_bytes version s =
+    flat_map-append (stored_bytes version) so.all (s ∷ []) ∙ ap (λ bs. flat_map (stored_bytes version) so.all ++ bs) (append-nil (stored_bytes version s)) in
+    record {
+      all = so.all ++ s ∷ [];
+      sizes = all_append (IsStored version) so.all (s ∷ []) so.sizes (next.size, tt);
+      sound = sound_more version cursor [] so.all s so.sound (subst P so.said next.sound);
+      took = subst (Consumes a c) (sym bytes) (Consumes-trans a b c (flat_map (stored_bytes version) so.all) (stored_bytes version s) so.took next.took);
+      said = next.filed ∙ ap (λ l. l ++ message_in version s ∷ []) so.said ∙ sym (say_more version so.all s);
+    }
+
+-- a head and the messages behind it
+behind_head : (version : Version) (cursor number : ℕ) (messages : List Filed) (a b c : Option (List ℕ)) → number < 2 ^ 32 → cursor ≤ number
+    → (so : HasTaken version cursor messages b c) → (rest bytes : List ℕ) → bytes ≡ (head_bytes version cursor number ++ flat_map (stored_bytes version) so.all) ++ rest
+    → Begins version cursor number so.all rest bytes
+behind_head version cursor number messages a b c fits within so rest bytes whole = record {
+  number_fits = fits;
+  cursor_within = within;
+  sizes = so.sizes;
+  sound = so.sound;
+  whole = whole ∙ append_assoc (head_bytes version cursor number) (flat_map (stored_bytes version) so.all) rest;
+}
+
+message_cut : (version : Version) (cursor number n : ℕ) (messages : List Filed) (b c : Option (List ℕ)) → number < 2 ^ 32 → cursor ≤ number → n < number → n ≡ length messages
+    → (so : HasTaken version cursor messages b c) → (came : List ℕ) → StopsIn version came
+    → BaseFaultOf ((head_bytes version cursor number ++ flat_map (stored_bytes version) so.all) ++ came) (fault.Truncated n)
+message_cut version cursor number n messages b c fits within more many so came stops = inr (record {
+  version = version;
+  cursor = cursor;
+  number = number;
+  all = so.all;
+  rest = came;
+  begins = behind_head version cursor number messages None b c fits within so came _ refl;
+  many = sym (many ∙ ap length so.said ∙ length-map so.all (message_in version));
+  one_more = more;
+  next = stops.value;
+  size = stops.fits;
+  missing = stops.missing;
+  some = stops.some;
+  cut = stops.cut;
+})
+
+-- a damaged message stands in front of the rest
+message_damaged : (version : Version) (cursor number n : ℕ) (messages : List Filed) (a b c d : Option (List ℕ)) → number < 2 ^ 32 → cursor ≤ number → n < number → n ≡ length messages
+    → Consumes a b (head_bytes version cursor number) → (so : HasTaken version cursor messages b c) → TakesDamaged version cursor messages c d
+    → IfSome a (λ bytes. IsDamagedAt n bytes)
+message_damaged version cursor number n messages a b c d fits within more many head so bad =
+    by a d (Consumes-trans a c d (head_bytes version cursor number ++ stored) (stored_bytes version bad.next)
+    (Consumes-trans a b c (head_bytes version cursor number) stored head so.took) bad.took)
+  where
+    stored : List ℕ
+    stored = flat_map (stored_bytes version) so.all
+
+    by : (x y : Option (List ℕ)) → Consumes x y ((head_bytes version cursor number ++ stored) ++ stored_bytes version bad.next) → IfSome x (λ bytes. IsDamagedAt n bytes)
+    by None y took = tt
+    by (Some bytes) None took = absurd took
+    by (Some bytes) (Some rest) took =
+        let P : List Filed → Type 0 = λ l. is_damaged version cursor l bad.next ≡ true in
+        record {
+          version = version;
+          cursor = cursor;
+          number = number;
+          all = so.all;
+          next = bad.next;
+          rest = rest;
+          begins = behind_head version cursor number messages None b c fits within so (stored_bytes version bad.next ++ rest) bytes
+              (took ∙ append_assoc (head_bytes version cursor number ++ stored) (stored_bytes version bad.next) rest);
+          many = sym (many ∙ ap length so.said ∙ length-map so.all (message_in version));
+          one_more = more;
+          size = bad.size;
+          damaged = subst P so.said bad.damaged;
+        }
+
+-- a message behind sound ones was not taken
+pub message_fails : (version : Version) (cursor number : ℕ) (messages messages' : List Filed) (a b c d : Option (List ℕ)) (answered : BaseFault) → number < 2 ^ 32 → cursor ≤ number
+    → length messages < number → Consumes a b (head_bytes version cursor number) → HasTaken version cursor messages b c
+    → TakesStored {A = Unit {0}} version cursor messages messages' c d (Err answered) → FailsToLoad a d answered
+message_fails version cursor number messages messages' a b c d (fault.Truncated n) fits within more head so h =
+    let many = h.0 in
+    cut_fails n (head_bytes version cursor number ++ flat_map (stored_bytes version) so.all) a c d broken.Cut
+    (Consumes-trans a b c (head_bytes version cursor number) (flat_map (stored_bytes version) so.all) head so.took)
+    (message_cut version cursor number n messages b c fits within (omega arith) many so) (h.1, h.2)
+message_fails version cursor number messages messages' a b c d (fault.Damaged n) fits within more head so h =
+    let many = h.0 in
+    record { wrong = message_damaged version cursor number n messages a b c d fits within (omega arith) many head so h.1; inside = λ r. absurd (cc) }
+message_fails version cursor number messages messages' a b c d fault.Read fits within more head so h =
+    cut_fails (length messages) (head_bytes version cursor number ++ flat_map (stored_bytes version) so.all) a c d broken.Device
+    (Consumes-trans a b c (head_bytes version cursor number) (flat_map (stored_bytes version) so.all) head so.took)
+    (message_cut version cursor number (length messages) messages b c fits within more refl so) h
+message_fails version cursor number messages messages' a b c d fault.Memory fits within more head so h = record { wrong = if_any a; inside = λ r. absurd (cc) }
+message_fails version cursor number messages messages' a b c d fault.NotBase fits within more head so h = absurd h
+message_fails version cursor number messages messages' a b c d (fault.Write n) fits within more head so h = absurd h
+message_fails version cursor number messages messages' a b c d fault.TooMany fits within more head so h = absurd h
+
+-- head and all messages are a base
+pub base_taken : (head : Head) (base : Base) (a b c : Option (List ℕ)) → TakesHead head a b → TakesAll head base b c → TakesBase base.messages head.cursor a c
+base_taken head base a b c first rest =
+    let version = head.version in
+    let stored = flat_map (stored_bytes version) rest.all in
+    let many = rest.many in (
+      head_bytes version head.cursor head.number ++ stored,
+      Consumes-trans a b c (head_bytes version head.cursor head.number) stored first.took rest.took,
+      record {
+        version = version;
+        all = rest.all;
+        begins = record {
+          number_fits = let fits = first.number_fits in omega arith;
+          cursor_within = let within = first.cursor_within in omega arith;
+          sizes = rest.sizes;
+          sound = rest.sound;
+          whole = λ i. head_bytes version head.cursor (sym many i) ++ sym (append-nil stored) i;
+        };
+        messages = rest.messages;
+      },
+    )
+
+-- whatever else is so of the bytes is the answer
+pub only_answer : (old new : Option (List ℕ)) (r : Result Base BaseFault) (other : Result Loaded BaseFault)
+    → IfOk r (λ base. TakesBase base.messages base.cursor old new) → IfErr r (FailsToLoad old new)
+    → IfSome old (λ bytes. AreBytes bytes → LoadOf bytes other → AnswersLoad r other)
+only_answer None new r other taken fails = tt
+only_answer (Some bytes) None (Ok base) other taken fails = absurd taken.1
+only_answer (Some bytes) (Some rest) (Ok base) other taken fails = λ are so.
+    let came = taken.0 in
+    let whole = taken.1 in
+    let P : List ℕ → Type 0 = BaseOf base.messages base.cursor in
+    let front : take (length came) bytes ≡ came = ap (take (length came)) whole ∙ take_at came rest (length came) refl in
+    let here : LoadOf bytes (Ok (base.messages, base.cursor, length came)) = (omega (arith, ap length whole, length-append came rest), subst P (sym front) taken.2) in
+    (length came, only_outcome bytes are other so ∙ sym (only_outcome bytes are (Ok (base.messages, base.cursor, length came)) here))
+only_answer (Some bytes) new (Err fault.Read) other taken fails = λ are so. tt
+only_answer (Some bytes) new (Err fault.Memory) other taken fails = λ are so. tt
+only_answer (Some bytes) new (Err fault.NotBase) other taken fails = λ are so.
+    only_outcome bytes are other so ∙ sym (only_outcome bytes are (Err fault.NotBase) fails.wrong)
+only_answer (Some bytes) new (Err (fault.Truncated n)) other taken fails = λ are so.
+    only_outcome bytes are other so ∙ sym (only_outcome bytes are (Err (fault.Truncated n)) fails.wrong)
+only_answer (Some bytes) new (Err (fault.Damaged n)) other taken fails = λ are so.
+    only_outcome bytes are other so ∙ sym (only_outcome bytes are (Err (fault.Damaged n)) fails.wrong)
+only_answer (Some bytes) new (Err (fault.Write n)) other taken fails = λ are so. absurd fails.wrong
+only_answer (Some bytes) new (Err fault.TooMany) other taken fails = λ are so. absurd fails.wrong

@@ -1,0 +1,115 @@
+-- What a base file says is a base.
+use Rattle.std.proofs.Common.{◌≡◌, ◌≢◌, ℕ, ◌^◌, ◌<◌, ◌≤◌, ◌==◌, ◌||◌, not, nat_lt, Bool, true, false, cond, List, [], ◌∷◌, ◌++◌, length, map, refl, sym, subst, Option, Some, None, arith}
+use Rattle.std.specs.Prelude.{bytes_eq, is_none}
+use Rattle.std.specs.List.{AllByRecursion, list_all, list_any}
+use Rattle.std.proofs.lemmas.Bool.{ltb-false, not-false, or_parts}
+use Rattle.std.proofs.lemmas.List.{length-map}
+use Rattle.std.proofs.lemmas.List.Elements.{All-from_recursion}
+use Rattle.echo_packet.specs.Message.{HasNoZero, max_name, max_subject}
+use Rattle.echo_text.specs.Lines.{is_tag, trimmed}
+use Rattle.echo_text.specs.Echo.{EchoText, IsEcho}
+use Rattle.echo_text.specs.Ids.{is_line_byte, is_zero}
+use Rattle.echo_text.specs.Refusal.{text_refusal}
+use Rattle.echo_text.proofs.Reread.{read_is_echo}
+use Rattle.echo_filed.specs.Written.{echo_of, text_of}
+use Rattle.echo_filed.specs.Filed.{Filed, HasSmallSender, IsFiled, key_of}
+use Rattle.echo_filed.specs.Stubs.{bare}
+use Rattle.echo_filed.specs.declared.stored.Version.{Version}
+use Rattle.echo_filed.specs.Stored.{IsStored, Stored, echo_in, has_tag, is_posted, message_in, sender_in}
+use Rattle.echo_filed.proofs.Plain.{no_zero, plain_if, some_bytes}
+use Rattle.echo_filed.proofs.Stubs.{bare_echo}
+use Rattle.echo_filed.proofs.Texts.{says_read}
+use Rattle.base_file.specs.Base.{AreNew, IsBase, is_known}
+use Rattle.base_file.specs.BaseFile.{AreSound, BaseOf, has_wrong_form, has_wrong_last, has_wrong_sender, has_wrong_string, is_damaged, is_no_string, is_other_kind, is_wrong_id, is_wrong_text}
+
+-- the sender of a stored message
+small_of : (posted : Bool) (s : Stored) → s.zone < 2 ^ 16 → s.net < 2 ^ 16 → s.node < 2 ^ 16
+    → HasSmallSender (cond posted None (Some (record { zone = s.zone; net = s.net; node = s.node })))
+small_of true s zone net node = tt
+small_of false s zone net node = (zone, net, node)
+
+-- a string that is not wrong
+record IsRight (most : ℕ) (s : List ℕ) : Type 0 where
+  room : length s ≤ most
+  bytes : HasNoZero s
+
+right_string : (most : ℕ) (s : List ℕ) → is_no_string most s ≡ false → IsRight most s
+right_string most s h =
+    let parts = or_parts (nat_lt most (length s)) (list_any is_zero s) h in
+    record { room = ltb-false most (length s) parts.0; bytes = some_bytes s parts.1 }
+
+none_of : {F : Type 0} (o : Option F) → is_none o ≡ true → o ≡ None
+none_of None h = refl
+none_of (Some f) h = absurd (cc)
+
+right_text : (text : List ℕ) → is_wrong_text text ≡ false → IsEcho (echo_of text)
+right_text text h =
+    let p1 = or_parts (list_any is_zero text) (not (is_none (text_refusal text)) || not (bytes_eq (text_of (echo_of text)) text)) h in
+    let p2 = or_parts (not (is_none (text_refusal text))) (not (bytes_eq (text_of (echo_of text)) text)) p1.1 in
+    let said = says_read text (none_of (text_refusal text) (not-false (is_none (text_refusal text)) p2.0)) in
+    read_is_echo text (echo_of text) said.0 (All-from_recursion (λ b. b ≢ 0) text (no_zero text p1.0)) said.1
+
+pub right_last : (with_tag : Bool) (s : Stored) → cond with_tag (not (is_tag s.tag) || is_wrong_id s.last) (is_wrong_text s.last) ≡ false
+    → IsEcho (cond with_tag (bare s.tag s.last) (echo_of s.last))
+right_last true s h =
+    let p1 = or_parts (not (is_tag s.tag)) (is_wrong_id s.last) h in
+    let p2 = or_parts (length s.last == 0) (not (list_all is_line_byte s.last) || not (bytes_eq (trimmed s.last) s.last)) p1.1 in
+    let p3 = or_parts (not (list_all is_line_byte s.last)) (not (bytes_eq (trimmed s.last) s.last)) p2.1 in
+    bare_echo s.tag s.last (not-false (is_tag s.tag) p1.0) (plain_if s.last (not-false (list_all is_line_byte s.last) p3.0))
+right_last false s h = right_text s.last h
+
+-- a message with right strings and this text
+pub filed_with : (version : Version) (s : Stored) (echo : EchoText) → IsStored version s → has_wrong_string s ≡ false → IsEcho echo
+    → IsFiled (record { sender = sender_in s; date = s.date; to_name = s.to_name; from_name = s.from_name; subject = s.subject; echo = echo })
+filed_with version s echo size h is =
+    let q1 = or_parts (is_no_string max_name s.to_name) _ h in
+    let q2 = or_parts (is_no_string max_name s.from_name) (is_no_string max_subject s.subject) q1.1 in
+    let to = right_string max_name s.to_name q1.0 in
+    let from = right_string max_name s.from_name q2.0 in
+    let subject = right_string max_subject s.subject q2.1 in
+    record {
+      small_sender = small_of (is_posted s.kind) s size.zone size.net size.node;
+      date_len = size.date_len;
+      to_room = to.room;
+      to_bytes = to.bytes;
+      from_room = from.room;
+      from_bytes = from.bytes;
+      subject_room = subject.room;
+      subject_bytes = subject.bytes;
+      is_echo = is;
+    }
+
+-- a stored message that is not damaged, as a message of a base
+pub record IsSound (earlier : List Filed) (m : Filed) : Type 0 where
+  pub filed : IsFiled m
+  pub new : is_known earlier (key_of m) ≡ false
+
+pub stored_sound : (version : Version) (cursor : ℕ) (earlier : List Filed) (s : Stored) → IsStored version s → is_damaged version cursor earlier s ≡ false
+    → IsSound earlier (message_in version s)
+unfolding is_damaged message_in
+stored_sound version cursor earlier s size h =
+    let p1 = or_parts (is_other_kind version s.kind) _ h in
+    let p2 = or_parts (has_wrong_sender s) _ p1.1 in
+    let p3 = or_parts (has_wrong_string s) _ p2.1 in
+    let p4 = or_parts (has_wrong_last version s) _ p3.1 in
+    let p5 = or_parts (has_wrong_form version cursor (length earlier) s) _ p4.1 in
+    record {
+      filed = filed_with version s (echo_in version s) size p3.0 (right_last (has_tag version s.kind) s p4.0);
+      new = p5.1;
+    }
+
+all_filed : (version : Version) (cursor : ℕ) (earlier : List Filed) (all : List Stored) → AllByRecursion (IsStored version) all → AreSound version cursor earlier all
+    → AllByRecursion IsFiled (map (message_in version) all) × AreNew earlier (map (message_in version) all)
+all_filed version cursor earlier [] sizes sound = (tt, tt)
+all_filed version cursor earlier (s ∷ later) sizes sound =
+    let one = stored_sound version cursor earlier s sizes.0 sound.0 in
+    let more = all_filed version cursor (earlier ++ message_in version s ∷ []) later sizes.1 sound.1 in
+    ((one.filed, more.0), (one.new, more.1))
+
+pub loaded_is_base : (base : List Filed) (cursor : ℕ) (bytes : List ℕ) → BaseOf base cursor bytes → IsBase base cursor
+loaded_is_base base cursor bytes h =
+    let both = all_filed h.version cursor [] h.all h.begins.sizes h.begins.sound in
+    let within = h.begins.cursor_within in
+    let P : List Filed → Type 0 = λ l. IsBase l cursor in
+    subst P (sym h.messages)
+    (record { each = both.0; new = both.1; within = omega (arith, length-map h.all (message_in h.version)) })

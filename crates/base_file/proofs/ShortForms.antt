@@ -1,0 +1,84 @@
+-- A message that has tag and id in place of the text.
+use Rattle.std.proofs.Common.{◌≡◌, ℕ, ◌<◌, ◌==◌, ◌&&◌, ◌||◌, not, nat_lt, Bool, true, false, List, [], ◌∷◌, length, refl, sym, ap, subst, ◌∙◌, Some, arith}
+use Rattle.std.specs.Prelude.{bytes_eq, is_some}
+use Rattle.std.specs.Cmp.Lexicographic.{bytes_decides, pointwise}
+use Rattle.std.specs.List.{list_all}
+use Rattle.std.proofs.lemmas.Bool.{cond-true, not-false, or_parts, true≢false}
+use Rattle.echo_text.specs.Lines.{is_tag, msgid_word, trimmed}
+use Rattle.echo_text.specs.Echo.{EchoText, msgid_of}
+use Rattle.echo_text.specs.Ids.{is_line_byte}
+use Rattle.echo_filed.specs.declared.key.Key.TheVariants.{ById}
+use Rattle.echo_filed.specs.Filed.{Filed, id_line, key_of, key_with}
+use Rattle.echo_filed.specs.Stubs.{bare, is_stub}
+use Rattle.echo_filed.specs.Written.{echo_of}
+use Rattle.echo_filed.specs.declared.stored.Version.{Version}
+use Rattle.echo_filed.specs.declared.stored.Version.TheVariants.{First, Second}
+use Rattle.echo_filed.specs.Stored.{Stored, has_tag, message_in}
+use Rattle.echo_filed.proofs.Keys.{lines_decide, msgid_first}
+use Rattle.echo_filed.proofs.Left.{is_stub_told}
+use Rattle.echo_filed.proofs.Trims.{IsTrim, trimmed_trim}
+use Rattle.base_file.specs.BaseFile.{has_wrong_last, is_wrong_id, is_wrong_text}
+use Rattle.base_file.specs.Loading.{IsShortOnceScanned, UnlessWrong, has_wrong_field, has_wrong_front}
+
+some : (l : List ℕ) → (length l == 0) ≡ false → 0 < length l
+some [] h = absurd (true≢false h)
+some (x ∷ l) h = omega arith
+
+-- an id that is not wrong is that of its line
+pub id_told : (id : List ℕ) → is_wrong_id id ≡ false → msgid_of (id_line msgid_word id ∷ []) ≡ Some id
+id_told id right =
+    let p1 = or_parts (length id == 0) (not (list_all is_line_byte id) || not (bytes_eq (trimmed id) id)) right in
+    let p2 = or_parts (not (list_all is_line_byte id)) (not (bytes_eq (trimmed id) id)) p1.1 in
+    let same : trimmed id ≡ id = (bytes_decides (trimmed id) id).0 (not-false (bytes_eq (trimmed id) id) p2.1) in
+    msgid_first id [] (record { some = some id p1.0; trim = subst IsTrim same (trimmed_trim id) })
+
+-- its text is the bare one
+bare_text : (version : Version) (s : Stored) → has_tag version s.kind ≡ true → (message_in version s).echo ≡ bare s.tag s.last
+unfolding message_in
+bare_text version s tagged = cond-true (has_tag version s.kind) (bare s.tag s.last) (echo_of s.last) tagged
+
+-- and its id is the one that stands last
+last_is_id : (version : Version) (s : Stored) → has_tag version s.kind ≡ true → has_wrong_field version s ≡ false
+    → msgid_of (message_in version s).echo.kept ≡ Some s.last
+last_is_id version s tagged right =
+    let last : has_wrong_last version s ≡ false = (or_parts (has_wrong_front version s) (has_wrong_last version s) right).1 in
+    let both : (not (is_tag s.tag) || is_wrong_id s.last) ≡ false =
+    sym (cond-true (has_tag version s.kind) (not (is_tag s.tag) || is_wrong_id s.last) (is_wrong_text s.last) tagged) ∙ last in
+    ap (λ (e : EchoText). msgid_of e.kept) (bare_text version s tagged)
+    ∙ id_told s.last (or_parts (not (is_tag s.tag)) (is_wrong_id s.last) both).1
+
+-- so its key is of the tag and this id
+pub short_key : (version : Version) (s : Stored) → has_tag version s.kind ≡ true → has_wrong_field version s ≡ false
+    → key_of (message_in version s) ≡ ById (message_in version s).echo.tag s.last
+unfolding key_of
+short_key version s tagged right = ap (key_with (message_in version s)) (last_is_id version s tagged right)
+
+-- a purge leaves it as it is
+bare_is_stub : (version : Version) (s : Stored) → has_tag version s.kind ≡ true → has_wrong_field version s ≡ false → is_stub (message_in version s) ≡ true
+bare_is_stub version s tagged right =
+    let line = id_line msgid_word s.last in
+    is_stub_told (message_in version s) (Some s.last) (sym (last_is_id version s tagged right))
+    ∙ ap (λ (e : EchoText). pointwise bytes_eq e.kept (line ∷ []) && ((length e.seen == 0) && (length e.path == 0))) (bare_text version s tagged)
+    ∙ ap (λ b. b && true) ((lines_decide (line ∷ []) (line ∷ [])).1 refl)
+
+and_true : (b : Bool) → (b && true) ≡ b
+and_true true = refl
+and_true false = refl
+
+-- so that it has this form wherever it was scanned
+pub short_once_scanned : (version : Version) (s : Stored) → has_tag version s.kind ≡ true → has_wrong_field version s ≡ false
+    → IsShortOnceScanned version (message_in version s)
+short_once_scanned First s tagged right cursor place = absurd (true≢false (sym tagged))
+short_once_scanned Second s tagged right cursor place =
+    ap (λ o. nat_lt place cursor && (is_some o && is_stub (message_in Second s))) (last_is_id Second s tagged right)
+    ∙ ap (λ b. nat_lt place cursor && b) (bare_is_stub Second s tagged right)
+    ∙ and_true (nat_lt place cursor)
+
+-- a message that was found with what stands last, where it has tag and id in place of the text
+pub found_short : (version : Version) (s : Stored) (with_tag : Bool) (p : Filed × List ℕ) → with_tag ≡ has_tag version s.kind → with_tag ≡ true
+    → UnlessWrong (has_wrong_field version s) (message_in version s, s.last) (Some p)
+    → IsShortOnceScanned version p.0 × (key_of p.0 ≡ ById p.0.echo.tag p.1)
+found_short version s with_tag p same tagged found =
+    let has : has_tag version s.kind ≡ true = sym same ∙ tagged in
+    let P : Filed × List ℕ → Type 0 = λ p. IsShortOnceScanned version p.0 × (key_of p.0 ≡ ById p.0.echo.tag p.1) in
+    subst P (sym found.1) (short_once_scanned version s has found.0, short_key version s has found.0)

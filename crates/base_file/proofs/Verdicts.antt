@@ -1,0 +1,103 @@
+-- Whether a stored message may stand next in a base, test after test.
+use Rattle.std.proofs.Common.{◌≡◌, ◌==◌, ℕ, ◌||◌, not, Bool, true, false, List, [], ◌∷◌, length, refl, sym, ap, subst, ◌∙◌, Option, Some}
+use Rattle.std.specs.Prelude.{bytes_eq, is_none}
+use Rattle.std.specs.List.{list_all, list_any}
+use Rattle.std.proofs.lemmas.Bool.{not-false, or_parts}
+use Rattle.echo_addr.specs.declared.address.Address.{Address}
+use Rattle.echo_addr.specs.declared.address.NetNode.{NetNode}
+use Rattle.echo_text.specs.Lines.{is_tag, msgid_word, trimmed}
+use Rattle.echo_text.specs.Echo.{EchoOf, EchoText, IsEcho}
+use Rattle.echo_text.specs.Ids.{is_line_byte, is_zero}
+use Rattle.echo_text.specs.Refusal.{text_refusal}
+use Rattle.echo_filed.specs.Filed.{Filed, IsFiled, id_line, key_of}
+use Rattle.echo_filed.specs.Written.{echo_of, text_of}
+use Rattle.echo_filed.specs.declared.stored.Version.{Version}
+use Rattle.echo_filed.specs.Stored.{IsStored, Stored, has_tag, message_in, sender_in}
+use Rattle.echo_filed.proofs.Plain.{plain_if}
+use Rattle.echo_filed.proofs.Stubs.{bare_echo}
+use Rattle.echo_filed.proofs.Texts.{says_accepted, says_one}
+use Rattle.base_file.specs.Base.{is_known}
+use Rattle.base_file.specs.BaseFile.{has_wrong_form, has_wrong_last, has_wrong_sender, has_wrong_string, is_damaged, is_other_kind, is_wrong_id, is_wrong_text}
+use Rattle.base_file.specs.Loading.{UnlessWrong, is_wrong, said_last, wrong_last}
+use Rattle.base_file.proofs.Loaded.{filed_with, right_last}
+
+-- a text that says an echo is wrong where it is not the one that is written
+pub text_wrong : (text : List ℕ) (e : EchoText) (dropped : ℕ) → list_any is_zero text ≡ false → EchoOf text e dropped → is_wrong_text text ≡ not (bytes_eq (text_of e) text)
+text_wrong text e dropped zero says =
+    let read : not (is_none (text_refusal text)) ≡ false = ap (λ o. not (is_none o)) (says_accepted text e dropped says) in
+    let written : Bool = not (bytes_eq (text_of (echo_of text)) text) in
+    ap (λ b. b || (not (is_none (text_refusal text)) || written)) zero
+    ∙ ap (λ b. b || written) read
+    ∙ ap (λ x. not (bytes_eq (text_of x) text)) (says_one text e dropped says)
+
+-- a tag and an id that are not wrong are a text
+pub bare_made : (tag id : List ℕ) (kept : List (List ℕ)) (seen path : List NetNode) → is_tag tag ≡ true → is_wrong_id id ≡ false
+    → kept ≡ id_line msgid_word id ∷ [] → seen ≡ [] → path ≡ [] → IsEcho (record { tag = tag; kept = kept; seen = seen; path = path })
+bare_made tag id kept seen path right fine one no_seen no_path =
+    let p1 = or_parts (length id == 0) (not (list_all is_line_byte id) || not (bytes_eq (trimmed id) id)) fine in
+    let p2 = or_parts (not (list_all is_line_byte id)) (not (bytes_eq (trimmed id) id)) p1.1 in
+    let made = bare_echo tag id right (plain_if id (not-false (list_all is_line_byte id) p2.0)) in
+    let one' = sym one in
+    let seen' = sym no_seen in
+    let path' = sym no_path in
+    let P : EchoText → Type 0 = IsEcho in
+    subst P (λ i. record { tag = tag; kept = one' i; seen = seen' i; path = path' i }) made
+
+-- a message whose fields are not wrong
+pub message_made : (version : Version) (s : Stored) (sender : Option Address) (echo : EchoText) → IsStored version s → has_wrong_string s ≡ false → sender ≡ sender_in s
+    → UnlessWrong (has_wrong_last version s) (said_last (has_tag version s.kind) s.tag s.last) (Some echo)
+    → IsFiled (record { sender = sender; date = s.date; to_name = s.to_name; from_name = s.from_name; subject = s.subject; echo = echo })
+message_made version s sender echo size strings same h =
+    let sender' = sym same in
+    let echo' = sym h.1 in
+    subst IsFiled (λ i. record { sender = sender' i; date = s.date; to_name = s.to_name; from_name = s.from_name; subject = s.subject; echo = echo' i })
+    (filed_with version s (said_last (has_tag version s.kind) s.tag s.last) size strings (right_last (has_tag version s.kind) s h.0))
+
+pub message_is : (version : Version) (s : Stored) (sender : Option Address) (echo : EchoText) → sender ≡ sender_in s
+    → echo ≡ said_last (has_tag version s.kind) s.tag s.last
+    → record { sender = sender; date = s.date; to_name = s.to_name; from_name = s.from_name; subject = s.subject; echo = echo } ≡ message_in version s
+unfolding message_in
+message_is version s sender echo same told =
+    λ i. record { sender = same i; date = s.date; to_name = s.to_name; from_name = s.from_name; subject = s.subject; echo = told i }
+
+-- the tests in groups
+regrouped : (o s t l f k : Bool) → (o || (s || (t || (l || (f || k))))) ≡ ((((o || (s || t)) || l) || f) || k)
+regrouped true s t l f k = refl
+regrouped false true t l f k = refl
+regrouped false false true l f k = refl
+regrouped false false false true f k = refl
+regrouped false false false false f k = refl
+
+pub damaged_by : (version : Version) (cursor : ℕ) (earlier : List Filed) (s : Stored)
+    → is_damaged version cursor earlier s ≡ (is_wrong version cursor (length earlier) s || is_known earlier (key_of (message_in version s)))
+unfolding is_damaged
+damaged_by version cursor earlier s =
+    regrouped (is_other_kind version s.kind) (has_wrong_sender s) (has_wrong_string s) (has_wrong_last version s)
+    (has_wrong_form version cursor (length earlier) s) (is_known earlier (key_of (message_in version s)))
+
+-- it is damaged where it is wrong, and else where an earlier message has its key
+pub wrong_damaged : (version : Version) (cursor place : ℕ) (earlier : List Filed) (s : Stored) → place ≡ length earlier → is_wrong version cursor place s ≡ true
+    → is_damaged version cursor earlier s ≡ true
+wrong_damaged version cursor place earlier s at_end wrong =
+    damaged_by version cursor earlier s
+    ∙ ap (λ b. b || is_known earlier (key_of (message_in version s))) (ap (λ n. is_wrong version cursor n s) (sym at_end) ∙ wrong)
+
+pub known_damaged : (version : Version) (cursor place : ℕ) (earlier : List Filed) (s : Stored) (m : Filed) (known : Bool) → place ≡ length earlier
+    → is_wrong version cursor place s ≡ false → m ≡ message_in version s → is_known earlier (key_of m) ≡ known → is_damaged version cursor earlier s ≡ known
+known_damaged version cursor place earlier s m known at_end right told is =
+    damaged_by version cursor earlier s
+    ∙ ap (λ b. b || is_known earlier (key_of (message_in version s))) (ap (λ n. is_wrong version cursor n s) (sym at_end) ∙ right)
+    ∙ ap (λ x. is_known earlier (key_of x)) (sym told)
+    ∙ is
+
+-- what stands after the subject, where its parts are named in another way
+pub last_said : (version : Version) (s : Stored) (with_tag : Bool) (last : List ℕ) (o : Option EchoText) (echo : EchoText) → with_tag ≡ has_tag version s.kind → last ≡ s.last
+    → o ≡ Some echo → UnlessWrong (wrong_last with_tag s.tag last) (said_last with_tag s.tag last) o
+    → UnlessWrong (has_wrong_last version s) (said_last (has_tag version s.kind) s.tag s.last) (Some echo)
+last_said version s with_tag last o echo tagged same is h =
+    let P : Bool → List ℕ → Option EchoText → Type 0 = λ t l x. UnlessWrong (wrong_last t s.tag l) (said_last t s.tag l) x in
+    subst (P (has_tag version s.kind) s.last) is (subst (λ l. P (has_tag version s.kind) l o) same (subst (λ t. P t last o) tagged h))
+
+-- what is found is the value, and not wrong
+pub found_right : {X : Type 0} (wrong : Bool) (x y : X) (o : Option X) → o ≡ Some y → UnlessWrong wrong x o → (wrong ≡ false) × (y ≡ x)
+found_right wrong x y o is h = subst (UnlessWrong wrong x) is h

@@ -1,0 +1,55 @@
+use Rattle.std.proofs.Common.{◌≡◌, ◌∙◌, ◌-◌, ◌≤◌, ap, set, subst, sym, Option, arith}
+use Rattle.std.specs.Prelude.{IfSome}
+use Rattle.std.proofs.lemmas.List.{length-map}
+use Rattle.indexmap.specs.IndexMap.{values}
+use Rattle.echo_filed.specs.Filed.{Filed}
+use Rattle.echo_filed.specs.Stubs.{stub_of}
+use Rattle.base_file.proofs.Purges.{changed_goes_on, changed_lines_on, from_place, from_stubs, never_empty, stub_goes_on, stub_lines_on}
+use Rattle.base_file.proofs.purging.put_stubs.Goals as goal
+
+pub put_stub-requires-clause-own : goal.put_stub-requires-clause-own
+put_stub-requires-clause-own g c =
+    let told = changed_lines_on (values c.args.entries.now) (values c.places.entries) c.places.i c.args.cursor c.index.result.now (omega arith) (omega arith) (subst (λ n. c.args.cursor ≤ n) (sym (length-map c.args.entries.now.entries (λ e. e.1))) c.requires.within)
+    c.places.invariant.done c.index.ensures c.places.lines.items c.pop.new.self.items c.in-Some.own c.places.invariant.to_do (sym c.is_stub.ensures ∙ c.if-not-is_stub.true) c.in-Some.ensures.items in
+    let P : Option Filed → Type 0 = λ o. IfSome o (λ m. c.in-Some.own ≡ (stub_of m).echo.kept) in
+    subst P (sym c.index.ensures) told.1
+
+pub places-preserved-in-Some : goal.places-preserved-in-Some
+places-preserved-in-Some g c =
+    let told = changed_lines_on (values c.args.entries.now) (values c.places.entries) c.places.i c.args.cursor c.index.result.now (omega arith) (omega arith) (subst (λ n. c.args.cursor ≤ n) (sym (length-map c.args.entries.now.entries (λ e. e.1))) c.requires.within)
+    c.places.invariant.done c.index.ensures c.places.lines.items c.pop.new.self.items c.in-Some.own c.places.invariant.to_do (sym c.is_stub.ensures ∙ c.if-not-is_stub.true) c.in-Some.ensures.items in
+    let P : Option Filed → Type 0 = λ o. IfSome o (λ m. values c.put_stub.new.entries ≡ set (values c.places.entries) (c.places.i - 1) (stub_of m)) in
+    let written = subst P c.index.ensures c.put_stub.ensures.values in
+    record {
+      above = omega arith;
+      same_keys = c.put_stub.ensures.keys ∙ c.places.invariant.same_keys;
+      to_do = told.0;
+      done = changed_goes_on (values c.args.entries.now) (values c.places.entries) c.places.i c.args.cursor c.index.result.now (omega arith) (omega arith) (subst (λ n. c.args.cursor ≤ n) (sym (length-map c.args.entries.now.entries (λ e. e.1))) c.requires.within)
+          c.places.invariant.done c.index.ensures (values c.put_stub.new.entries) written;
+    }
+
+pub places-preserved-in_default : goal.places-preserved-in_default
+places-preserved-in_default g c =
+    absurd (never_empty (values c.args.entries.now) (values c.places.entries) c.places.i c.args.cursor c.index.result.now (omega arith) (omega arith) (subst (λ n. c.args.cursor ≤ n) (sym (length-map c.args.entries.now.entries (λ e. e.1))) c.requires.within)
+    c.places.invariant.done c.index.ensures c.places.lines.items c.places.invariant.to_do (sym c.is_stub.ensures ∙ c.if-not-is_stub.true) (sym c.places.lines.ok.0 ∙ c.in_default.ensures.cases.0))
+
+pub places-preserved : goal.places-preserved
+places-preserved g c =
+    let stub = sym c.is_stub.ensures ∙ c.if-not-is_stub.false in
+    record {
+      above = omega arith;
+      same_keys = c.places.invariant.same_keys;
+      to_do = stub_lines_on (values c.args.entries.now) (values c.places.entries) c.places.i c.args.cursor c.index.result.now (omega arith) (omega arith) (subst (λ n. c.args.cursor ≤ n) (sym (length-map c.args.entries.now.entries (λ e. e.1))) c.requires.within)
+          c.places.invariant.done c.index.ensures c.places.lines.items c.places.invariant.to_do stub;
+      done = stub_goes_on (values c.args.entries.now) (values c.places.entries) c.places.i c.args.cursor c.index.result.now (omega arith) (omega arith) (subst (λ n. c.args.cursor ≤ n) (sym (length-map c.args.entries.now.entries (λ e. e.1))) c.requires.within)
+          c.places.invariant.done c.index.ensures stub;
+    }
+
+pub returns-clause-values : goal.returns-clause-values
+returns-clause-values g c =
+    let all = values c.args.entries.now in
+    let cursor = c.args.cursor in
+    let done = c.places.invariant.done in
+    let above = c.places.invariant.above in
+    let at : c.places.i ≡ c.args.start = omega (arith, above) in
+    done ∙ ap (λ n. from_place all n cursor) at ∙ from_stubs all c.args.start cursor c.requires.order c.requires.stubs

@@ -1,0 +1,177 @@
+//! Reads a base from a source.
+ghost use Rattle.std.specs.Prelude.{◌≡◌, ◌≤◌, [], length, IfErr, IfOk, IfSome, Result};
+ghost use Rattle.echo_packet.specs.Header.{AreBytes};
+ghost use Rattle.base_file.specs.declared.fault.BaseFault.{BaseFault as Fault};
+ghost use Rattle.base_file.specs.BaseFile.{LoadOf, Loaded};
+ghost use Rattle.base_file.specs.Loading.{AnswersLoad, CountsLoad, FailsToLoad, IsVersion, ReadsHead, ReadsVersion, TakesBase, TakesStored, TakesMessages, fault_behind};
+
+use crate::base::Base;
+use crate::fault::BaseFault;
+use crate::judging::judged;
+use disk_io::{Broken, Source, fill};
+use echo_filed::{Version, read_long, read_stored};
+use std::alloc::Global;
+use std::hash::BuildHasher;
+
+// The first bytes of the two versions.
+const FIRST: &[u8] = b"ECHOBAS1";
+
+pub(super) const SECOND: &[u8] = b"ECHOBAS2";
+
+// The first 16 bytes of a base file.
+#[derive(Clone, Copy)]
+struct Head {
+    version: Version,
+    cursor: u32,
+    number: u32,
+}
+
+// Why a field was not read, after this many whole messages.
+fn broken_fault(broken: Broken, messages: u64) -> BaseFault
+    ensures { result ≡ fault_behind broken messages }
+{
+    match broken {
+        Broken::Cut => BaseFault::Truncated { messages },
+        Broken::Device => BaseFault::Read,
+        Broken::Memory => BaseFault::Memory,
+    }
+}
+
+// The version with these first bytes, or the fault.
+fn version_of(front: &[u8]) -> Result<Version, BaseFault>
+    requires { length front.now ≤ 8 }
+    ensures { IsVersion front.now result }
+{
+    if front == FIRST {
+        return Ok(Version::First);
+    }
+    if front == SECOND {
+        return Ok(Version::Second);
+    }
+    if FIRST.starts_with(front) || SECOND.starts_with(front) {
+        return Err(BaseFault::Truncated { messages: 0 });
+    }
+    Err(BaseFault::NotBase)
+}
+
+fn read_version<R: Source>(reader: &mut R) -> Result<Version, BaseFault>
+    ensures read { ReadsVersion (R.remaining reader.old) (R.remaining reader.new) result }
+    ensures device { CountsLoad result (R.failures reader.old) (R.failures reader.new) }
+{
+    let mut bytes = [0u8; 8];
+    match fill(reader, &mut bytes) {
+        Ok(count) => version_of(&bytes[..count]),
+        Err(_) => Err(BaseFault::Read),
+    }
+}
+
+// The version, the cursor and the number of messages.
+fn read_head<R: Source>(reader: &mut R) -> Result<Head, BaseFault>
+    ensures read { ReadsHead (R.remaining reader.old) (R.remaining reader.new) result }
+    ensures device { CountsLoad result (R.failures reader.old) (R.failures reader.new) }
+{
+    let version = read_version(reader)?;
+    let cursor = match read_long(reader) {
+        Ok(cursor) => cursor,
+        Err(broken) => return Err(broken_fault(broken, 0)),
+    };
+    let number = match read_long(reader) {
+        Ok(number) => number,
+        Err(broken) => return Err(broken_fault(broken, 0)),
+    };
+    if cursor > number {
+        return Err(BaseFault::NotBase);
+    }
+    Ok(Head {
+        version,
+        cursor,
+        number,
+    })
+}
+
+// Takes the next message, and appends it to the base.
+fn take_message<R: Source, S: BuildHasher>(
+    reader: &mut R,
+    base: &mut Base<S>,
+    version: Version,
+    cursor: usize,
+) -> Result<(), BaseFault>
+    ensures taken { TakesStored version cursor base.old.messages base.new.messages (R.remaining reader.old) (R.remaining reader.new) result }
+    ensures cursor { base.new.cursor ≡ base.old.cursor }
+    ensures device { CountsLoad result (R.failures reader.old) (R.failures reader.new) }
+{
+    let alloc = *base.entries.allocator();
+    let place = base.len();
+    let stored = match read_stored(alloc, reader, version) {
+        Ok(stored) => stored,
+        Err(broken) => return Err(broken_fault(broken, place as u64)),
+    };
+    if let Some((key, message)) = judged(alloc, version, cursor, place, stored)? {
+        if base.add(key, message)? {
+            return Ok(());
+        }
+    }
+    Err(BaseFault::Damaged {
+        message: place as u64,
+    })
+}
+
+// Takes the messages after the head.
+fn take_messages<R: Source, S: BuildHasher>(
+    reader: &mut R,
+    base: &mut Base<S>,
+    head: Head,
+) -> Result<(), BaseFault>
+    requires empty { base.old.messages ≡ [] }
+    ensures taken { TakesMessages head base.new (R.remaining reader.old) (R.remaining reader.new) result }
+    ensures device { CountsLoad result (R.failures reader.old) (R.failures reader.new) }
+{
+    let number = head.number as usize;
+    'messages: while base.len() < number {
+        take_message(reader, base, head.version, head.cursor as usize)?;
+    }
+    Ok(())
+}
+
+impl<S: BuildHasher> Base<S> {
+    fn put_cursor(&mut self, cursor: usize)
+        requires { cursor ≤ length self.old.messages }
+        ensures messages { self.new.messages ≡ self.old.messages }
+        ensures cursor { self.new.cursor ≡ cursor }
+    {
+        self.cursor = cursor;
+        self.purged = 0;
+    }
+
+    fn read_base<R: Source>(alloc: Global, reader: &mut R, hasher: S) -> Result<Base<S>, BaseFault>
+    where
+        S: Drop,
+        ensures taken { IfOk result (λ base. TakesBase base.messages base.cursor (R.remaining reader.old) (R.remaining reader.new)) }
+        ensures fault { IfErr result (FailsToLoad (R.remaining reader.old) (R.remaining reader.new)) }
+        ensures device { CountsLoad result (R.failures reader.old) (R.failures reader.new) }
+    {
+        let head = read_head(reader)?;
+        let mut base = Base::new(alloc, hasher);
+        take_messages(reader, &mut base, head)?;
+        base.put_cursor(head.cursor as usize);
+        Ok(base)
+    }
+
+    /// Reads a base file of either version, and no byte after its last message. Look-ups by key go by
+    /// the hasher.
+    ///
+    /// It is `NotBase`, `Truncated` or `Damaged` as the bytes are, and `Read` where the device failed.
+    /// While a field is read, room is made for at most 4,096 bytes more than those that came.
+    pub fn load<R: Source>(alloc: Global, reader: &mut R, hasher: S) -> Result<Base<S>, BaseFault>
+    where
+        S: Drop,
+        // Each answer is right for the bytes.
+        ensures taken { IfOk result (λ base. TakesBase base.messages base.cursor (R.remaining reader.old) (R.remaining reader.new)) }
+        ensures fault { IfErr result (FailsToLoad (R.remaining reader.old) (R.remaining reader.new)) }
+        // The right answer is the only one.
+        ensures only { (other : Result Loaded Fault) → IfSome (R.remaining reader.old) (λ bytes. AreBytes bytes → LoadOf bytes other → AnswersLoad result other) }
+        ensures device { CountsLoad result (R.failures reader.old) (R.failures reader.new) }
+    {
+        Base::read_base(alloc, reader, hasher)
+    }
+}

@@ -1,0 +1,248 @@
+//! Decides whether a stored message may be in a base, and which message it is.
+ghost use Rattle.std.specs.Prelude.{◌≡◌, ◌||◌, not, bytes_eq, false, None, Some, if◌then◌else◌, IfOk, IsTrue};
+ghost use Rattle.std.specs.List.{list_all};
+ghost use Rattle.echo_text.specs.Lines.{is_tag};
+ghost use Rattle.echo_text.specs.Echo.{IsEcho};
+ghost use Rattle.echo_text.specs.Ids.{is_line_byte};
+ghost use Rattle.echo_filed.specs.Written.{echo_of, text_of};
+ghost use Rattle.echo_filed.specs.declared.key.Key.TheVariants.{ById};
+ghost use Rattle.echo_filed.specs.Filed.{key_of};
+ghost use Rattle.echo_filed.specs.Stubs.{bare};
+ghost use Rattle.echo_filed.specs.Stored.{IsStored, is_posted, message_in};
+ghost use Rattle.base_file.specs.BaseFile.{has_wrong_last, has_wrong_sender, has_wrong_string, is_damaged, is_no_string, is_other_kind, is_wrong_id, is_wrong_text};
+ghost use Rattle.base_file.specs.Loading.{IsShortOnceScanned, Judges, UnlessWrong, has_wrong_field, has_wrong_front, is_wrong, said_last, wrong_form, wrong_last};
+
+use echo_addr::{Address, Items};
+use echo_filed::{Filed, Key, StoredMessage, Version, has_tag, is_short, lines_of_id};
+use echo_packet::{MAX_NAME, MAX_SUBJECT};
+use echo_text::{Echo, TextFault, is_kept_tag, read_text, trimmed, write_text};
+use std::alloc::{AllocError, Global};
+
+// Whether the version does not have the first byte.
+fn is_other_kind(version: Version, kind: u8) -> bool
+    ensures { result ≡ is_other_kind version kind }
+{
+    match version {
+        Version::First => kind > 1,
+        Version::Second => kind > 3,
+    }
+}
+
+// Whether a message of this first byte was posted here.
+fn is_posted(kind: u8) -> bool
+    ensures { result ≡ is_posted kind }
+{
+    kind == 0 || kind == 2
+}
+
+fn has_wrong_sender(stored: &StoredMessage) -> bool
+    ensures { result ≡ has_wrong_sender stored.now }
+{
+    let sender = stored.sender;
+    is_posted(stored.kind) && !(sender.zone == 0 && sender.net == 0 && sender.node == 0)
+}
+
+// Whether the bytes are too many or hold a 00.
+fn is_no_string(most: usize, bytes: &[u8]) -> bool
+    ensures { result ≡ is_no_string most bytes.now }
+{
+    bytes.len() > most || bytes.contains(&0)
+}
+
+// Whether a name or the subject has 00 or is too long.
+fn has_wrong_string(stored: &StoredMessage) -> bool
+    ensures { result ≡ has_wrong_string stored.now }
+{
+    is_no_string(MAX_NAME, stored.to_name.as_slice())
+        || is_no_string(MAX_NAME, stored.from_name.as_slice())
+        || is_no_string(MAX_SUBJECT, stored.subject.as_slice())
+}
+
+// Whether the bytes are no id: empty, with 00 or 0D, or with a blank at an end.
+fn is_wrong_id(id: &[u8]) -> bool
+    ensures { result ≡ is_wrong_id id.now }
+{
+    id.is_empty() || !has_line_bytes(id) || trimmed(id) != id
+}
+
+fn has_line_bytes(bytes: &[u8]) -> bool
+    ensures { result ≡ list_all is_line_byte bytes.now }
+{
+    bytes.iter().all(|b| *b != 0 && *b != 13)
+}
+
+// Whether the text is the one that is written for the echo.
+fn is_written(alloc: Global, echo: &Echo, text: &[u8]) -> Result<bool, AllocError>
+    requires { IsEcho echo.now }
+    ensures { IfOk result (λ same. same ≡ bytes_eq (text_of echo.now) text.now) }
+{
+    let written = write_text(alloc, echo)?;
+    Ok(written.as_slice() == text)
+}
+
+// The echo of the text, unless it is written in another way.
+fn echo_of(alloc: Global, text: &[u8]) -> Result<Option<Echo>, AllocError>
+    ensures { IfOk result (UnlessWrong (is_wrong_text text.now) (echo_of text.now)) }
+{
+    if text.contains(&0) {
+        return Ok(None);
+    }
+    let echo = match read_text(alloc, text) {
+        Ok((echo, _)) => echo,
+        Err(TextFault::Memory) => return Err(AllocError),
+        Err(_) => return Ok(None),
+    };
+    if !is_written(alloc, &echo, text)? {
+        return Ok(None);
+    }
+    Ok(Some(echo))
+}
+
+// The text of this tag and id, unless one of them is wrong.
+fn bare(alloc: Global, tag: Items<u8>, id: &[u8]) -> Result<Option<Echo>, AllocError>
+    ensures { IfOk result (UnlessWrong (not (is_tag tag) || is_wrong_id id.now) (bare tag id.now)) }
+{
+    if !is_kept_tag(tag.as_slice()) || is_wrong_id(id) {
+        return Ok(None);
+    }
+    let kept = lines_of_id(alloc, id)?;
+    Ok(Some(Echo {
+        tag,
+        kept,
+        seen: Items::new(Vec::new(alloc)),
+        path: Items::new(Vec::new(alloc)),
+    }))
+}
+
+// The bytes after the subject as a text, unless they are wrong.
+fn echo_in(
+    alloc: Global,
+    with_tag: bool,
+    tag: Items<u8>,
+    last: &[u8],
+) -> Result<Option<Echo>, AllocError>
+    ensures { IfOk result (UnlessWrong (wrong_last with_tag tag last.now) (said_last with_tag tag last.now)) }
+{
+    if with_tag {
+        bare(alloc, tag, last)
+    } else {
+        echo_of(alloc, last)
+    }
+}
+
+fn sender_in(kind: u8, sender: Address) -> Option<Address>
+    ensures { result ≡ (if is_posted kind then None else Some sender) }
+{
+    if is_posted(kind) { None } else { Some(sender) }
+}
+
+// The stored message with its `last`, unless the bytes after the subject are wrong.
+fn message_of(
+    alloc: Global,
+    version: Version,
+    stored: StoredMessage,
+) -> Result<Option<(Filed, Items<u8>)>, AllocError>
+    requires sizes { IsStored version stored }
+    requires strings { has_wrong_string stored ≡ false }
+    ensures { IfOk result (UnlessWrong (has_wrong_last version stored) (message_in version stored, stored.last)) }
+{
+    let with_tag = has_tag(version, stored.kind);
+    let sender = sender_in(stored.kind, stored.sender);
+    let Some(echo) = echo_in(alloc, with_tag, stored.tag, stored.last.as_slice())? else {
+        return Ok(None);
+    };
+    let message = Filed {
+        sender,
+        date: stored.date,
+        to_name: stored.to_name,
+        from_name: stored.from_name,
+        subject: stored.subject,
+        echo,
+    };
+    Ok(Some((message, stored.last)))
+}
+
+// Whether the first byte, the sender or a string is wrong.
+fn has_wrong_front(version: Version, stored: &StoredMessage) -> bool
+    ensures { result ≡ has_wrong_front version stored.now }
+{
+    is_other_kind(version, stored.kind) || has_wrong_sender(stored) || has_wrong_string(stored)
+}
+
+// The stored message with its `last`, unless a field of it is wrong.
+fn right_message(
+    alloc: Global,
+    version: Version,
+    stored: StoredMessage,
+) -> Result<Option<(Filed, Items<u8>)>, AllocError>
+    requires { IsStored version stored }
+    ensures { IfOk result (UnlessWrong (has_wrong_field version stored) (message_in version stored, stored.last)) }
+{
+    if has_wrong_front(version, &stored) {
+        return Ok(None);
+    }
+    message_of(alloc, version, stored)
+}
+
+// Whether the message has the text where tag and id should be, or the other way round.
+fn has_wrong_form(
+    version: Version,
+    cursor: usize,
+    place: usize,
+    with_tag: bool,
+    message: &Filed,
+) -> bool
+    requires { IsTrue with_tag → IsShortOnceScanned version message.now }
+    ensures { result ≡ wrong_form version cursor place with_tag message.now }
+{
+    if with_tag {
+        return place >= cursor;
+    }
+    match version {
+        Version::First => false,
+        Version::Second => is_short(message, place, cursor),
+    }
+}
+
+// The key of the message. If it has tag and id instead of the text, `last` is the id.
+fn key_of(
+    alloc: Global,
+    with_tag: bool,
+    message: &Filed,
+    last: Items<u8>,
+) -> Result<Key, AllocError>
+    requires { IsTrue with_tag → key_of message.now ≡ ById message.now.echo.tag last }
+    ensures { IfOk result (λ key. key ≡ key_of message.now) }
+{
+    if !with_tag {
+        return Key::of_message(alloc, message);
+    }
+    let tag = Vec::from_slice(alloc, message.echo.tag.as_slice())?;
+    Ok(Key::ById {
+        tag: Items::new(tag),
+        msgid: last,
+    })
+}
+
+/// The message with its key, unless a field is wrong or it has another form than a message at this
+/// place should have.
+pub(crate) fn judged(
+    alloc: Global,
+    version: Version,
+    cursor: usize,
+    place: usize,
+    stored: StoredMessage,
+) -> Result<Option<(Key, Filed)>, AllocError>
+    requires { IsStored version stored }
+    ensures { IfOk result (Judges (is_wrong version cursor place stored) (message_in version stored)) }
+{
+    let with_tag = has_tag(version, stored.kind);
+    let Some((message, last)) = right_message(alloc, version, stored)? else {
+        return Ok(None);
+    };
+    if has_wrong_form(version, cursor, place, with_tag, &message) {
+        return Ok(None);
+    }
+    let key = key_of(alloc, with_tag, &message, last)?;
+    Ok(Some((key, message)))
+}

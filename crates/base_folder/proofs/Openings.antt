@@ -1,0 +1,140 @@
+-- A folder that is opened after looks that change nothing.
+use Rattle.std.proofs.Common.{◌≡◌, ◌≢◌, ◌≤◌, ◌<◌, ◌∙◌, ℕ, Bool, List, length, inl, inr, ⊎_elim, sym, ap, subst, arith}
+use Rattle.std.specs.Prelude.{◌⊎◌}
+use Rattle.echo_addr.specs.declared.address.Address.{Address}
+use Rattle.std.proofs.lemmas.Bool.{cases_lt}
+use Rattle.base_file.specs.Base.{Base}
+use Rattle.disk_io.specs.Disk.{DiskState, Files, bytes_in}
+use Rattle.disk_io.specs.Runs.{ChangesNothing, LeavesOnly}
+use Rattle.disk_io.proofs.Moments.{then_run, weaker_run}
+use Rattle.base_log.specs.Names.{keys_of, log_of, messages_of}
+use Rattle.base_log.specs.Standing.{BaseBytes, StandsFor, base_at}
+use Rattle.base_log.specs.declared.log.End.{End}
+use Rattle.base_log.specs.declared.log.Mark.{Mark}
+use Rattle.base_log.specs.declared.log.Told.{Told}
+use Rattle.base_log.specs.Opening.{StandsOrWasLeft}
+use Rattle.base_log.specs.Reading.{IsLogIn, IsRead}
+use Rattle.base_log.specs.declared.log.Log.{Log}
+use Rattle.base_log.proofs.Empty.{stands_quiet}
+use Rattle.base_log.proofs.Opened.{base_found}
+use Rattle.base_log.proofs.Quiet.{base_quiet}
+use Rattle.base_store.specs.Keys.{FolderStandsFor}
+use Rattle.base_folder_store.specs.Held.{HoldsBase, StandsForBase, StandsForBaseOrWasLeft, digest_by}
+use Rattle.base_folder_store.specs.Opened.{IsNamed, IsOpen, IsWritten, committed_by, held_by, path_of}
+use Rattle.base_folder_store.specs.Owned.{with_mark}
+use Rattle.base_folder_store.specs.declared.folder.Folder.{Folder}
+use Rattle.base_folder_store.proofs.Claimed.{claimed_holds, claimed_open}
+use Rattle.base_folder_store.proofs.Bases.{opened_run}
+use Rattle.base_folder_store.proofs.Waits.{written_held}
+use Rattle.base_folder.specs.Ours.{IsLeftAlone, IsMarkOfOther, IsOfOther, SameKey, number_of}
+use Rattle.base_folder.specs.Unopened.{HaveRoom}
+use Rattle.base_folder.specs.Wrong.{IsToldBy}
+use Rattle.base_folder.proofs.Wrongs.{one_end}
+use Rattle.base_folder.specs.declared.unread.Unread.{Unread}
+use Rattle.base_folder.specs.declared.unread.Unread.TheVariants as unread
+
+-- the files stand for the same base
+pub stands_since : (keyed : ℕ → ℕ → List ℕ → ℕ) (path : List ℕ) (d e : DiskState) (base : Base) → ChangesNothing d e → StandsForBase keyed path base d.seen → StandsForBase keyed path base e.seen
+stands_since keyed path d e base quiet stands =
+    let same : e.seen ≡ d.seen = λ i m. quiet.seen m i in
+    subst (λ (f : Files). StandsForBase keyed path base f) (sym same) stands
+
+-- what a crash leaves after the looks
+pub looked_run : (keyed : ℕ → ℕ → List ℕ → ℕ) (path : List ℕ) (d e : DiskState) (base : Base) → ChangesNothing d e → LeavesOnly d e (StandsForBaseOrWasLeft keyed path d base)
+looked_run keyed path d e base quiet = weaker_run d e d.may_leave (StandsForBaseOrWasLeft keyed path d base) quiet.run (λ c left. inr left)
+
+-- and in the middle of opening
+pub opened_run_since : (keyed : ℕ → ℕ → List ℕ → ℕ) (path : List ℕ) (d e f : DiskState) (base : Base) → ChangesNothing d e → LeavesOnly e f (StandsForBaseOrWasLeft keyed path e base)
+    → LeavesOnly d f (StandsForBaseOrWasLeft keyed path d base)
+opened_run_since keyed path d e f base quiet opening =
+    then_run d e f (StandsForBaseOrWasLeft keyed path d base) (StandsForBaseOrWasLeft keyed path e base) (looked_run keyed path d e base quiet) opening
+    (λ c or. ⊎_elim
+    (λ alone. inl (record { outside = λ m out named flushed. alone.outside m out (quiet.named m (λ h. h) named) (quiet.flushed m (λ h. h) flushed) ∙ quiet.seen m; stands = alone.stands }))
+    (λ left. inr (quiet.no_more c left)) or)
+
+-- a folder that was claimed holds the same base: its key changes only where it has no message
+pub claimed_same : (keyed : ℕ → ℕ → List ℕ → ℕ) → HaveRoom keyed → (d : DiskState) (f g : Folder) (base : Base) → IsOpen d f → g ≡ with_mark f g.told.mark → (0 < length f.keys.items → SameKey f.told.mark g.told.mark)
+    → (f.told.mark.owner ≢ 0 → g ≡ f) → HoldsBase keyed (held_by d f) base → HoldsBase keyed (held_by d g) base
+claimed_same keyed fits d f g base opened only key kept holds =
+    ⊎_elim
+    (λ (some : 0 < length f.keys.items).
+    let same = key some in
+    let digest : digest_by keyed g.told.mark ≡ digest_by keyed f.told.mark = λ i. keyed (same.first i) (same.second i) in
+    let files = subst (λ (by : List ℕ → ℕ). FolderStandsFor by base.messages base.cursor (held_by d f).messages (held_by d f).keys) (sym digest) holds.files in
+    let marked : HoldsBase keyed (held_by d (with_mark f g.told.mark)) base = record { files = files; cursor = holds.cursor } in
+    subst (λ (x : Folder). HoldsBase keyed (held_by d x) base) (sym only) marked)
+    (λ (none : length f.keys.items ≤ 0).
+    ⊎_elim
+    (λ (owned : 0 < f.told.mark.owner). subst (λ (x : Folder). HoldsBase keyed (held_by d x) base) (sym (kept (omega arith))) holds)
+    (λ (free : f.told.mark.owner ≤ 0).
+    subst (λ (x : Folder). HoldsBase keyed (held_by d x) base) (sym only)
+    (claimed_holds keyed fits d f g.told.mark base opened (record { owner = omega arith; keys = omega arith }) holds))
+    (cases_lt 0 f.told.mark.owner))
+    (cases_lt 0 (length f.keys.items))
+
+-- and stays open
+pub claimed_opened : (d : DiskState) (f g : Folder) → g ≡ with_mark f g.told.mark → IsOpen d f → IsOpen d g
+claimed_opened d f g only opened = subst (λ (x : Folder). IsOpen d x) (sym only) (claimed_open d f g.told.mark opened)
+
+-- and what was committed last is so still
+pub claimed_committed : (keyed : ℕ → ℕ → List ℕ → ℕ) (d : DiskState) (f g : Folder) (base : Base) → g ≡ with_mark f g.told.mark → f.told ≡ f.end.told → IsWritten f → HoldsBase keyed (held_by d f) base
+    → HoldsBase keyed (committed_by d g) base
+claimed_committed keyed d f g base only settled written holds =
+    let same : committed_by d g ≡ committed_by d f = ap (λ (x : Folder). committed_by d x) only in
+    let last : held_by d f ≡ committed_by d f = written_held d f written ∙ (λ i. base_at d (path_of f) (settled i)) in
+    subst (λ (b : BaseBytes). HoldsBase keyed b base) (last ∙ sym same) holds
+
+-- a log tells one thing
+pub one_told : (strange : Bool) (log : List ℕ) (a b : Told) → IsToldBy strange log a → IsToldBy strange log b → a ≡ b
+one_told strange log a b one other = sym one.is ∙ ap (λ (e : End). e.told) (one_end log one.end other.end one.log.reads other.log.reads) ∙ other.is
+
+-- a folder that is nobody's or this system's is no other's
+pub not_other : (own : Address) (mark : Mark) (address : Address) → (mark.owner ≡ 0) ⊎ (mark.owner ≡ number_of own) → IsMarkOfOther own mark address → ⊥
+not_other own mark address (inl none) other = other.claimed none
+not_other own mark address (inr ours) other = other.other ours
+
+-- a log tells of this owner that it is another system's, or not
+pub told_other : (own : Address) (strange : Bool) (path : List ℕ) (files : Files) (told : Told) (address : Address) → IsToldBy strange (bytes_in (files (log_of path))) told → (told.mark.owner ≡ 0) ⊎ (told.mark.owner ≡ number_of own)
+    → IsOfOther own strange path files address → ⊥
+told_other own strange path files told address by ours other =
+    let same = one_told strange (bytes_in (files (log_of path))) other.told told other.log by in
+    not_other own told.mark address ours (subst (λ (t : Told). IsMarkOfOther own t.mark address) same other.mark)
+
+-- the files stand for the same before looks, and after them
+pub stood_before : (d e : DiskState) (path : List ℕ) (told : Told) → ChangesNothing d e → StandsFor path (base_at e path told) e.seen → StandsFor path (base_at d path told) d.seen
+stood_before d e path told quiet stands =
+    let same : e.seen ≡ d.seen = λ i m. quiet.seen m i in
+    subst (λ (f : Files). StandsFor path (base_at d path told) f) same (subst (λ (b : BaseBytes). StandsFor path b e.seen) (base_quiet d e path told quiet) stands)
+
+pub stood_since : (d e : DiskState) (path : List ℕ) (told : Told) → ChangesNothing d e → StandsFor path (base_at d path told) d.seen → StandsFor path (base_at e path told) e.seen
+stood_since d e path told quiet stands = subst (λ (b : BaseBytes). StandsFor path b e.seen) (sym (base_quiet d e path told quiet)) (stands_quiet d e path (base_at d path told) quiet stands)
+
+-- what the log tells is the base for which the files stand
+pub base_is : (path : List ℕ) (base : BaseBytes) (d e : DiskState) (log : Log) → ChangesNothing d e → IsLogIn path d.seen log → IsRead log → StandsFor path base d.seen → base_at e path log.end.told ≡ base
+base_is path base d e log quiet is read stands =
+    base_found log.bytes.items log.end read path d.seen is base stands e (quiet.seen (messages_of path log.end.told.number)) (quiet.seen (keys_of path log.end.told.number))
+
+-- a folder that was opened after looks holds the base for which its files stood
+pub opened_holds : (keyed : ℕ → ℕ → List ℕ → ℕ) (path : List ℕ) (d e f : DiskState) (log : Log) (folder : Folder) (base : Base) (stands : StandsForBase keyed path base d.seen) → ChangesNothing d e → IsLogIn path d.seen log → IsRead log
+    → held_by f folder ≡ base_at e path log.end.told → HoldsBase keyed (held_by f folder) base
+opened_holds keyed path d e f log folder base stands quiet is read found =
+    subst (λ (b : BaseBytes). HoldsBase keyed b base) (sym (found ∙ base_is path stands.bytes d e log quiet is read stands.stands)) stands.holds
+
+-- and what a crash leaves meanwhile
+pub opening_run : (keyed : ℕ → ℕ → List ℕ → ℕ) (path : List ℕ) (d e f : DiskState) (log : Log) (base : Base) (stands : StandsForBase keyed path base d.seen) → ChangesNothing d e → IsLogIn path d.seen log → IsRead log
+    → LeavesOnly e f (StandsOrWasLeft path e (base_at e path log.end.told)) → LeavesOnly d f (StandsForBaseOrWasLeft keyed path d base)
+opening_run keyed path d e f log base stands quiet is read run =
+    let since : StandsForBase keyed path base e.seen = record { bytes = stands.bytes; stands = stands_quiet d e path stands.bytes quiet stands.stands; holds = stands.holds } in
+    opened_run_since keyed path d e f base quiet
+    (opened_run keyed path e f base since (subst (λ (b : BaseBytes). LeavesOnly e f (StandsOrWasLeft path e b)) (base_is path stands.bytes d e log quiet is read stands.stands) run))
+
+-- looks change nothing, whatever they find
+pub left_alone : (d e : DiskState) (why : Unread) → ChangesNothing d e → IsLeftAlone d e why
+left_alone d e (unread.Wrong fault) quiet = quiet
+left_alone d e (unread.NotOwner address) quiet = quiet
+left_alone d e unread.Memory quiet = tt
+left_alone d e unread.Device quiet = tt
+left_alone d e unread.Raced quiet = tt
+
+pub claimed_named : (f g : Folder) → g ≡ with_mark f g.told.mark → IsNamed f → IsNamed g
+claimed_named f g only named = subst (λ (x : Folder). IsNamed x) (sym only) named

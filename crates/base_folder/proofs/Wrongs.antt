@@ -1,0 +1,32 @@
+-- What is wrong with a folder, and what is not.
+use Rattle.std.proofs.Common.{◌≡◌, ◌∙◌, ℕ, Bool, List, length, sym, ap, ⊎_elim}
+use Rattle.std.proofs.lemmas.Bool.{true≢false}
+use Rattle.disk_io.specs.Disk.{Files, bytes_in}
+use Rattle.base_log.specs.Names.{log_of}
+use Rattle.base_log.specs.Log.{last_told, opened}
+use Rattle.base_log.specs.Reading.{ReadsAll}
+use Rattle.base_log.specs.Standing.{BaseBytes, StandsFor}
+use Rattle.base_log.specs.declared.log.End.{End}
+use Rattle.base_log.proofs.Logs.{one_log}
+use Rattle.base_log.proofs.Opened.{lost_none, read_log}
+use Rattle.base_folder.specs.Wrong.{IsFolderLog, IsSound, is_foreign}
+
+-- a log has one end
+pub one_end : (log : List ℕ) (one other : End) → ReadsAll log one → ReadsAll log other → one ≡ other
+one_end log one other first next =
+    let same : first.reads.bodies ≡ next.reads.bodies = one_log first.reads.bodies next.reads.bodies log (read_log log one first) (read_log log other next) in
+    let gate : one.gate ≡ other.gate = first.reads.gate ∙ ap (λ (b : List (List ℕ)). length (opened b)) same ∙ sym next.reads.gate in
+    let told : one.told ≡ other.told = sym first.reads.told ∙ ap last_told same ∙ next.reads.told in
+    λ i. record { gate = gate i; told = told i }
+
+-- a folder with this log, whose files stand for a base, has nothing wrong
+pub sound_by : (strange : Bool) (path : List ℕ) (files : Files) (end : End) (base : BaseBytes) → IsFolderLog strange (bytes_in (files (log_of path))) end → StandsFor path base files → IsSound strange path files
+sound_by strange path files end base log stands =
+    let bytes = bytes_in (files (log_of path)) in
+    record {
+      folder = λ none.
+          ⊎_elim
+          (λ foreign. absurd (true≢false (sym foreign.foreign ∙ ap (is_foreign strange (length bytes)) (one_end bytes foreign.end end foreign.reads log.reads) ∙ log.own)))
+          (λ lost. lost_none path files base lost stands) none;
+      whole = λ n cut. cut.broken.none base stands;
+    }

@@ -1,0 +1,19 @@
+use Rattle.std.proofs.Common.{List, ℕ, refl, sym, ap, subst, ◌∙◌}
+use Rattle.base_store.specs.Keys.{digested_key}
+use Rattle.echo_filed.specs.Filed.{key_of}
+use Rattle.base_folder_store.specs.Added.{IsStoredAlone}
+use Rattle.base_folder_store.specs.Opened.{held_by}
+use Rattle.base_folder_store.proofs.Causes.{done_both}
+use Rattle.base_folder_store.proofs.Seen.{filed_more}
+use Rattle.base_folder.proofs.filling.add.Goals as goal
+
+pub returns-clause-added : goal.returns-clause-added
+returns-clause-added g c = λ honest.
+    let m = c.args.message.now in
+    let keyed = g.H.Digest.keyed in
+    let before = held_by (g.D.Disk.state c.args.disk.now) c.args.folder.now in
+    let after = held_by (g.D.Disk.state c.stage.new.disk) c.stage.new.self in
+    let stored = subst (λ (l : List ℕ). IsStoredAlone m l) (sym c.deref-2.ensures.value) c.in_ok-bytes.ensures.stored in
+    done_both (λ staged fits base holds unknown. filed_more keyed after before base m (key_of m) c.deref-2.result.now c.deref.result.now c.digest-number.result staged fits holds stored c.in_ok-bytes.ensures.filed refl unknown
+    (c.deref.ensures.value ∙ c.in_ok-digested.ensures ∙ ap digested_key c.in_ok-key.ensures) c.digest-number.ensures)
+    c.stage.result (c.stage.ensures.staged honest) (c.stage.ensures.fits honest)

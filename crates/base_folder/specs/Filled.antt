@@ -1,0 +1,51 @@
+-- A base folder that is filled with messages.
+use Rattle.std.specs.Prelude.{◌≡◌, ◌⊎◌, ℕ, Bool, List, [], false, take}
+use Rattle.base_file.specs.Base.{Base, is_known}
+use Rattle.echo_filed.specs.Filed.{Filed, key_of}
+use Rattle.base_log.specs.Standing.{BaseBytes}
+use Rattle.disk_io.specs.Disk.{DiskState, Files}
+use Rattle.base_folder_store.specs.Held.{HoldsBase, StandsForBase, StandsForBaseAlone}
+use Rattle.base_file.specs.declared.fault.BaseFault.TheVariants as fault
+use Rattle.base_store.specs.Store.{with_message}
+use Rattle.base_store.specs.declared.store_error.StoreError.{StoreError}
+use Rattle.base_store.specs.declared.store_error.StoreError.TheVariants as error
+use Rattle.base_folder.specs.Unread.{IsWrong}
+use Rattle.base_folder.specs.declared.unread.Unread.{Unread}
+use Rattle.base_folder.specs.declared.unread.Unread.TheVariants as unread
+
+-- each base that was held, and does not know the message, is held with it at its end
+abbrev pub HoldsMore : (ℕ → ℕ → List ℕ → ℕ) → BaseBytes → BaseBytes → Filed → Type 0
+HoldsMore keyed old new m = (base : Base) → HoldsBase keyed old base → is_known base.messages (key_of m) ≡ false → HoldsBase keyed new (with_message base m)
+
+-- so many of the messages are held, from the front, and this cursor
+abbrev pub HoldsFront : (ℕ → ℕ → List ℕ → ℕ) → BaseBytes → List Filed → ℕ → ℕ → Type 0
+HoldsFront keyed bytes messages n cursor = HoldsBase keyed bytes (record { messages = take n messages; cursor = cursor })
+
+-- the files stand for the base from before or for the other one, and nothing outside the folder has changed
+abbrev pub StandsForOneOf : (ℕ → ℕ → List ℕ → ℕ) → List ℕ → DiskState → Base → Base → Files → Type 0
+StandsForOneOf keyed path old first next c = StandsForBaseAlone keyed path old first c ⊎ StandsForBaseAlone keyed path old next c
+
+-- or it is what a crash might have left before
+abbrev pub StandsForOneOfOrWasLeft : (ℕ → ℕ → List ℕ → ℕ) → List ℕ → DiskState → Base → Base → Files → Type 0
+StandsForOneOfOrWasLeft keyed path old first next c = StandsForOneOf keyed path old first next c ⊎ old.may_leave c
+
+-- a base without messages
+abbrev pub no_messages : Base
+no_messages = record { messages = []; cursor = 0 }
+
+-- the files stand for this base, and each crash leaves files that do
+pub record IsKept (keyed : ℕ → ℕ → List ℕ → ℕ) (path : List ℕ) (disk : DiskState) (base : Base) : Type 0 where
+  pub seen : StandsForBase keyed path base disk.seen
+  pub stays : (c : Files) → disk.may_leave c → StandsForBase keyed path base c
+
+-- a fault of the store, as one of the folder
+abbrev pub unfilled_cause : StoreError → Unread
+unfilled_cause error.Memory = unread.Memory
+unfilled_cause error.Device = unread.Device
+unfilled_cause error.Damaged = unread.Memory
+unfilled_cause error.TooMany = unread.Wrong fault.TooMany
+
+-- four bytes do not count what it is to be filled with, or something is wrong with it
+abbrev pub IsUnfilled : Bool → List ℕ → Files → Unread → Type 0
+IsUnfilled strange path files (unread.Wrong fault.TooMany) = Unit {0}
+IsUnfilled strange path files why = IsWrong strange path files why

@@ -1,0 +1,165 @@
+//! The contents of a base folder's log, and what is wrong with the folder.
+ghost use Rattle.std.specs.Prelude.{◌≡◌, ◌≤◌, ◌<◌, ◌/◌, ◌+◌, length, take, drop, IfErr, IfOk, OnOk};
+ghost use Rattle.disk_io.specs.Disk.{Honestly, bytes_in};
+ghost use Rattle.disk_io.specs.Runs.{ChangesNothing, HasCause};
+ghost use Rattle.base_log.specs.Names.{keys_of, log_of, messages_of};
+ghost use Rattle.base_log.specs.Reading.{IsLogIn, IsRead};
+ghost use Rattle.base_log.specs.Standing.{StandsFor, base_at};
+ghost use Rattle.base_folder.specs.Unread.{HasUnreadCause, IsWrong};
+ghost use Rattle.base_folder.specs.Wrong.{AreWhole, IsFolderLog, is_foreign, is_no_log};
+
+use crate::unread::Unread;
+use base_file::BaseFault;
+use base_log::{End, FolderError, Log, Names, Told, judge, len_of, read_log};
+use base_store::end_of;
+use disk_io::{Disk, DiskError, read_part};
+use std::alloc::Global;
+
+/// How many bytes of the keys belong to one message.
+const ENTRY: usize = 16;
+
+/// How many bytes a stopped commit leaves after the records: a closed gate, and a record with its own gate.
+const LEFT_BEHIND: usize = 51;
+
+/// The greatest number of files.
+const GREATEST: u8 = 9;
+
+/// The bytes of a file between two places: fewer if it ends before the second one, none if there is no file.
+pub(crate) fn part_of<D: Disk>(
+    alloc: Global,
+    disk: &mut D,
+    path: &[u8],
+    from: usize,
+    most: usize,
+) -> Result<Vec<u8>, DiskError>
+    ensures bytes { Honestly (D.state disk.new) (IfOk result (λ bytes. bytes.items ≡ drop from (take most (bytes_in ((D.state disk.old).seen path.now))))) }
+    ensures quiet { ChangesNothing (D.state disk.old) (D.state disk.new) }
+    ensures cause { HasCause (D.failures disk.old) (D.failures disk.new) result }
+{
+    if !disk.exists(path)? {
+        return Ok(Vec::new(alloc));
+    }
+    let len = disk.len(path)?;
+    let end = if len < most { len } else { most };
+    if from >= end {
+        return Ok(Vec::new(alloc));
+    }
+    read_part(alloc, disk, path, from, end)
+}
+
+// Whether no base folder has a log of this size whose records end so.
+fn is_no_log(size: usize, end: End) -> bool
+    requires { end.gate ≤ size }
+    ensures { result ≡ is_no_log size end }
+{
+    let told = end.told;
+    told.number > GREATEST
+        || told.keys % ENTRY != 0
+        || told.cursor > (told.keys / ENTRY) as u64
+        || size - end.gate > LEFT_BEHIND
+}
+
+// The same, or whether it has no record and the folder has foreign files.
+fn is_foreign(strange: bool, size: usize, end: End) -> bool
+    requires { end.gate ≤ size }
+    ensures { result ≡ is_foreign strange size end }
+{
+    is_no_log(size, end) || (strange && end.gate == 0)
+}
+
+// How many messages, from the front, end within the existing bytes, of all that the log counts.
+fn whole_in(keys: &[u8], all: usize, there: usize) -> u64
+    ensures { AreWhole keys.now all there result }
+{
+    let count = keys.len() / ENTRY;
+    'messages: for i in 0..count {
+        if end_of(keys, i, all as u64) > there as u64 {
+            return i as u64;
+        }
+    }
+    count as u64
+}
+
+// How many messages are whole, of those that a record counts.
+fn whole_of<D: Disk>(alloc: Global, disk: &mut D, path: &[u8], told: Told) -> Result<u64, DiskError>
+    requires { told.number < 10 }
+    ensures whole { Honestly (D.state disk.new) (IfOk result (AreWhole (take told.keys (bytes_in ((D.state disk.old).seen (keys_of path.now told.number))))
+        told.messages (length (bytes_in ((D.state disk.old).seen (messages_of path.now told.number)))))) }
+    ensures quiet { ChangesNothing (D.state disk.old) (D.state disk.new) }
+    ensures cause { HasCause (D.failures disk.old) (D.failures disk.new) result }
+{
+    let names = Names::new(alloc, path, told.number)?;
+    let there = len_of(disk, &names.messages)?;
+    let keys = part_of(alloc, disk, &names.keys, 0, told.keys)?;
+    Ok(whole_in(&keys, told.messages, there))
+}
+
+/// Whether the files of the folder with this log hold a base. `strange` says that the folder has foreign files.
+pub(crate) fn judge_by<D: Disk>(
+    alloc: Global,
+    disk: &mut D,
+    path: &[u8],
+    strange: bool,
+    log: &Log,
+) -> Result<(), Unread>
+    requires log { Honestly (D.state disk.old) (IsLogIn path.now (D.state disk.old).seen log.now) }
+    requires read { IsRead log.now }
+    requires within { log.now.end.gate ≤ length log.now.bytes.items }
+    ensures digit { OnOk result (log.now.end.told.number < 10) }
+    ensures folder { OnOk result (IsFolderLog strange log.now.bytes.items log.now.end) }
+    ensures stands { Honestly (D.state disk.new) (OnOk result (StandsFor path.now (base_at (D.state disk.old) path.now log.now.end.told) (D.state disk.old).seen)) }
+    ensures wrong { Honestly (D.state disk.new) (IfErr result (IsWrong strange path.now (D.state disk.old).seen)) }
+    ensures quiet { ChangesNothing (D.state disk.old) (D.state disk.new) }
+    ensures cause { HasUnreadCause (D.failures disk.old) (D.failures disk.new) result }
+{
+    if is_foreign(strange, log.bytes.len(), log.end) {
+        return Err(Unread::Wrong(BaseFault::NotBase));
+    }
+    match judge(alloc, disk, path, log) {
+        Ok(()) => Ok(()),
+        Err(FolderError::Lost) => Err(Unread::Wrong(BaseFault::NotBase)),
+        Err(FolderError::Corrupt) => {
+            let messages = whole_of(alloc, disk, path, log.end.told)?;
+            Err(Unread::Wrong(BaseFault::Truncated { messages }))
+        }
+        Err(FolderError::Memory) => Err(Unread::Memory),
+        Err(FolderError::Device) => Err(Unread::Device),
+    }
+}
+
+/// The log of a folder whose files hold its base.
+pub(crate) fn judged<D: Disk>(
+    alloc: Global,
+    disk: &mut D,
+    path: &[u8],
+    strange: bool,
+) -> Result<Log, Unread>
+    ensures log { Honestly (D.state disk.new) (IfOk result (IsLogIn path.now (D.state disk.old).seen)) }
+    ensures read { IfOk result IsRead }
+    ensures digit { IfOk result (λ log. log.end.told.number < 10) }
+    ensures folder { Honestly (D.state disk.new) (IfOk result (λ log. IsFolderLog strange (bytes_in ((D.state disk.old).seen (log_of path.now))) log.end)) }
+    ensures stands { Honestly (D.state disk.new) (IfOk result (λ log. StandsFor path.now (base_at (D.state disk.old) path.now log.end.told) (D.state disk.old).seen)) }
+    ensures wrong { Honestly (D.state disk.new) (IfErr result (IsWrong strange path.now (D.state disk.old).seen)) }
+    ensures quiet { ChangesNothing (D.state disk.old) (D.state disk.new) }
+    ensures cause { HasUnreadCause (D.failures disk.old) (D.failures disk.new) result }
+{
+    let log = read_log(alloc, disk, path)?;
+    judge_by(alloc, disk, path, strange, &log)?;
+    Ok(log)
+}
+
+/// The end of the records of a base folder's log, and the contents of the last record.
+pub fn log_end<D: Disk>(
+    alloc: Global,
+    disk: &mut D,
+    path: &[u8],
+    strange: bool,
+) -> Result<End, Unread>
+    ensures folder { Honestly (D.state disk.new) (IfOk result (IsFolderLog strange (bytes_in ((D.state disk.old).seen (log_of path.now))))) }
+    ensures wrong { Honestly (D.state disk.new) (IfErr result (IsWrong strange path.now (D.state disk.old).seen)) }
+    ensures quiet { ChangesNothing (D.state disk.old) (D.state disk.new) }
+    ensures cause { HasUnreadCause (D.failures disk.old) (D.failures disk.new) result }
+{
+    let log = judged(alloc, disk, path, strange)?;
+    Ok(log.end)
+}

@@ -1,0 +1,97 @@
+//! A base folder opened to be changed.
+ghost use Rattle.std.specs.Prelude.{◌≡◌, ℕ, List, IfErr, IfOk, OnOk};
+ghost use Rattle.base_file.specs.Base.{Base};
+ghost use Rattle.disk_io.specs.Disk.{Honestly};
+ghost use Rattle.echo_addr.specs.declared.address.Address.{Address};
+ghost use Rattle.disk_io.specs.Runs.{LeavesOnly};
+ghost use Rattle.base_log.specs.Moments.{KeepsOutside};
+ghost use Rattle.base_log.specs.Opening.{AreAlone};
+ghost use Rattle.base_folder_store.specs.Held.{HoldsBase, StandsForBase, StandsForBaseOrWasLeft};
+ghost use Rattle.base_folder_store.specs.Opened.{IsNamed, IsOpen, IsWritten, held_by, path_of};
+ghost use Rattle.base_folder.specs.Ours.{HasGivenKey, IsLeftAlone, IsNotOurs, IsOfOther, number_of};
+ghost use Rattle.base_folder.specs.Unopened.{HasOpened, HaveRoom};
+ghost use Rattle.base_folder.specs.Unread.{HasUnreadCause, IsWrong};
+ghost use Rattle.base_folder.specs.Wrong.{IsSound};
+
+use crate::judging::judged;
+use crate::owning::{address_of, claim_for, number_of};
+use crate::unread::Unread;
+use base_folder_store::Folder;
+use disk_io::Disk;
+use echo_addr::Address;
+use std::alloc::Global;
+
+/// Opens the base folder of this path, which ends in a slash, like `Folder::open`, if it is one. `strange` says that
+/// the folder has foreign files.
+///
+/// It is `Wrong` if it is no base folder (F1), or its log or a file is cut short (F2), and then nothing is changed.
+pub fn open_base<D: Disk>(
+    alloc: Global,
+    disk: &mut D,
+    path: &[u8],
+    strange: bool,
+) -> Result<Folder, Unread>
+    requires { Honestly (D.state disk.old) (AreAlone path.now (D.state disk.old)) }
+    ensures opened { Honestly (D.state disk.new) (IfOk result (IsOpen (D.state disk.new))) }
+    ensures named { IfOk result IsNamed }
+    ensures path { IfOk result (λ folder. path_of folder ≡ path.now) }
+    ensures settled { IfOk result (λ folder. folder.told ≡ folder.end.told) }
+    ensures written { IfOk result IsWritten }
+    ensures same { Honestly (D.state disk.new) ((keyed : ℕ → ℕ → List ℕ → ℕ) (base : Base) → StandsForBase keyed path.now base (D.state disk.old).seen
+        → IfOk result (λ folder. HoldsBase keyed (held_by (D.state disk.new) folder) base)) }
+
+    // A crash at any time leaves the same base and all else as it was, or what a crash might have left before.
+    ensures any_moment { Honestly (D.state disk.new) ((keyed : ℕ → ℕ → List ℕ → ℕ) (base : Base) → StandsForBase keyed path.now base (D.state disk.old).seen
+        → LeavesOnly (D.state disk.old) (D.state disk.new) (StandsForBaseOrWasLeft keyed path.now (D.state disk.old) base)) }
+    ensures outside { KeepsOutside path.now (D.state disk.old) (D.state disk.new) }
+    ensures sound { Honestly (D.state disk.new) (OnOk result (IsSound strange path.now (D.state disk.old).seen)) }
+    ensures wrong { Honestly (D.state disk.new) (IfErr result (IsWrong strange path.now (D.state disk.old).seen)) }
+    ensures left { IfErr result (IsLeftAlone (D.state disk.old) (D.state disk.new)) }
+    ensures cause { HasUnreadCause (D.failures disk.old) (D.failures disk.new) result }
+{
+    let log = judged(alloc, disk, path, strange)?;
+    let folder = Folder::open(alloc, disk, path, &log)?;
+    Ok(folder)
+}
+
+/// Opens the base folder for the system with this address. A folder without owner is claimed, and keeps its owner
+/// from the next commit on. A folder without messages also gets the key of these two halves.
+///
+/// It is `NotOwner` if the folder belongs to another system, and then nothing is changed.
+pub fn open_own<D: Disk>(
+    alloc: Global,
+    disk: &mut D,
+    path: &[u8],
+    strange: bool,
+    own: Address,
+    key: (u64, u64),
+) -> Result<Folder, Unread>
+    requires { Honestly (D.state disk.old) (AreAlone path.now (D.state disk.old)) }
+    ensures opened { Honestly (D.state disk.new) (IfOk result (IsOpen (D.state disk.new))) }
+    ensures named { IfOk result IsNamed }
+    ensures path { IfOk result (λ folder. path_of folder ≡ path.now) }
+    ensures same { Honestly (D.state disk.new) ((keyed : ℕ → ℕ → List ℕ → ℕ) (base : Base) → HaveRoom keyed → StandsForBase keyed path.now base (D.state disk.old).seen
+        → IfOk result (HasOpened keyed (D.state disk.new) base)) }
+    ensures any_moment { Honestly (D.state disk.new) ((keyed : ℕ → ℕ → List ℕ → ℕ) (base : Base) → StandsForBase keyed path.now base (D.state disk.old).seen
+        → LeavesOnly (D.state disk.old) (D.state disk.new) (StandsForBaseOrWasLeft keyed path.now (D.state disk.old) base)) }
+    ensures outside { KeepsOutside path.now (D.state disk.old) (D.state disk.new) }
+    ensures sound { Honestly (D.state disk.new) (OnOk result (IsSound strange path.now (D.state disk.old).seen)) }
+
+    // It belongs to this system, and to another one exactly if that is the answer; then nothing is changed.
+    ensures ours { IfOk result (λ folder. folder.told.mark.owner ≡ number_of own) }
+    ensures drawn { IfOk result (HasGivenKey own key.0 key.1) }
+    ensures other { Honestly (D.state disk.new) ((address : Address) → IsOfOther own strange path.now (D.state disk.old).seen address → OnOk result ⊥) }
+    ensures refused { Honestly (D.state disk.new) (IfErr result (IsLeftAlone (D.state disk.old) (D.state disk.new))) }
+    ensures wrong { Honestly (D.state disk.new) (IfErr result (IsNotOurs own strange path.now (D.state disk.old).seen)) }
+    ensures cause { HasUnreadCause (D.failures disk.old) (D.failures disk.new) result }
+{
+    let log = judged(alloc, disk, path, strange)?;
+    let owner = log.end.told.mark.owner;
+    let number = number_of(own);
+    if owner != 0 && owner != number {
+        return Err(Unread::NotOwner(address_of(owner)));
+    }
+    let mut folder = Folder::open(alloc, disk, path, &log)?;
+    claim_for(&mut folder, own, key.0, key.1);
+    Ok(folder)
+}

@@ -1,0 +1,50 @@
+//! The owner of a base folder.
+ghost use Rattle.std.specs.Prelude.{◌≡◌, ◌<◌, ◌⊎◌, length};
+ghost use Rattle.base_folder_store.specs.Owned.{IsUnclaimed, with_mark};
+ghost use Rattle.base_folder.specs.Ours.{IsOurs, SameKey, address_of, number_of};
+
+use base_folder_store::Folder;
+use base_log::Mark;
+use echo_addr::Address;
+
+/// The number of a system in a folder: sixteen bits each of zone, net and node.
+pub fn number_of(own: Address) -> u64
+    ensures number { result ≡ number_of own }
+    ensures told { address_of result ≡ own }
+{
+    own.zone as u64 * 0x1_0000_0000 + own.net as u64 * 0x1_0000 + own.node as u64
+}
+
+/// The address that has this number.
+pub fn address_of(number: u64) -> Address
+    ensures { result ≡ address_of number }
+{
+    Address {
+        zone: (number / 0x1_0000_0000 % 0x1_0000) as u16,
+        net: (number / 0x1_0000 % 0x1_0000) as u16,
+        node: (number % 0x1_0000) as u16,
+    }
+}
+
+/// Claims the folder for this system if it has no owner, and keeps that from the next commit on. A folder without
+/// messages also gets the key of these two halves.
+pub(crate) fn claim_for(folder: &mut Folder, own: Address, first: u64, second: u64)
+    requires { (folder.old.told.mark.owner ≡ 0) ⊎ (folder.old.told.mark.owner ≡ number_of own) }
+    ensures ours { IsOurs own folder.old folder.new }
+    ensures only { folder.new ≡ with_mark folder.old folder.new.told.mark }
+    ensures key { 0 < length folder.old.keys.items → SameKey folder.old.told.mark folder.new.told.mark }
+    ensures drawn { IsUnclaimed folder.old → folder.new.told.mark ≡ record { owner = number_of own; first = first; second = second } }
+{
+    let owner = number_of(own);
+    if folder.owner().is_some() {
+        return;
+    }
+    let mark = Mark {
+        owner,
+        first,
+        second,
+    };
+    if !folder.claim(mark) {
+        folder.adopt(owner);
+    }
+}

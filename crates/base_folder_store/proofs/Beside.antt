@@ -1,0 +1,139 @@
+-- A base folder, and beside its files those that are made in their place.
+use Rattle.std.proofs.Common.{◌≡◌, ◌≢◌, ◌≤◌, ◌/◌, ℕ, List, length, take, sym, ap, subst, ◌∙◌, arith, inl, inr, ⊎_elim}
+use Rattle.std.specs.Prelude.{IsSome}
+use Rattle.disk_io.specs.Disk.{DiskState, bytes_in}
+use Rattle.disk_io.specs.Runs.{ChangesNothing, LeavesOnly}
+use Rattle.disk_io.proofs.Moments.{then_run, weaker_run}
+use Rattle.base_log.specs.AtRest.{IsAtRest}
+use Rattle.base_log.specs.Moments.{IsBeforeOrAfter, KeepsOutside, StandsAlone}
+use Rattle.base_log.specs.Names.{AreNames, keys_of, messages_of}
+use Rattle.base_log.specs.Standing.{BaseBytes, StandsFor, base_at}
+use Rattle.base_log.specs.declared.log.Told.{Told}
+use Rattle.base_log.proofs.Paths.{keys_not_messages, keys_of-injective, messages_not_keys, messages_of-injective}
+use Rattle.base_file.specs.Base.{Base}
+use Rattle.base_store.specs.Keys.{StandWhereTold}
+use Rattle.base_folder_store.specs.Added.{SameBesideBoth}
+use Rattle.base_folder_store.specs.Held.{HoldsBase}
+use Rattle.base_folder_store.specs.Left.{IsBesideIn, IsReadable}
+use Rattle.base_folder_store.specs.Opened.{IsOpen, IsWritten, committed_by, held_by, path_of}
+use Rattle.base_folder_store.specs.declared.folder.Folder.{Folder}
+use Rattle.base_folder_store.proofs.Bases.{told_where}
+use Rattle.base_folder_store.proofs.Staged.{committed_staged}
+use Rattle.base_folder_store.proofs.Waits.{written_held}
+
+-- what was committed is the same
+pub committed_beside : (d : DiskState) (f g : Folder) → IsBesideIn f g → committed_by d g ≡ committed_by d f
+committed_beside d f g beside = λ i. base_at d (beside.path i) (beside.end i).told
+
+-- where its two files are as they were, it can be read still
+readable_same : (d e : DiskState) (f : Folder) → e.seen (messages_of (path_of f) f.end.told.number) ≡ d.seen (messages_of (path_of f) f.end.told.number)
+    → e.seen (keys_of (path_of f) f.end.told.number) ≡ d.seen (keys_of (path_of f) f.end.told.number) → IsReadable d f → IsReadable e f
+readable_same d e f messages keys was = record {
+  names = was.names;
+  there = subst (λ x. IsSome x) (sym messages) was.there;
+  long = subst (λ x. f.end.told.messages ≤ length (bytes_in x)) (sym messages) was.long;
+  keys = was.keys ∙ ap (λ x. take f.end.told.keys (bytes_in x)) (sym keys);
+}
+
+pub readable_quiet : (d e : DiskState) (f : Folder) → ChangesNothing d e → IsReadable d f → IsReadable e f
+readable_quiet d e f quiet was = readable_same d e f (quiet.seen (messages_of (path_of f) f.end.told.number)) (quiet.seen (keys_of (path_of f) f.end.told.number)) was
+
+-- the files of another number are others
+pub readable_beside : (d e : DiskState) (f g : Folder) → IsBesideIn f g → SameBesideBoth (path_of g) g.told.number d.seen e.seen → IsReadable d f → IsReadable e f
+readable_beside d e f g beside same was =
+    let n = f.end.told.number in
+    let number = g.told.number in
+    let m_m : messages_of (path_of f) n ≢ messages_of (path_of g) number =
+    λ is. beside.number (sym (messages_of-injective (path_of f) n number (is ∙ ap (λ (p : List ℕ). messages_of p number) beside.path))) in
+    let m_k : messages_of (path_of f) n ≢ keys_of (path_of g) number = λ is. messages_not_keys (path_of f) n number (is ∙ ap (λ (p : List ℕ). keys_of p number) beside.path) in
+    let k_m : keys_of (path_of f) n ≢ messages_of (path_of g) number = λ is. keys_not_messages (path_of f) n number (is ∙ ap (λ (p : List ℕ). messages_of p number) beside.path) in
+    let k_k : keys_of (path_of f) n ≢ keys_of (path_of g) number =
+    λ is. beside.number (sym (keys_of-injective (path_of f) n number (is ∙ ap (λ (p : List ℕ). keys_of p number) beside.path))) in
+    readable_same d e f (same (messages_of (path_of f) n) m_m m_k) (same (keys_of (path_of f) n) k_m k_k) was
+
+-- an open folder at rest can be read
+pub rest_readable : (d : DiskState) (f : Folder) → IsOpen d f → IsAtRest d (path_of f) f.end → f.end.told ≡ f.told → IsWritten f → IsReadable d f
+rest_readable d f opened rest told none = record {
+  names = subst (λ (t : Told). AreNames f.names t.number) (sym told) opened.names;
+  there = rest.messages_on.there;
+  long = rest.messages_long;
+  keys = opened.keys ∙ ap (λ (b : BaseBytes). b.keys) (written_held d f none) ∙ ap (λ (t : Told). (base_at d (path_of f) t).keys) (sym told);
+}
+
+-- and one at rest is open
+pub rest_open : (d e : DiskState) (f : Folder) → IsOpen d f → IsAtRest e (path_of f) f.end → f.end.told ≡ f.told → committed_by e f ≡ committed_by d f → IsWritten f → IsOpen e f
+rest_open d e f opened rest told same none = record {
+  names = opened.names;
+  staged = committed_staged e (path_of f) f.end f.told rest told;
+  keys = opened.keys
+      ∙ ap (λ (b : BaseBytes). b.keys) (written_held d f none)
+      ∙ ap (λ (t : Told). (base_at d (path_of f) t).keys) (sym told)
+      ∙ sym (ap (λ (b : BaseBytes). b.keys) same)
+      ∙ ap (λ (t : Told). (base_at e (path_of f) t).keys) told
+      ∙ sym (ap (λ (b : BaseBytes). b.keys) (written_held e f none));
+}
+
+-- it holds what was committed
+pub rest_held : (d : DiskState) (f : Folder) → f.end.told ≡ f.told → IsWritten f → held_by d f ≡ committed_by d f
+rest_held d f told none = written_held d f none ∙ ap (λ (t : Told). base_at d (path_of f) t) (sym told)
+
+-- each message stands where the keys that were read tell
+pub told_readable : (keyed : ℕ → ℕ → List ℕ → ℕ) (d : DiskState) (f : Folder) (base : Base) (file : List ℕ) → IsReadable d f → HoldsBase keyed (committed_by d f) base → file ≡ f.names.messages.items
+    → StandWhereTold base.messages (take f.end.told.messages (bytes_in (d.seen file))) f.keys.items
+told_readable keyed d f base file readable holds is =
+    let name : file ≡ messages_of (path_of f) f.end.told.number = is ∙ readable.names.messages in
+    subst (λ (l : List ℕ). StandWhereTold base.messages l f.keys.items) (ap (λ (m : List ℕ). take f.end.told.messages (bytes_in (d.seen m))) (sym name))
+    (subst (λ (l : List ℕ). StandWhereTold base.messages (committed_by d f).messages l) (sym readable.keys) (told_where keyed (committed_by d f) base holds))
+
+-- there are as many messages as entries
+pub many_readable : (keyed : ℕ → ℕ → List ℕ → ℕ) (d : DiskState) (f : Folder) (base : Base) → IsReadable d f → HoldsBase keyed (committed_by d f) base → length f.keys.items / 16 ≡ length base.messages
+many_readable keyed d f base readable holds =
+    let many = (told_where keyed (committed_by d f) base holds).many in
+    let long : length f.keys.items ≡ length (committed_by d f).keys = ap (λ (l : List ℕ). length l) readable.keys in
+    omega (arith, many, long)
+
+-- a run that leaves what a commit made the base
+pub after_commit : (path : List ℕ) (d e f : DiskState) (first next now : BaseBytes) → LeavesOnly d e (IsBeforeOrAfter path d first next) → LeavesOnly e f (StandsAlone path e now) → KeepsOutside path d e → now ≡ next
+    → LeavesOnly d f (IsBeforeOrAfter path d first next)
+after_commit path d e f first next now one two kept same =
+    then_run d e f (IsBeforeOrAfter path d first next) (StandsAlone path e now) one two
+    (λ c left. record {
+      outside = λ m out named flushed. left.outside m out (kept.named m out named) (kept.flushed m out flushed) ∙ kept.seen m out;
+      stands = inr (subst (λ (b : BaseBytes). StandsFor path b c) same left.stands);
+    })
+
+-- what was committed is the base from before a commit
+pub before_only : (path : List ℕ) (d e : DiskState) (first next : BaseBytes) → LeavesOnly d e (StandsAlone path d first) → LeavesOnly d e (IsBeforeOrAfter path d first next)
+before_only path d e first next run =
+    weaker_run d e (StandsAlone path d first) (IsBeforeOrAfter path d first next) run (λ c left. record { outside = left.outside; stands = inl left.stands })
+
+-- and a run that left it, before a commit
+pub before_commit : (path : List ℕ) (d e f : DiskState) (first next now held : BaseBytes) → LeavesOnly d e (StandsAlone path d first) → LeavesOnly e f (IsBeforeOrAfter path e now held) → KeepsOutside path d e → now ≡ first
+    → held ≡ next → LeavesOnly d f (IsBeforeOrAfter path d first next)
+before_commit path d e f first next now held one two kept same more =
+    then_run d e f (IsBeforeOrAfter path d first next) (IsBeforeOrAfter path e now held) (before_only path d e first next one) two
+    (λ c left. record {
+      outside = λ m out named flushed. left.outside m out (kept.named m out named) (kept.flushed m out flushed) ∙ kept.seen m out;
+      stands = ⊎_elim (λ (s : StandsFor path now c). inl (subst (λ (b : BaseBytes). StandsFor path b c) same s)) (λ (s : StandsFor path held c). inr (subst (λ (b : BaseBytes). StandsFor path b c) more s)) left.stands;
+    })
+
+-- under another cursor it is open still
+pub cursor_open : (d : DiskState) (f : Folder) (cursor : ℕ) → IsOpen d f → IsOpen d (record f { told = record f.told { cursor = cursor } })
+cursor_open d f cursor was = record {
+  names = was.names;
+  staged = record {
+    log = was.staged.log;
+    stands = was.staged.stands;
+    shown = was.staged.shown;
+    digit = was.staged.digit;
+    messages_there = was.staged.messages_there;
+    keys_there = was.staged.keys_there;
+    messages_alone = was.staged.messages_alone;
+    keys_alone = was.staged.keys_alone;
+    messages_long = was.staged.messages_long;
+    keys_long = was.staged.keys_long;
+    messages_behind = was.staged.messages_behind;
+    keys_behind = was.staged.keys_behind;
+  };
+  keys = was.keys;
+}

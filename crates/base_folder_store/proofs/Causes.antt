@@ -1,0 +1,64 @@
+-- What reads answer, carried from one to the next.
+use Rattle.std.proofs.Common.{◌≡◌, ◌<◌, ◌≤◌, ◌-◌, ◌^◌, ℕ, inl, inr, Result, Ok, Err, ap, sym, subst, ◌∙◌, arith, ⊎_elim}
+use Rattle.std.proofs.lemmas.Bool.{cases_lt}
+use Rattle.disk_io.specs.Device.{Failed}
+use Rattle.std.specs.Result.{IfOk, IsErrAnd, IsErrOf, OnErr, OnOk}
+use Rattle.base_store.specs.declared.store_error.StoreError.{StoreError}
+use Rattle.base_store.specs.declared.store_error.StoreError.TheVariants as error
+use Rattle.base_folder_store.specs.Answers.{Answers}
+
+pub answers_map : {T : Type 0} (P Q : T → Type 0) → ((x : T) → P x → Q x) → (r : Result T StoreError) → Answers P r → Answers Q r
+answers_map P Q gives (Ok x) was = gives x was
+answers_map P Q gives (Err error.Damaged) was = was
+answers_map P Q gives (Err error.Memory) was = tt
+answers_map P Q gives (Err error.Device) was = tt
+answers_map P Q gives (Err error.TooMany) was = tt
+
+-- and where an error was handed on
+pub answers_error : {T U : Type 0} (P : T → Type 0) (Q : U → Type 0) (e : StoreError) (r : Result U StoreError) → IsErrAnd r (λ x. x ≡ e) → Answers {T = T} P (Err e) → Answers Q r
+answers_error P Q e (Ok x) same was = absurd same
+answers_error P Q e (Err error.Damaged) same was = subst (λ (y : StoreError). Answers P (Err y)) (sym same) was
+answers_error P Q e (Err error.Memory) same was = tt
+answers_error P Q e (Err error.Device) same was = tt
+answers_error P Q e (Err error.TooMany) same was = tt
+
+-- an error that was handed on as it is
+pub handed_on : {T U E : Type 0} (e f : E) (r : Result T E) → IsErrAnd r (λ x. x ≡ e) → IsErrOf r f → IsErrOf {T = U} (Err e) f
+handed_on e f (Ok x) same is = absurd same
+handed_on {E = E} e f (Err x) same is =
+    let first : x ≡ e = same in
+    let inside : x ≡ f = cc (is) in
+    ap (λ (y : E). Err y) (sym first ∙ inside)
+
+-- a device that failed in a later call failed since the first
+pub failed_since : (first before now : ℕ) → first ≤ before → Failed before now → Failed first now
+failed_since first before now order failed =
+    ⊎_elim
+    (λ (more : before < now). let x : first < now = omega (arith, order, more) in inl x)
+    (λ (top : (2 ^ 64 - 1 ≤ before) × (now ≡ before)).
+    let high = top.0 in
+    let same = top.1 in
+    ⊎_elim
+    (λ (h : first < before). let x : first < now = omega (arith, h, same) in inl x)
+    (λ (h : before ≤ first). let x : 2 ^ 64 - 1 ≤ first = omega (arith, high, h) in let y : now ≡ first = omega (arith, same, h, order) in inr (x, y))
+    (cases_lt first before))
+    failed
+
+-- what two clauses say of one value
+pub ok_both : {T E : Type 0} (P Q R : T → Type 0) → ((x : T) → P x → Q x → R x) → (r : Result T E) → IfOk r P → IfOk r Q → IfOk r R
+ok_both P Q R gives (Ok x) p q = gives x p q
+ok_both P Q R gives (Err e) p q = tt
+
+-- what two clauses say where there is a value
+pub done_both : {T E P Q R : Type 0} → (P → Q → R) → (r : Result T E) → OnOk r P → OnOk r Q → OnOk r R
+done_both gives (Ok x) p q = gives p q
+done_both gives (Err e) p q = tt
+
+-- what holds anyway holds at an error
+pub at_error : {T E P : Type 0} (r : Result T E) → P → OnErr r P
+at_error (Ok x) p = tt
+at_error (Err e) p = p
+
+pub on_ok_from : {T E P : Type 0} (r : Result T E) → P → OnOk r P
+on_ok_from (Ok x) p = p
+on_ok_from (Err e) p = tt

@@ -1,0 +1,44 @@
+-- One message more in a base folder.
+use Rattle.std.proofs.Common.{◌≡◌, ℕ, ◌+◌, ◌<◌, ◌^◌, false, List, [], ◌∷◌, ◌++◌, length, sym, ap, ◌∙◌, arith}
+use Rattle.std.proofs.lemmas.Grind.{flat_map-append}
+use Rattle.std.proofs.lemmas.List.{append-nil, map-append}
+use Rattle.echo_filed.specs.Filed.{Filed, IsFiled, key_of}
+use Rattle.echo_filed.specs.Stored.{IsStored, Stored, message_in, stored_bytes}
+use Rattle.echo_filed.specs.declared.stored.Version.TheVariants.{Second}
+use Rattle.echo_filed.proofs.Plain.{all_append}
+use Rattle.base_log.specs.Standing.{BaseBytes}
+use Rattle.base_file.specs.Base.{Base, is_known}
+use Rattle.base_file.proofs.Entries.{one_more}
+use Rattle.base_store.specs.Keys.{FolderStandsFor, MayStandAlone, digested, entry, keys_from}
+use Rattle.base_store.proofs.Placed.{bytes_of, keys_append}
+use Rattle.base_store.specs.Store.{with_message}
+use Rattle.base_folder_store.specs.Added.{IsStoredAlone, with_stored}
+use Rattle.base_folder_store.specs.Held.{HoldsBase, digest_by}
+
+pub files_more : (digest : List ℕ → ℕ) (base : List Filed) (cursor : ℕ) (messages keys : List ℕ) (m : Filed) (bytes : List ℕ) (number : ℕ) → FolderStandsFor digest base cursor messages keys → IsStoredAlone m bytes → IsFiled m
+    → is_known base (key_of m) ≡ false → number ≡ digest (digested m) → length (messages ++ bytes) < 2 ^ 64 → FolderStandsFor digest (base ++ m ∷ []) cursor (messages ++ bytes) (keys ++ entry (length messages) number)
+files_more digest base cursor messages keys m bytes number was is filed new told fits =
+    let one : List Stored = is.s ∷ [] in
+    let here : length messages ≡ 0 + length (bytes_of was.all) = omega (arith, ap (λ (l : List ℕ). length l) was.stored) in
+    let entered : entry (length messages) number ≡ keys_from digest (0 + length (bytes_of was.all)) one =
+    (λ i. entry (here i) (told i))
+    ∙ ap (λ (x : Filed). entry (0 + length (bytes_of was.all)) (digest (digested x))) (sym is.is)
+    ∙ sym (append-nil (entry (0 + length (bytes_of was.all)) (digest (digested (message_in Second is.s))))) in
+    record {
+      all = was.all ++ one;
+      sizes = all_append (IsStored Second) was.all one was.sizes (is.size, tt);
+      sound = all_append MayStandAlone was.all one was.sound (is.alone, tt);
+      stored = (λ i. was.stored i ++ (is.same ∙ sym (append-nil (stored_bytes Second is.s))) i) ∙ sym (flat_map-append (stored_bytes Second) was.all one);
+      filed = (λ i. was.filed i ++ sym is.is i ∷ []) ∙ sym (map-append (message_in Second) was.all one);
+      entries = (λ i. was.entries i ++ entered i) ∙ sym (keys_append digest 0 was.all one);
+      long = fits;
+      digests = was.digests;
+      holds = one_more base cursor m was.holds filed new;
+    }
+
+pub holds_more : (keyed : ℕ → ℕ → List ℕ → ℕ) (held : BaseBytes) (base : Base) (m : Filed) (bytes : List ℕ) (number : ℕ) → HoldsBase keyed held base → IsStoredAlone m bytes → IsFiled m
+    → is_known base.messages (key_of m) ≡ false → number ≡ digest_by keyed held.mark (digested m) → length (held.messages ++ bytes) < 2 ^ 64 → HoldsBase keyed (with_stored held bytes number) (with_message base m)
+holds_more keyed held base m bytes number was is filed new told fits = record {
+  files = files_more (digest_by keyed held.mark) base.messages base.cursor held.messages held.keys m bytes number was.files is filed new told fits;
+  cursor = was.cursor;
+}

@@ -1,0 +1,120 @@
+-- What a store over a base folder answers of the base that it holds.
+use Rattle.std.proofs.Common.{◌≡◌, ◌<◌, ◌/◌, ◌^◌, ◌++◌, ℕ, false, true, List, length, get_or, Option, Some, None, sym, ap, subst, ◌∙◌, arith}
+use Rattle.std.specs.Prelude.{bytes_eq, option_map, slice_get, unwrap_or}
+use Rattle.std.specs.Cmp.Lexicographic.{bytes_decides}
+use Rattle.std.proofs.lemmas.Option.{slice_get-get_or}
+use Rattle.disk_io.specs.Disk.{DiskState}
+use Rattle.base_log.specs.Standing.{BaseBytes}
+use Rattle.echo_text.specs.Echo.{msgid_of}
+use Rattle.echo_filed.specs.Filed.{Filed, IsFiled, has_id, key_of, same_key}
+use Rattle.echo_filed.specs.declared.key.Key.{Key}
+use Rattle.echo_filed.proofs.Keys.{same_key_decides}
+use Rattle.base_file.specs.Base.{Base, IsBase, is_known}
+use Rattle.base_store.specs.Keys.{StandWhereTold, digest_at, digested, digested_key, digested_with}
+use Rattle.base_store.proofs.Digests.{of_key}
+use Rattle.base_store.proofs.Told.{tells_each}
+use Rattle.base_store.specs.Store.{all_scanned, with_message}
+use Rattle.base_folder_store.specs.Added.{IsStoredAlone, with_stored}
+use Rattle.base_folder_store.specs.Answers.{HaveDigest, IsAloneOf}
+use Rattle.base_folder_store.specs.Held.{HoldsBase, digest_by}
+use Rattle.base_folder_store.specs.Opened.{IsOpen, held_by}
+use Rattle.base_folder_store.specs.State.{only_message}
+use Rattle.base_folder_store.specs.declared.folder.Folder.{Folder}
+use Rattle.base_folder_store.proofs.Bases.{told_where}
+use Rattle.base_folder_store.proofs.Looked.{some_message}
+use Rattle.base_folder_store.proofs.OneMore.{holds_more}
+
+-- messages with this key have its digest
+pub key_digest : (keyed : ℕ → ℕ → List ℕ → ℕ) (bytes : BaseBytes) (base : Base) (key : Key) (keys : List ℕ) (number : ℕ) → HoldsBase keyed bytes base → keys ≡ bytes.keys → number ≡ digest_by keyed bytes.mark (digested_key key)
+    → HaveDigest (λ m. same_key (key_of m) key) number base.messages keys
+key_digest keyed bytes base key keys number holds same is i d within passes =
+    let m : Filed = get_or base.messages i d in
+    ap (λ (l : List ℕ). digest_at l i) same
+    ∙ tells_each (digest_by keyed bytes.mark) base.messages base.cursor bytes.messages bytes.keys holds.files i d within
+    ∙ ap (digest_by keyed bytes.mark) (of_key m ∙ ap digested_key ((same_key_decides (key_of m) key).0 passes))
+    ∙ sym is
+
+-- what a digest is taken of where a message has an id
+id_digested : (m : Filed) (id : List ℕ) (has : Option (List ℕ)) → unwrap_or (option_map (bytes_eq id) has) false ≡ true → digested_with m has ≡ id
+id_digested m id None h = absurd (cc)
+id_digested m id (Some x) h = sym ((bytes_decides id x).0 h)
+
+-- and those with this id have the id's
+pub id_digest : (keyed : ℕ → ℕ → List ℕ → ℕ) (bytes : BaseBytes) (base : Base) (id keys : List ℕ) (number : ℕ) → HoldsBase keyed bytes base → keys ≡ bytes.keys → number ≡ digest_by keyed bytes.mark id
+    → HaveDigest (has_id id) number base.messages keys
+id_digest keyed bytes base id keys number holds same is i d within passes =
+    let m : Filed = get_or base.messages i d in
+    ap (λ (l : List ℕ). digest_at l i) same
+    ∙ tells_each (digest_by keyed bytes.mark) base.messages base.cursor bytes.messages bytes.keys holds.files i d within
+    ∙ ap (digest_by keyed bytes.mark) (id_digested m id (msgid_of m.echo.kept) passes)
+    ∙ sym is
+
+-- there are as many messages as entries
+pub many_messages : (keyed : ℕ → ℕ → List ℕ → ℕ) (d : DiskState) (f : Folder) (base : Base) → IsOpen d f → HoldsBase keyed (held_by d f) base → length f.keys.items / 16 ≡ length base.messages
+many_messages keyed d f base opened holds =
+    let many = (told_where keyed (held_by d f) base holds).many in
+    let long : length f.keys.items ≡ length (held_by d f).keys = ap (λ (l : List ℕ). length l) opened.keys in
+    omega (arith, many, long)
+
+-- the message that was fetched
+pub fetched : (base : List Filed) (place : ℕ) (alone : Base) → place < length base → IsAloneOf base place alone → only_message (Some alone) ≡ slice_get base place
+fetched base place alone within is =
+    let d : Filed = some_message base place within in
+    ap (λ (l : List Filed). slice_get l 0) (is d) ∙ sym (slice_get-get_or base place d within)
+
+-- the folder with its cursor at the end
+abbrev pub at_end : Folder → Folder
+at_end f = record f { told = record f.told { cursor = length f.keys.items / 16 } }
+
+pub end_open : (d : DiskState) (f : Folder) → IsOpen d f → IsOpen d (at_end f)
+end_open d f was = record {
+  names = was.names;
+  staged = record {
+    log = was.staged.log;
+    stands = was.staged.stands;
+    shown = was.staged.shown;
+    digit = was.staged.digit;
+    messages_there = was.staged.messages_there;
+    keys_there = was.staged.keys_there;
+    messages_alone = was.staged.messages_alone;
+    keys_alone = was.staged.keys_alone;
+    messages_long = was.staged.messages_long;
+    keys_long = was.staged.keys_long;
+    messages_behind = was.staged.messages_behind;
+    keys_behind = was.staged.keys_behind;
+  };
+  keys = was.keys;
+}
+
+pub end_holds : (keyed : ℕ → ℕ → List ℕ → ℕ) (d : DiskState) (f : Folder) (base : Base) → IsOpen d f → HoldsBase keyed (held_by d f) base → HoldsBase keyed (held_by d (at_end f)) (all_scanned base)
+end_holds keyed d f base opened holds =
+    let files = holds.files in
+    let each : IsBase base.messages (length base.messages) = record { each = files.holds.each; new = files.holds.new; within = omega arith } in
+    record {
+      files = record {
+        all = files.all;
+        sizes = files.sizes;
+        sound = files.sound;
+        stored = files.stored;
+        filed = files.filed;
+        entries = files.entries;
+        long = files.long;
+        digests = files.digests;
+        holds = each;
+      };
+      cursor = many_messages keyed d f base opened holds;
+    }
+
+-- a message that was filed, with its digest
+pub filed_more : (keyed : ℕ → ℕ → List ℕ → ℕ) (now held : BaseBytes) (base : Base) (m : Filed) (key : Key) (bytes taken : List ℕ) (number : ℕ) → now ≡ with_stored held bytes number → length now.messages < 2 ^ 64
+    → HoldsBase keyed held base → IsStoredAlone m bytes → IsFiled m → key ≡ key_of m → is_known base.messages key ≡ false → taken ≡ digested_key key → number ≡ digest_by keyed held.mark taken → HoldsBase keyed now (with_message base m)
+filed_more keyed now held base m key bytes taken number staged fits holds stored filed own new is told =
+    let number_is : number ≡ digest_by keyed held.mark (digested m) = told ∙ ap (digest_by keyed held.mark) (is ∙ ap digested_key own ∙ sym (of_key m)) in
+    let unknown : is_known base.messages (key_of m) ≡ false = subst (λ (k : Key). is_known base.messages k ≡ false) own new in
+    let room : length (held.messages ++ bytes) < 2 ^ 64 = subst (λ (b : BaseBytes). length b.messages < 2 ^ 64) staged fits in
+    subst (λ (b : BaseBytes). HoldsBase keyed b (with_message base m)) (sym staged) (holds_more keyed held base m bytes number holds stored filed unknown number_is room)
+
+-- each message stands where the keys that were read tell
+pub told_here : (keyed : ℕ → ℕ → List ℕ → ℕ) (d : DiskState) (f : Folder) (base : Base) → IsOpen d f → HoldsBase keyed (held_by d f) base → StandWhereTold base.messages (held_by d f).messages f.keys.items
+told_here keyed d f base opened holds =
+    subst (λ (l : List ℕ). StandWhereTold base.messages (held_by d f).messages l) (sym opened.keys) (told_where keyed (held_by d f) base holds)

@@ -1,0 +1,136 @@
+-- What staging and committing leave of an open base folder.
+use Rattle.std.proofs.Common.{◌≡◌, ◌<◌, ◌+◌, ◌^◌, ℕ, List, ◌++◌, length, refl, sym, ap, subst, ◌∙◌, arith, inl, length-append}
+use Rattle.std.proofs.lemmas.List.{append_assoc, length-take-le}
+use Rattle.disk_io.specs.Disk.{DiskState, Files, bytes_in}
+use Rattle.disk_io.specs.Runs.{LeavesOnly}
+use Rattle.disk_io.proofs.Moments.{no_call, then_run}
+use Rattle.base_log.specs.AtRest.{IsAtRest, IsStaged}
+use Rattle.base_log.specs.Moments.{IsBeforeOrAfter, KeepsOutside, StandsAlone}
+use Rattle.base_log.specs.Names.{AreNames, folder_of, keys_of, messages_of}
+use Rattle.base_log.specs.Standing.{BaseBytes, StandsFor, and_keys, and_messages, base_at}
+use Rattle.base_log.specs.declared.log.End.{End}
+use Rattle.base_log.specs.declared.log.Told.{Told}
+use Rattle.base_log.specs.declared.names.Names.{Names}
+use Rattle.base_log.proofs.Rested.{rest_staged}
+use Rattle.base_store.specs.Keys.{entry}
+use Rattle.base_folder_store.specs.Added.{OneMoreWaits, next_place, with_stored}
+use Rattle.base_folder_store.specs.Opened.{IsOpen, IsWritten, committed_by, held_by, path_of}
+use Rattle.base_folder_store.specs.declared.folder.Folder.{Folder}
+use Rattle.base_folder_store.proofs.Waits.{written_held}
+
+-- nothing outside has changed where nothing was called
+pub outside_same : (path : List ℕ) (d : DiskState) → KeepsOutside path d d
+outside_same path d = record {
+  seen = λ m out. refl;
+  named = λ m out is. is;
+  flushed = λ m out is. is;
+  alone = λ m out is. is;
+  honest = λ is. is;
+}
+
+-- what is so of the disk behind a call that kept what is outside is so of the one before it
+pub alone_before : (path : List ℕ) (d e : DiskState) (base now : BaseBytes) → KeepsOutside path d e → now ≡ base → (c : Files) → StandsAlone path e now c → StandsAlone path d base c
+alone_before path d e base now kept same c left = record {
+  outside = λ m out named flushed. left.outside m out (kept.named m out named) (kept.flushed m out flushed) ∙ kept.seen m out;
+  stands = subst (λ (b : BaseBytes). StandsFor path b c) same left.stands;
+}
+
+-- one run after another
+pub both_runs : (path : List ℕ) (d e f : DiskState) (base now : BaseBytes) → LeavesOnly d e (StandsAlone path d base) → LeavesOnly e f (StandsAlone path e now) → KeepsOutside path d e → now ≡ base → LeavesOnly d f (StandsAlone path d base)
+both_runs path d e f base now one two kept same =
+    then_run d e f (StandsAlone path d base) (StandsAlone path e now) one two (alone_before path d e base now kept same)
+
+-- so many bytes of the messages count, and so many of the keys
+pub messages_count : (d : DiskState) (path : List ℕ) (end : End) (told : Told) → IsStaged d path end told → length (base_at d path told).messages ≡ told.messages
+messages_count d path end told staged = length-take-le told.messages (bytes_in (d.seen (messages_of path told.number))) staged.messages_long
+
+pub keys_count : (d : DiskState) (path : List ℕ) (end : End) (told : Told) → IsStaged d path end told → length (base_at d path told).keys ≡ told.keys
+keys_count d path end told staged = length-take-le told.keys (bytes_in (d.seen (keys_of path told.number))) staged.keys_long
+
+-- what was committed is staged
+pub committed_staged : (d : DiskState) (path : List ℕ) (after : End) (told : Told) → IsAtRest d path after → after.told ≡ told → IsStaged d path after told
+committed_staged d path after told rest is = subst (λ (t : Told). IsStaged d path after t) is (rest_staged d path after after.told.cursor after.told.mark rest)
+
+-- the folder with one message more that waits, and its entry
+module _ (d : DiskState) (f g : Folder) (bytes : List ℕ) (digest : ℕ) (was : IsOpen d f) (more : OneMoreWaits f g bytes digest) where
+  regrouped : and_keys (and_messages (base_at d (path_of f) f.told) (f.waiting.messages.items ++ bytes)) (f.waiting.keys.items ++ entry (next_place f) digest) ≡ and_keys (and_messages (held_by d f) bytes) (entry (next_place f) digest)
+  regrouped = λ i. record {
+    messages = sym (append_assoc (base_at d (path_of f) f.told).messages f.waiting.messages.items bytes) i;
+    keys = sym (append_assoc (base_at d (path_of f) f.told).keys f.waiting.keys.items (entry (next_place f) digest)) i;
+    cursor = f.told.cursor;
+    mark = f.told.mark;
+  }
+
+  added_held : held_by d g ≡ and_keys (and_messages (held_by d f) bytes) (entry (next_place f) digest)
+  added_held = (λ i. and_keys (and_messages (base_at d (folder_of (more.names i)) (more.told i)) (more.messages i)) (more.entries i)) ∙ regrouped
+
+  pub added_open : IsOpen d g
+  added_open = record {
+    names = subst (λ (t : Told). AreNames g.names t.number) (sym more.told) (subst (λ (n : Names). AreNames n f.told.number) (sym more.names) was.names);
+    staged = subst (λ (t : Told). IsStaged d (path_of g) g.end t) (sym more.told)
+        (subst (λ (x : End). IsStaged d (path_of g) x f.told) (sym more.end) (subst (λ (n : Names). IsStaged d (folder_of n) f.end f.told) (sym more.names) was.staged));
+    keys = more.keys ∙ (λ i. was.keys i ++ entry (next_place f) digest) ∙ sym (ap (λ (b : BaseBytes). b.keys) added_held);
+  }
+
+  is_place : f.told.messages + length f.waiting.messages.items ≡ length (held_by d f).messages
+  is_place =
+      let count = messages_count d (path_of f) f.end f.told was.staged in
+      let all : length (held_by d f).messages ≡ length (base_at d (path_of f) f.told).messages + length f.waiting.messages.items = length-append (base_at d (path_of f) f.told).messages f.waiting.messages.items in
+      omega (arith, count, all)
+
+  pub added_stored : held_by d g ≡ with_stored (held_by d f) bytes digest
+  added_stored = added_held ∙ ap (λ (n : ℕ). and_keys (and_messages (held_by d f) bytes) (entry n digest)) is_place
+
+  pub added_fits : length (held_by d g).messages < 2 ^ 64
+  added_fits =
+      let all : length (held_by d g).messages ≡ length ((held_by d f).messages ++ bytes) = ap (λ (b : BaseBytes). length b.messages) added_held in
+      let longer = length-append (held_by d f).messages bytes in
+      let room : f.told.messages + length f.waiting.messages.items + length bytes < 2 ^ 64 = more.fits in
+      omega (arith, all, longer, is_place, room)
+
+  pub added_committed : committed_by d g ≡ committed_by d f
+  added_committed = λ i. base_at d (folder_of (more.names i)) (more.end i).told
+
+-- the folder once all that waited is written
+module _ (d e : DiskState) (f g : Folder) (bytes one : List ℕ) (was : IsOpen d f) (names : g.names ≡ f.names) (end : g.end ≡ f.end) (keys : g.keys.items ≡ f.keys.items) (none : IsWritten g)
+    (messages : bytes ≡ f.waiting.messages.items) (entries : one ≡ f.waiting.keys.items) (added : base_at e (path_of f) g.told ≡ and_keys (and_messages (base_at d (path_of f) f.told) bytes) one) where
+  pub out_held : held_by e g ≡ held_by d f
+  out_held =
+      written_held e g none ∙ (λ i. base_at e (folder_of (names i)) g.told) ∙ added
+      ∙ (λ i. and_keys (and_messages (base_at d (path_of f) f.told) (messages i)) (entries i))
+
+  pub out_open : g.told.number ≡ f.told.number → IsStaged e (path_of f) f.end g.told → IsOpen e g
+  out_open number staged = record {
+    names = subst (λ (n : ℕ). AreNames g.names n) (sym number) (subst (λ (n : Names). AreNames n f.told.number) (sym names) was.names);
+    staged = subst (λ (x : End). IsStaged e (path_of g) x g.told) (sym end) (subst (λ (n : Names). IsStaged e (folder_of n) f.end g.told) (sym names) staged);
+    keys = keys ∙ was.keys ∙ sym (ap (λ (b : BaseBytes). b.keys) out_held);
+  }
+
+  pub out_committed : base_at e (path_of f) f.end.told ≡ base_at d (path_of f) f.end.told → committed_by e g ≡ committed_by d f
+  out_committed same = (λ i. base_at e (folder_of (names i)) (end i).told) ∙ same
+
+-- nothing is committed where nothing was called
+pub nothing_left : (d : DiskState) (f : Folder) → IsOpen d f → LeavesOnly d d (StandsAlone (path_of f) d (committed_by d f))
+nothing_left d f was = no_call d (StandsAlone (path_of f) d (committed_by d f)) (λ c left. record { outside = λ m out named flushed. d.on_disk m named flushed c left; stands = was.staged.stands c left })
+
+pub nothing_committed : (d : DiskState) (f : Folder) → IsOpen d f → LeavesOnly d d (IsBeforeOrAfter (path_of f) d (committed_by d f) (held_by d f))
+nothing_committed d f was =
+    no_call d (IsBeforeOrAfter (path_of f) d (committed_by d f) (held_by d f)) (λ c left. record { outside = λ m out named flushed. d.on_disk m named flushed c left; stands = inl (was.staged.stands c left) })
+
+-- what was committed is open, and is what was held
+pub committed_open : (d e : DiskState) (f g : Folder) → IsOpen d f → g.names ≡ f.names → g.told ≡ f.told → g.keys.items ≡ f.keys.items → IsAtRest e (path_of f) g.end → g.end.told ≡ f.told → base_at e (path_of f) g.end.told ≡ held_by d f → IsWritten g → IsOpen e g
+committed_open d e f g was names told keys rest is held none =
+    let path : path_of g ≡ path_of f = ap (λ (n : Names). folder_of n) names in
+    let staged : IsStaged e (path_of f) g.end f.told = committed_staged e (path_of f) g.end f.told rest is in
+    record {
+      names = subst (λ (t : Told). AreNames g.names t.number) (sym told) (subst (λ (n : Names). AreNames n f.told.number) (sym names) was.names);
+      staged = subst (λ (t : Told). IsStaged e (path_of g) g.end t) (sym told) (subst (λ (p : List ℕ). IsStaged e p g.end f.told) (sym path) staged);
+      keys = keys ∙ was.keys ∙ sym (ap (λ (b : BaseBytes). b.keys) held) ∙ (λ i. (base_at e (sym path i) (is i)).keys) ∙ (λ i. (base_at e (path_of g) (sym told i)).keys)
+          ∙ sym (ap (λ (b : BaseBytes). b.keys) (written_held e g none));
+    }
+
+pub committed_held : (d e : DiskState) (f g : Folder) → g.names ≡ f.names → g.told ≡ f.told → g.end.told ≡ f.told → base_at e (path_of f) g.end.told ≡ held_by d f → IsWritten g → held_by e g ≡ held_by d f
+committed_held d e f g names told is held none = written_held e g none ∙ (λ i. base_at e (folder_of (names i)) (told i)) ∙ (λ i. base_at e (path_of f) (sym is i)) ∙ held
+
+pub committed_told : (d e : DiskState) (f g : Folder) → g.names ≡ f.names → base_at e (path_of f) g.end.told ≡ held_by d f → committed_by e g ≡ held_by d f
+committed_told d e f g names held = (λ i. base_at e (folder_of (names i)) g.end.told) ∙ held

@@ -1,0 +1,149 @@
+-- A base folder as a store, before and after calls.
+use Rattle.std.proofs.Common.{◌≡◌, ◌≤◌, ◌<◌, ◌⊎◌, inl, inr, ℕ, List, length, Option, Result, Ok, Err, refl, sym, ap, subst, arith}
+use Rattle.std.specs.Prelude.{IfOk, OnOk, IsErrOf}
+use Rattle.disk_io.specs.Disk.{DiskState, Files, Honestly, IsIn}
+use Rattle.disk_io.specs.Runs.{ChangesNothing, LeavesOnly}
+use Rattle.disk_io.proofs.Moments.{weaker_run}
+use Rattle.base_log.specs.Moments.{IsBeforeOrAfter, KeepsOutside, StandsAlone}
+use Rattle.base_log.specs.Standing.{BaseBytes, StandsFor}
+use Rattle.base_log.proofs.Quiet.{base_quiet}
+use Rattle.base_file.specs.Base.{Base}
+use Rattle.base_store.specs.Store.{Commits, CommitsNothing, GoesOn, HasStoreCause, IsSameStore, KeepsBeside, LooksOn, MayCommit, StandsBeside, StandsForEither, StoreState}
+use Rattle.base_store.specs.declared.store_error.StoreError.{StoreError}
+use Rattle.base_store.specs.declared.store_error.StoreError.TheVariants as error
+use Rattle.base_folder_store.specs.Answers.{Answers, HasReadCause}
+use Rattle.base_folder_store.specs.Held.{HoldsBase, StandsForBase}
+use Rattle.base_folder_store.specs.Opened.{IsNamed, IsOpen, and_waiting, committed_by, held_by, path_of}
+use Rattle.base_folder_store.specs.State.{IsUsable, state_of}
+use Rattle.base_folder_store.specs.declared.folder.Folder.{Folder}
+use Rattle.base_folder_store.proofs.Bases.{open_quiet}
+
+-- a look at the disk is one at the store
+pub looks : (d e : DiskState) (keyed : ℕ → ℕ → List ℕ → ℕ) (f : Folder) (h k : Option Base) → IsUsable d f → ChangesNothing d e → LooksOn (state_of d keyed f h) (state_of e keyed f k)
+looks d e keyed f h k usable quiet =
+    let held : held_by e f ≡ held_by d f = ap (λ (b : BaseBytes). and_waiting b f.waiting) (base_quiet d e (path_of f) f.told quiet) in
+    let told : committed_by e f ≡ committed_by d f = base_quiet d e (path_of f) f.end.told quiet in
+    record {
+      ready = record { named = usable.named; opened = λ honest. open_quiet d e f quiet (usable.opened (quiet.honest honest)) };
+      keeps = λ base is. subst (λ (b : BaseBytes). HoldsBase keyed b base) (sym held) is;
+      keeps_no_other = λ base is. subst (λ (b : BaseBytes). HoldsBase keyed b base) held is;
+      committed = λ base is. subst (λ (b : BaseBytes). HoldsBase keyed b base) (sym told) is;
+      quiet = quiet;
+      same = record { stands = λ base c. (λ x. x, λ x. x); own = λ m. (λ x. x, λ x. x); undoes = (λ x. x, λ x. x) };
+    }
+
+-- the same folder, by its path
+pub same_folder : (d e : DiskState) (keyed : ℕ → ℕ → List ℕ → ℕ) (f g : Folder) (h k : Option Base) → path_of g ≡ path_of f → IsSameStore (state_of d keyed f h) (state_of e keyed g k)
+same_folder d e keyed f g h k path = record {
+  stands = λ base c. (subst (λ (p : List ℕ). StandsForBase keyed p base c) path, subst (λ (p : List ℕ). StandsForBase keyed p base c) (sym path));
+  own = λ m. (subst (λ (p : List ℕ). IsIn p m) path, subst (λ (p : List ℕ). IsIn p m) (sym path));
+  undoes = (λ x. x, λ x. x);
+}
+
+pub beside : (d e : DiskState) (keyed : ℕ → ℕ → List ℕ → ℕ) (f g : Folder) (h k : Option Base) → KeepsOutside (path_of f) d e → KeepsBeside (state_of d keyed f h) (state_of e keyed g k)
+beside d e keyed f g h k kept = record { seen = kept.seen; named = kept.named; flushed = kept.flushed; alone = kept.alone; honest = kept.honest }
+
+-- what was staged is not committed
+pub stages : (d e : DiskState) (keyed : ℕ → ℕ → List ℕ → ℕ) (f g : Folder) (h k : Option Base) → path_of g ≡ path_of f → Honestly e (LeavesOnly d e (StandsAlone (path_of f) d (committed_by d f)))
+    → KeepsOutside (path_of f) d e → CommitsNothing (state_of d keyed f h) (state_of e keyed g k)
+stages d e keyed f g h k path run kept = record {
+  any_moment = λ honest base is.
+      weaker_run d e (StandsAlone (path_of f) d (committed_by d f)) (StandsBeside (state_of d keyed f h) base) (run honest)
+      (λ c left. record { beside = left.outside; stands = record { bytes = committed_by d f; stands = left.stands; holds = is } });
+  beside = beside d e keyed f g h k kept;
+  same = same_folder d e keyed f g h k path;
+}
+
+-- the store goes on where the folder is still open, and what was committed is so still
+pub went_on : {T : Type 0} (d e : DiskState) (keyed : ℕ → ℕ → List ℕ → ℕ) (f g : Folder) (h k : Option Base) (r : Result T StoreError) → IsNamed g → Honestly e (OnOk r (IsOpen e g))
+    → Honestly e (OnOk r (committed_by e g ≡ committed_by d f)) → KeepsOutside (path_of f) d e → OnOk r (GoesOn (state_of d keyed f h) (state_of e keyed g k))
+went_on d e keyed f g h k (Ok done) named opened same kept = record {
+  ready = record { named = named; opened = opened };
+  committed = λ honest base is. subst (λ (b : BaseBytes). HoldsBase keyed b base) (sym (same honest)) is;
+  honest = kept.honest;
+}
+went_on d e keyed f g h k (Err failed) named opened same kept = tt
+
+-- calls may be made where the folder is still open
+pub usable_after : {T : Type 0} (e : DiskState) (g : Folder) (r : Result T StoreError) → IsNamed g → Honestly e (OnOk r (IsOpen e g)) → OnOk r (IsUsable e g)
+usable_after e g (Ok done) named opened = record { named = named; opened = opened }
+usable_after e g (Err failed) named opened = tt
+
+-- what was held is committed
+pub committed : {T : Type 0} (d e : DiskState) (keyed : ℕ → ℕ → List ℕ → ℕ) (f g : Folder) (h k : Option Base) (r : Result T StoreError) → IsNamed g → Honestly e (OnOk r (IsOpen e g))
+    → Honestly e (OnOk r (held_by e g ≡ held_by d f)) → Honestly e (OnOk r (committed_by e g ≡ held_by d f)) → KeepsOutside (path_of f) d e → OnOk r (Commits (state_of d keyed f h) (state_of e keyed g k))
+committed d e keyed f g h k (Ok done) named opened same now kept = record {
+  ready = record { named = named; opened = opened };
+  keeps = λ honest base is. subst (λ (b : BaseBytes). HoldsBase keyed b base) (sym (same honest)) is;
+  committed = λ honest base is. subst (λ (b : BaseBytes). HoldsBase keyed b base) (sym (now honest)) is;
+  honest = kept.honest;
+}
+committed d e keyed f g h k (Err failed) named opened same now kept = tt
+
+-- the base from before a commit, or the one that was held
+either_stands : (keyed : ℕ → ℕ → List ℕ → ℕ) (path : List ℕ) (first next : Base) (before now : BaseBytes) (c : Files) → HoldsBase keyed before first → HoldsBase keyed now next
+    → StandsFor path before c ⊎ StandsFor path now c → StandsForBase keyed path first c ⊎ StandsForBase keyed path next c
+either_stands keyed path first next before now c was is (inl stands) = inl (record { bytes = before; stands = stands; holds = was })
+either_stands keyed path first next before now c was is (inr stands) = inr (record { bytes = now; stands = stands; holds = is })
+
+pub may_commit : (d e : DiskState) (keyed : ℕ → ℕ → List ℕ → ℕ) (f g : Folder) (h k : Option Base) → path_of g ≡ path_of f
+    → Honestly e (LeavesOnly d e (IsBeforeOrAfter (path_of f) d (committed_by d f) (held_by d f))) → KeepsOutside (path_of f) d e → MayCommit (state_of d keyed f h) (state_of e keyed g k)
+may_commit d e keyed f g h k path run kept = record {
+  any_moment = λ honest first next was is.
+      weaker_run d e (IsBeforeOrAfter (path_of f) d (committed_by d f) (held_by d f)) (StandsForEither (state_of d keyed f h) first next) (run honest)
+      (λ c left. record { beside = left.outside; stands = either_stands keyed (path_of f) first next (committed_by d f) (held_by d f) c was is left.stands });
+  beside = beside d e keyed f g h k kept;
+  same = same_folder d e keyed f g h k path;
+}
+
+-- what is held is what was, and so is what is committed
+pub holds_same : (keyed : ℕ → ℕ → List ℕ → ℕ) (now before : BaseBytes) → now ≡ before → (base : Base) → HoldsBase keyed before base → HoldsBase keyed now base
+holds_same keyed now before same base is = subst (λ (b : BaseBytes). HoldsBase keyed b base) (sym same) is
+
+-- where a base is held, an answer is not that a message is damaged
+pub not_damaged : {T : Type 0} (P : T → Type 0) (r : Result T StoreError) → Answers P r → IsErrOf r error.Damaged → ⊥
+not_damaged P (Ok value) was is = absurd (cc)
+not_damaged P (Err error.Damaged) was is = was
+not_damaged P (Err error.Memory) was is = absurd (cc)
+not_damaged P (Err error.Device) was is = absurd (cc)
+not_damaged P (Err error.TooMany) was is = absurd (cc)
+
+-- why a read of the store failed
+pub read_cause : {T : Type 0} (s t : StoreState) (P : Base → T → Type 0) (before now : ℕ) (r : Result T StoreError) → HasReadCause before now r
+    → Honestly t.disk ((base : Base) → s.keeps base → Answers (P base) r) → HasStoreCause s t before now r
+read_cause s t P before now r cause answers = record {
+  later = cause.later;
+  failed = cause.failed;
+  damaged = λ honest is base keeps. not_damaged (P base) r (answers honest base keeps) is;
+}
+
+-- and why a change did
+pub change_cause : {T : Type 0} (s t : StoreState) (before now : ℕ) (r : Result T StoreError) → HasReadCause before now r → (IsErrOf r error.Damaged → ⊥) → HasStoreCause s t before now r
+change_cause s t before now r cause whole = record { later = cause.later; failed = cause.failed; damaged = λ honest is base keeps. whole is }
+
+-- the answer where there is one
+pub answered : {T : Type 0} (P : T → Type 0) (r : Result T StoreError) → Answers P r → IfOk r P
+answered P (Ok value) was = was
+answered P (Err e) was = tt
+
+-- one answer has one error
+same_error : {T : Type 0} (r : Result T StoreError) (e f : StoreError) → r ≡ Err e → r ≡ Err f → e ≡ f
+same_error r e f one other = cc
+
+-- why a read failed whose error was handed on
+pub handed_cause : {T U : Type 0} (s t : StoreState) (P : Base → T → Type 0) (before now : ℕ) (e : StoreError) → HasReadCause {T = T} before now (Err e)
+    → Honestly t.disk ((base : Base) → s.keeps base → Answers (P base) (Err e)) → HasStoreCause {T = U} s t before now (Err e)
+handed_cause {T} {U} s t P before now e cause answers = record {
+  later = cause.later;
+  failed = λ is. cause.failed (ap (λ (x : StoreError). Err x) (same_error {T = U} (Err e) e error.Device refl is));
+  damaged = λ honest is base keeps. not_damaged (P base) (Err e) (answers honest base keeps) (ap (λ (x : StoreError). Err x) (same_error {T = U} (Err e) e error.Damaged refl is));
+}
+
+-- a message that is not there is damage where no base is held
+pub none_there : {T : Type 0} (s : StoreState) (now place count : ℕ) → Honestly s.disk ((base : Base) → s.keeps base → place < length base.messages)
+    → Honestly s.disk ((base : Base) → s.keeps base → count ≡ length base.messages) → count ≤ place → HasStoreCause {T = T} s s now now (Err error.Damaged)
+none_there s now place count within many past = record {
+  later = omega arith;
+  failed = λ is. absurd (cc);
+  damaged = λ honest is base keeps. let inside = within honest base keeps in let all = many honest base keeps in omega (arith, inside, all, past);
+}

@@ -1,0 +1,164 @@
+-- The messages of a base folder as a purge leaves them, one after another.
+use Rattle.std.proofs.Common.{◌≡◌, ◌<◌, ◌≤◌, ◌+◌, ◌^◌, ℕ, zero, suc, not, nat_lt, ◌&&◌, Bool, true, false, List, [], ◌∷◌, ◌++◌, length, map, take, drop, get_or, refl, sym, ap, subst, ◌∙◌, arith, count_by, append_assoc, lit<, if◌then◌else◌}
+use Rattle.std.specs.List.{AllByRecursion}
+use Rattle.std.proofs.lemmas.Bool.{ltb-false, ltb-true}
+use Rattle.std.proofs.lemmas.List.{append-nil, get_or-take, length-append, length-drop, length-map, length-take, take_all, take_more}
+use Rattle.std.proofs.lemmas.List.Sums.{count_by_more_no, count_by_more_yes}
+use Rattle.echo_filed.specs.Filed.{Filed, IsFiled, key_of}
+use Rattle.echo_filed.specs.Stubs.{is_stub, stub_of}
+use Rattle.echo_filed.proofs.Keys.{stub_keeps_key}
+use Rattle.base_log.specs.Standing.{BaseBytes}
+use Rattle.base_file.specs.Base.{AreNew, Base, IsBase, is_known}
+use Rattle.base_file.proofs.StubBases.{stubs_keep}
+use Rattle.base_store.specs.Keys.{digest_at, digested, digested_key}
+use Rattle.base_store.proofs.Digests.{of_key}
+use Rattle.base_store.proofs.Told.{tells_each}
+use Rattle.base_store.specs.Store.{purged}
+use Rattle.base_folder_store.specs.Added.{IsStoredAlone, with_stored}
+use Rattle.base_folder_store.specs.Held.{HoldsBase, digest_by}
+use Rattle.base_folder_store.specs.Left.{changed_in, first_left, left_if}
+use Rattle.base_folder_store.proofs.OneMore.{holds_more}
+
+-- whether a number is below another
+pub record IsBelow (b : Bool) (i n : ℕ) : Type 0 where
+  pub yes : b ≡ true → i < n
+  pub no : b ≡ false → n ≤ i
+
+pub is_below : (i n : ℕ) → IsBelow (nat_lt i n) i n
+is_below i n = record { yes = λ is. ltb-true i n is; no = λ is. ltb-false i n is }
+
+pub at_most_one : (b : Bool) → (if b then 1 else 0) ≤ 1
+at_most_one true = omega arith
+at_most_one false = omega arith
+
+-- the message of a number, which is left so
+left_at : (n : ℕ) (ms : List Filed) (i : ℕ) (d : Filed) (scanned : Bool) → i < length ms → IsBelow scanned i n → get_or (map stub_of (take n ms) ++ drop n ms) i d ≡ left_if scanned (get_or ms i d)
+left_at n [] i d scanned within below = absurd (omega (arith, within))
+left_at zero (m ∷ ms) i d true within below = absurd (omega (arith, below.yes refl))
+left_at zero (m ∷ ms) i d false within below = refl
+left_at (suc n) (m ∷ ms) zero d true within below = refl
+left_at (suc n) (m ∷ ms) zero d false within below = absurd (omega (arith, below.no refl))
+left_at (suc n) (m ∷ ms) (suc i) d scanned within below =
+    left_at n ms i d scanned (omega arith) (record { yes = λ is. let more = below.yes is in omega arith; no = λ is. let less = below.no is in omega arith })
+
+-- one of the messages may stand in a base
+filed_at : (base : List Filed) (i : ℕ) (d : Filed) → i < length base → AllByRecursion IsFiled base → IsFiled (get_or base i d)
+filed_at [] i d within each = absurd (omega (arith, within))
+filed_at (m ∷ base) zero d within each = each.0
+filed_at (m ∷ base) (suc i) d within each = filed_at base i d (omega arith) each.1
+
+-- and its key is that of none before it
+pub new_at : (earlier base : List Filed) (i : ℕ) (d : Filed) → i < length base → AreNew earlier base → is_known (earlier ++ take i base) (key_of (get_or base i d)) ≡ false
+new_at earlier [] i d within new = absurd (omega (arith, within))
+new_at earlier (m ∷ base) zero d within new = subst (λ (l : List Filed). is_known l (key_of m) ≡ false) (sym (append-nil earlier)) new.0
+new_at earlier (m ∷ base) (suc i) d within new =
+    subst (λ (l : List Filed). is_known l (key_of (get_or base i d)) ≡ false) (append_assoc earlier (m ∷ []) (take i base)) (new_at (earlier ++ m ∷ []) base i d (omega arith) new.1)
+
+-- a purge leaves as many messages
+as_many : (base : Base) → length (purged base).messages ≡ length base.messages
+as_many base =
+    omega (
+      arith,
+      length-append (map stub_of (take base.cursor base.messages)) (drop base.cursor base.messages),
+      length-map (take base.cursor base.messages) stub_of,
+      length-take base.cursor base.messages,
+      length-drop base.cursor base.messages,
+    )
+
+-- what is left of a message has its digest
+same_digested : (scanned : Bool) (m : Filed) → digested (left_if scanned m) ≡ digested m
+same_digested true m = of_key (stub_of m) ∙ ap digested_key (stub_keeps_key m) ∙ sym (of_key m)
+same_digested false m = refl
+
+-- of no message none is left
+pub left_none : (keyed : ℕ → ℕ → List ℕ → ℕ) (old held : BaseBytes) (base : Base) → HoldsBase keyed old base → held ≡ record { messages = []; keys = []; cursor = 0; mark = old.mark } → HoldsBase keyed held (first_left base 0)
+left_none keyed old held base holds is =
+    subst (λ (b : BaseBytes). HoldsBase keyed b (first_left base 0)) (sym is) (record {
+      files = record {
+        all = [];
+        sizes = tt;
+        sound = tt;
+        stored = refl;
+        filed = refl;
+        entries = refl;
+        long = lit< tt;
+        digests = holds.files.digests;
+        holds = record { each = tt; new = tt; within = omega arith };
+      };
+      cursor = refl;
+    })
+
+-- one message more is left
+pub left_more : (keyed : ℕ → ℕ → List ℕ → ℕ) (old held now : BaseBytes) (base : Base) (place number : ℕ) (d : Filed) (bytes : List ℕ) (scanned : Bool) → HoldsBase keyed old base → held.mark ≡ old.mark → place < length base.messages
+    → HoldsBase keyed held (first_left base place) → IsBelow scanned place base.cursor → IsStoredAlone (left_if scanned (get_or base.messages place d)) bytes → number ≡ digest_at old.keys place → now ≡ with_stored held bytes number
+    → length now.messages < 2 ^ 64 → HoldsBase keyed now (first_left base (place + 1))
+left_more keyed old held now base place number d bytes scanned holds mark within left below stored told staged fits =
+    let all = (purged base).messages in
+    let m = left_if scanned (get_or base.messages place d) in
+    let whole : IsBase all base.cursor = stubs_keep base.messages base.cursor holds.files.holds in
+    let inside : place < length all = omega (arith, as_many base) in
+    let is : get_or all place d ≡ m = left_at base.cursor base.messages place d scanned within below in
+    let number_is : number ≡ digest_by keyed held.mark (digested m) =
+    told
+    ∙ tells_each (digest_by keyed old.mark) base.messages base.cursor old.messages old.keys holds.files place d within
+    ∙ (λ i. digest_by keyed (sym mark i) (sym (same_digested scanned (get_or base.messages place d)) i)) in
+    let filed : IsFiled m = subst IsFiled is (filed_at all place d inside whole.each) in
+    let new : is_known (take place all) (key_of m) ≡ false = subst (λ (x : Filed). is_known (take place all) (key_of x) ≡ false) is (new_at [] all place d inside whole.new) in
+    let room : length (held.messages ++ bytes) < 2 ^ 64 = subst (λ (b : BaseBytes). length b.messages < 2 ^ 64) staged fits in
+    let more : take place all ++ m ∷ [] ≡ take (place + 1) all = ap (λ (x : Filed). take place all ++ x ∷ []) (sym is) ∙ sym (take_more all place d inside) in
+    subst (λ (b : BaseBytes). HoldsBase keyed b (first_left base (place + 1))) (sym staged)
+    (subst (λ (l : List Filed). HoldsBase keyed (with_stored held bytes number) (record { messages = l; cursor = 0 })) more
+    (holds_more keyed held (first_left base place) m bytes number left stored filed new number_is room))
+
+-- all are left, under the cursor
+pub left_whole : (keyed : ℕ → ℕ → List ℕ → ℕ) (old held now : BaseBytes) (base : Base) → HoldsBase keyed old base → HoldsBase keyed held (first_left base (length base.messages))
+    → now ≡ record { messages = held.messages; keys = held.keys; cursor = old.cursor; mark = held.mark } → HoldsBase keyed now (purged base)
+left_whole keyed old held now base holds left is =
+    let all = (purged base).messages in
+    let whole : take (length base.messages) all ≡ all = take_all (length base.messages) all (omega (arith, as_many base)) in
+    let files = left.files in
+    subst (λ (b : BaseBytes). HoldsBase keyed b (purged base)) (sym is) (record {
+      files = record {
+        all = files.all;
+        sizes = files.sizes;
+        sound = files.sound;
+        stored = files.stored;
+        filed = sym whole ∙ files.filed;
+        entries = files.entries;
+        long = files.long;
+        digests = files.digests;
+        holds = stubs_keep base.messages base.cursor holds.files.holds;
+      };
+      cursor = holds.cursor;
+    })
+
+-- how many of some messages change
+abbrev changed : List Filed → ℕ
+changed l = count_by (λ m. not (is_stub m)) l
+
+scanned_more : (front : List Filed) (place : ℕ) (d : Filed) (stub : Bool) → place < length front → is_stub (get_or front place d) ≡ stub → changed (take (place + 1) front) ≡ changed (take place front) + (if not stub then 1 else 0)
+scanned_more front place d true inside same = let none = count_by_more_no (λ (m : Filed). not (is_stub m)) front place d inside (ap not same) in omega (arith, none)
+scanned_more front place d false inside same = count_by_more_yes (λ (m : Filed). not (is_stub m)) front place d inside (ap not same)
+
+-- whether one message more changes
+changed_more : (messages : List Filed) (cursor place : ℕ) (d : Filed) (scanned stub : Bool) → place < length messages → IsBelow scanned place cursor → is_stub (get_or messages place d) ≡ stub
+    → changed (take (place + 1) (take cursor messages)) ≡ changed (take place (take cursor messages)) + (if scanned && not stub then 1 else 0)
+changed_more messages cursor place d true stub within below is =
+    let less : place < cursor = below.yes refl in
+    scanned_more (take cursor messages) place d stub (omega (arith, length-take cursor messages)) (ap is_stub (get_or-take cursor messages place d less) ∙ is)
+changed_more messages cursor place d false stub within below is =
+    let front = take cursor messages in
+    let past : cursor ≤ place = below.no refl in
+    let short : length front ≤ place = omega (arith, length-take cursor messages) in
+    let same : take (place + 1) front ≡ take place front = take_all (place + 1) front (omega arith) ∙ sym (take_all place front short) in
+    let counts = ap (λ (l : List Filed). changed l) same in omega (arith, counts)
+
+pub changed_step : (base : Base) (place : ℕ) (d : Filed) (scanned changed : Bool) → place < length base.messages → IsBelow scanned place base.cursor → changed ≡ (scanned && not (is_stub (get_or base.messages place d)))
+    → changed_in base (place + 1) ≡ changed_in base place + (if changed then 1 else 0)
+changed_step base place d scanned changed within below is =
+    changed_more base.messages base.cursor place d scanned (is_stub (get_or base.messages place d)) within below refl
+    ∙ ap (λ (b : Bool). changed_in base place + (if b then 1 else 0)) (sym is)
+
+pub changed_whole : (base : Base) → changed_in base (length base.messages) ≡ count_by (λ m. not (is_stub m)) (take base.cursor base.messages)
+changed_whole base =
+    ap (λ (l : List Filed). count_by (λ m. not (is_stub m)) l) (take_all (length base.messages) (take base.cursor base.messages) (omega (arith, length-take base.cursor base.messages)))

@@ -1,0 +1,59 @@
+-- What waits to be written, behind what is.
+use Rattle.std.proofs.Common.{◌≡◌, ◌⊎◌, ◌<◌, ◌≤◌, ◌+◌, ◌-◌, ◌++◌, ℕ, min, List, [], length, take, drop, sym, ap, ◌∙◌, arith, length-append, ⊎_elim}
+use Rattle.std.proofs.lemmas.Bool.{cases_lt}
+use Rattle.std.proofs.lemmas.List.{append-nil, drop-append-le, drop_all, length-take-le, take-append-le, take_all}
+use Rattle.std.proofs.Math.Seq.{drop-append-add, take-append-add}
+use Rattle.disk_io.specs.Disk.{DiskState}
+use Rattle.base_log.specs.Standing.{BaseBytes, and_keys, and_messages, base_at}
+use Rattle.base_folder_store.specs.Opened.{IsWritten, held_by, path_of}
+use Rattle.base_folder_store.specs.declared.folder.Folder.{Folder}
+
+nothing_more : (b : BaseBytes) → and_keys (and_messages b []) [] ≡ b
+nothing_more b = λ i. record { messages = append-nil b.messages i; keys = append-nil b.keys i; cursor = b.cursor; mark = b.mark }
+
+-- where nothing waits, what is written is all that it holds
+pub written_held : (d : DiskState) (f : Folder) → IsWritten f → held_by d f ≡ base_at d (path_of f) f.told
+written_held d f none = (λ i. and_keys (and_messages (base_at d (path_of f) f.told) (none.messages i)) (none.keys i)) ∙ nothing_more (base_at d (path_of f) f.told)
+
+-- so many bytes are written, and wait behind them
+pub count_across : (file waiting : List ℕ) (written : ℕ) → written ≤ length file → length (take written file ++ waiting) ≡ written + length waiting
+count_across file waiting written room =
+    let front = length-take-le written file room in
+    let all = length-append (take written file) waiting in
+    omega (arith, front, all)
+
+-- a part of what is written, and of what waits behind it
+pub part_across : (xs ys : List ℕ) (n begins ends first last from to : ℕ) → length xs ≡ n → begins ≤ ends → first ≡ min begins n → last ≡ min ends n → from ≡ begins - n → to ≡ ends - n
+    → drop first (take last xs) ++ drop from (take to ys) ≡ drop begins (take ends (xs ++ ys))
+part_across xs ys n begins ends first last from to long order is_first is_last is_from is_to =
+    ⊎_elim
+    (λ (h : ends < n).
+    let f : first ≡ begins = omega arith in
+    let l : last ≡ ends = omega arith in
+    let z : from ≡ 0 = omega arith in
+    let w : to ≡ 0 = omega arith in
+    let inside : ends ≤ length xs = omega arith in
+    (λ i. drop (f i) (take (l i) xs) ++ drop (z i) (take (w i) ys))
+    ∙ append-nil (drop begins (take ends xs))
+    ∙ ap (λ (l : List ℕ). drop begins l) (sym (take-append-le ends xs ys inside)))
+    (λ (h : n ≤ ends).
+    let l : last ≡ length xs = omega arith in
+    let more : ends ≡ length xs + to = omega arith in
+    let all : take last xs ≡ xs = ap (λ (m : ℕ). take m xs) l ∙ take_all (length xs) xs (omega arith) in
+    let behind : take ends (xs ++ ys) ≡ xs ++ take to ys = ap (λ (m : ℕ). take m (xs ++ ys)) more ∙ take-append-add xs ys to in
+    ⊎_elim
+    (λ (k : begins < n).
+    let f : first ≡ begins = omega arith in
+    let z : from ≡ 0 = omega arith in
+    let inside : begins ≤ length xs = omega arith in
+    (λ i. drop (f i) (all i) ++ drop (z i) (take to ys))
+    ∙ sym (drop-append-le begins xs (take to ys) inside)
+    ∙ ap (λ (l : List ℕ). drop begins l) (sym behind))
+    (λ (k : n ≤ begins).
+    let past : length xs ≤ first = omega arith in
+    let at : begins ≡ length xs + from = omega arith in
+    (λ i. (ap (λ (l : List ℕ). drop first l) all ∙ drop_all first xs past) i ++ drop from (take to ys))
+    ∙ sym (drop-append-add xs (take to ys) from)
+    ∙ (λ i. drop (sym at i) (sym behind i)))
+    (cases_lt begins n))
+    (cases_lt ends n)

@@ -1,0 +1,14 @@
+use Rattle.base_store.proofs.Runs.{quiet_disk}
+use Rattle.base_folder_store.specs.State.{IsIndexed, state_of}
+use Rattle.base_folder_store.proofs.Stated.{looks}
+use Rattle.base_folder_store.proofs.WhereSo.{looks_where}
+use Rattle.base_folder_store.proofs.folder_store.FolderStore.expect_one.Goals as goal
+
+pub returns-clause-looks : goal.returns-clause-looks
+returns-clause-looks g c =
+    let s = c.args.self.now in
+    let d = g.D.Disk.state s.disk in
+    let keyed = g.H.Digest.keyed in
+    let state = state_of d keyed s.folder s.alone in
+    looks_where state state (IsIndexed d s.folder s.index) (IsIndexed d s.folder c.expect.new.self) (looks d d keyed s.folder s.alone s.alone c.requires.0 (quiet_disk d))
+    (λ honest. c.expect.ensures s.folder.keys.items (c.requires.1 honest))

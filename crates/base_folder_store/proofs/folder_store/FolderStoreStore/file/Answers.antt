@@ -1,0 +1,58 @@
+use Rattle.std.proofs.Common.{List, ℕ, subst, sym, ◌∙◌}
+use Rattle.base_store.proofs.Runs.{looks_commit, no_look}
+use Rattle.base_folder_store.specs.Added.{IsStoredAlone}
+use Rattle.base_folder_store.specs.Opened.{held_by}
+use Rattle.base_folder_store.specs.State.{IsIndexed, state_of, where_so}
+use Rattle.base_folder_store.proofs.Causes.{at_error, done_both}
+use Rattle.base_folder_store.proofs.Indexed.{indexed_more}
+use Rattle.base_folder_store.proofs.Seen.{filed_more}
+use Rattle.base_folder_store.proofs.Stated.{stages, went_on}
+use Rattle.base_folder_store.proofs.WhereSo.{goes_on_where, nothing_where}
+use Rattle.base_folder_store.proofs.folder_store.FolderStoreStore.file.Goals as goal
+
+pub returns-in_err-bytes-clause-commits : goal.returns-in_err-bytes-clause-commits
+returns-in_err-bytes-clause-commits g c =
+    let s = c.args.self.now in
+    let old = where_so (state_of (g.D.Disk.state s.disk) g.H.Digest.keyed s.folder s.alone) (IsIndexed (g.D.Disk.state s.disk) s.folder s.index) in
+    looks_commit old old c.requires.ready (no_look old c.requires.ready)
+
+pub returns-in_err-digested-clause-commits : goal.returns-in_err-digested-clause-commits
+returns-in_err-digested-clause-commits g c =
+    let s = c.args.self.now in
+    let old = where_so (state_of (g.D.Disk.state s.disk) g.H.Digest.keyed s.folder s.alone) (IsIndexed (g.D.Disk.state s.disk) s.folder s.index) in
+    looks_commit old old c.requires.ready (no_look old c.requires.ready)
+
+pub returns-clause-filed : goal.returns-clause-filed
+returns-clause-filed g c = λ honest base holds.
+    let s = c.args.self.now in
+    let keyed = g.H.Digest.keyed in
+    let before = held_by (g.D.Disk.state s.disk) s.folder in
+    let stored = subst (λ (l : List ℕ). IsStoredAlone c.args.message l) (sym c.deref-2.ensures.value) c.in_ok-bytes.ensures.stored in
+    let after = held_by (g.D.Disk.state c.stage.new.disk) c.stage.new.self in
+    done_both (λ staged fits. filed_more keyed after before base c.args.message c.args.key c.deref-2.result.now c.deref.result.now c.digest-digest.result staged fits holds stored c.in_ok-bytes.ensures.filed c.requires.own (c.requires.new (c.stage.ensures.outside.honest honest) base holds) (c.deref.ensures.value ∙ c.in_ok-digested.ensures) c.digest-digest.ensures)
+    c.stage.result (c.stage.ensures.staged honest) (c.stage.ensures.fits honest)
+
+pub returns-clause-goes_on : goal.returns-clause-goes_on
+returns-clause-goes_on g c =
+    let s = c.args.self.now in
+    let d = g.D.Disk.state s.disk in
+    let e = g.D.Disk.state c.stage.new.disk in
+    let keyed = g.H.Digest.keyed in
+    let now = c.stage.new.self in
+    let says = c.stage.ensures in
+    goes_on_where (state_of d keyed s.folder s.alone) (state_of e keyed now s.alone) (IsIndexed d s.folder s.index) (IsIndexed e now s.index) c.stage.result
+    (went_on d e keyed s.folder now s.alone s.alone c.stage.result says.named says.opened says.same says.outside)
+    (indexed_more d e s.folder now s.index c.stage.result c.deref-2.result.now c.digest-digest.result c.requires.ready.0.opened says.opened says.staged says.outside.honest c.requires.ready.1)
+
+pub returns-clause-undone : goal.returns-clause-undone
+returns-clause-undone g c = at_error c.stage.result (λ honest undoes base holds. absurd undoes)
+
+pub returns-clause-commits : goal.returns-clause-commits
+returns-clause-commits g c =
+    let s = c.args.self.now in
+    let d = g.D.Disk.state s.disk in
+    let e = g.D.Disk.state c.stage.new.disk in
+    let keyed = g.H.Digest.keyed in
+    let now = c.stage.new.self in
+    nothing_where (state_of d keyed s.folder s.alone) (state_of e keyed now s.alone) (IsIndexed d s.folder s.index) (IsIndexed e now s.index)
+    (stages d e keyed s.folder now s.alone s.alone c.stage.ensures.path c.stage.ensures.any_moment c.stage.ensures.outside)

@@ -1,0 +1,32 @@
+-- Which base a base folder holds.
+use Rattle.std.specs.Prelude.{◌≡◌, ◌⊎◌, ℕ, List}
+use Rattle.disk_io.specs.Disk.{DiskState, Files}
+use Rattle.base_log.specs.Moments.{SameOutside}
+use Rattle.base_log.specs.Standing.{BaseBytes, StandsFor}
+use Rattle.base_log.specs.declared.log.Mark.{Mark}
+use Rattle.base_file.specs.Base.{Base}
+use Rattle.base_store.specs.Keys.{FolderStandsFor}
+
+-- the digest by the key that a mark has
+abbrev pub digest_by : (ℕ → ℕ → List ℕ → ℕ) → Mark → List ℕ → ℕ
+digest_by keyed mark = keyed mark.first mark.second
+
+-- The bytes of the two files, and the cursor, are those of this base. The digests in the keys are by the key that the folder keeps.
+pub record HoldsBase (keyed : ℕ → ℕ → List ℕ → ℕ) (bytes : BaseBytes) (base : Base) : Type 0 where
+  pub files : FolderStandsFor (digest_by keyed bytes.mark) base.messages base.cursor bytes.messages bytes.keys
+  pub cursor : bytes.cursor ≡ base.cursor
+
+-- the files of the folder stand for this base, whatever a crash made of them
+pub record StandsForBase (keyed : ℕ → ℕ → List ℕ → ℕ) (path : List ℕ) (base : Base) (c : Files) : Type 0 where
+  pub bytes : BaseBytes
+  pub stands : StandsFor path bytes c
+  pub holds : HoldsBase keyed bytes base
+
+-- and nothing outside the folder has changed
+pub record StandsForBaseAlone (keyed : ℕ → ℕ → List ℕ → ℕ) (path : List ℕ) (old : DiskState) (base : Base) (c : Files) : Type 0 where
+  pub outside : SameOutside path old c
+  pub stands : StandsForBase keyed path base c
+
+-- or it is what a crash might have left before
+abbrev pub StandsForBaseOrWasLeft : (ℕ → ℕ → List ℕ → ℕ) → List ℕ → DiskState → Base → Files → Type 0
+StandsForBaseOrWasLeft keyed path old base c = StandsForBaseAlone keyed path old base c ⊎ old.may_leave c

@@ -1,0 +1,55 @@
+-- A base folder as a store of messages.
+use Rattle.std.specs.Prelude.{ℕ, List, Option, Some, None, slice_get}
+use Rattle.disk_io.specs.Disk.{DiskState, Honestly, IsIn}
+use Rattle.base_file.specs.Base.{Base}
+use Rattle.echo_filed.specs.Filed.{Filed}
+use Rattle.base_store.specs.Index.{IsIndexOf}
+use Rattle.base_store.specs.declared.index.Index.{Index}
+use Rattle.base_store.specs.Store.{StoreState}
+use Rattle.base_folder_store.specs.Held.{HoldsBase, StandsForBase}
+use Rattle.base_folder_store.specs.Opened.{IsNamed, IsOpen, committed_by, held_by, path_of}
+use Rattle.base_folder_store.specs.declared.folder.Folder.{Folder}
+
+-- the message of a base that has it alone
+abbrev pub only_message : Option Base → Option Filed
+only_message None = None
+only_message (Some alone) = slice_get alone.messages 0
+
+-- it has the paths of its files, and where the disk was honest these are as it knows them
+pub record IsUsable (disk : DiskState) (folder : Folder) : Type 0 where
+  pub named : IsNamed folder
+  pub opened : Honestly disk (IsOpen disk folder)
+
+-- What an open base folder is as a store: a call that fails in the middle of a change is not taken back.
+abbrev pub state_of : DiskState → (ℕ → ℕ → List ℕ → ℕ) → Folder → Option Base → StoreState
+state_of disk keyed folder alone = record {
+  disk = disk;
+  is_ready = IsUsable disk folder;
+  keeps = λ base. HoldsBase keyed (held_by disk folder) base;
+  committed = λ base. HoldsBase keyed (committed_by disk folder) base;
+  at_hand = only_message alone;
+  stands = λ base c. StandsForBase keyed (path_of folder) base c;
+  is_own = λ m. IsIn (path_of folder) m;
+  undoes = ⊥;
+  stays = λ honest usable base is c left. record { bytes = committed_by disk folder; stands = (usable.opened honest).staged.stands c left; holds = is };
+  shown = λ honest usable base is. record { bytes = committed_by disk folder; stands = (usable.opened honest).staged.shown; holds = is };
+}
+
+-- where the disk was honest, an index is one of the folder's keys
+abbrev pub IsIndexed : DiskState → Folder → Index → Type 0
+IsIndexed disk folder index = Honestly disk (IsIndexOf folder.keys.items index)
+
+-- a store to which calls may be made only where this is so too
+abbrev pub where_so : StoreState → Type 0 → StoreState
+where_so s so = record {
+  disk = s.disk;
+  is_ready = s.is_ready × so;
+  keeps = s.keeps;
+  committed = s.committed;
+  at_hand = s.at_hand;
+  stands = s.stands;
+  is_own = s.is_own;
+  undoes = s.undoes;
+  stays = λ honest ready base is c left. s.stays honest ready.0 base is c left;
+  shown = λ honest ready base is. s.shown honest ready.0 base is;
+}

@@ -1,0 +1,280 @@
+//! Messages are added to a base folder, and committed.
+ghost use Rattle.std.specs.Prelude.{◌≡◌, ◌≢◌, ◌≤◌, ◌<◌, ◌⊎◌, ◌+◌, ◌^◌, ◌/◌, length, IfNone, IfOk, IfSome, OnOk, IsErrOf};
+ghost use Rattle.disk_io.specs.Disk.{Honestly};
+ghost use Rattle.disk_io.specs.Runs.{HasCause, LeavesOnly};
+ghost use Rattle.base_log.specs.AtRest.{IsAtRest, IsStaged};
+ghost use Rattle.base_log.specs.Moments.{IsBeforeOrAfter, KeepsOutside, LeavesOutside, StandsAlone};
+ghost use Rattle.base_log.specs.Names.{AreNames, folder_of};
+ghost use Rattle.base_log.specs.Standing.{and_keys, and_messages, base_at};
+ghost use Rattle.base_folder_store.specs.Added.{IsFull, OneMoreWaits, SameBesideBoth, next_place, with_stored};
+ghost use Rattle.base_folder_store.specs.Answers.{HasReadCause};
+ghost use Rattle.base_folder_store.specs.Left.{AreGone};
+ghost use Rattle.base_folder_store.specs.Opened.{IsNamed, IsOpen, IsWritten, committed_by, held_by, path_of};
+
+use crate::folder::{ENTRY, Folder};
+use base_log::{End, Names, Told, commit, remove_files, stage_keys, stage_messages};
+use base_store::{StoreError, entry};
+use disk_io::{Disk, DiskError};
+
+/// How many bytes a commit adds to the log.
+const RECORD: usize = 50;
+
+/// The most bytes of messages that wait, without those of the last message.
+const PIECE: usize = 65_536;
+
+// Writes messages and their keys after the staged ones.
+fn stage_both<D: Disk>(
+    disk: &mut D,
+    names: &Names,
+    end: End,
+    told: Told,
+    bytes: &[u8],
+    keys: &[u8],
+) -> Result<Told, DiskError>
+    requires names { AreNames names.now told.number }
+    requires staged { Honestly (D.state disk.old) (IsStaged (D.state disk.old) (folder_of names.now) end told) }
+    requires messages_room { told.messages + length bytes.now < 2 ^ 64 }
+    requires keys_room { told.keys + length keys.now < 2 ^ 64 }
+    ensures staged { Honestly (D.state disk.new) (IfOk result (λ more. IsStaged (D.state disk.new) (folder_of names.now) end more)) }
+    ensures number { IfOk result (λ more. more.number ≡ told.number) }
+    ensures mark { IfOk result (λ more. more.mark ≡ told.mark) }
+    ensures added { Honestly (D.state disk.new) (IfOk result (λ more. base_at (D.state disk.new) (folder_of names.now) more
+        ≡ and_keys (and_messages (base_at (D.state disk.old) (folder_of names.now) told) bytes.now) keys.now)) }
+    ensures same { Honestly (D.state disk.new) (OnOk result (base_at (D.state disk.new) (folder_of names.now) end.told
+        ≡ base_at (D.state disk.old) (folder_of names.now) end.told)) }
+    ensures beside { SameBesideBoth (folder_of names.now) told.number (D.state disk.old).seen (D.state disk.new).seen }
+    ensures any_moment { Honestly (D.state disk.new) (LeavesOnly (D.state disk.old) (D.state disk.new)
+        (StandsAlone (folder_of names.now) (D.state disk.old) (base_at (D.state disk.old) (folder_of names.now) end.told))) }
+    ensures outside { KeepsOutside (folder_of names.now) (D.state disk.old) (D.state disk.new) }
+    ensures leaves { LeavesOutside (folder_of names.now) (D.state disk.old) (D.state disk.new) }
+    ensures cause { HasCause (D.failures disk.old) (D.failures disk.new) result }
+{
+    let more = stage_messages(disk, names, end, told, bytes)?;
+    stage_keys(disk, names, end, more, keys)
+}
+
+impl Folder {
+    // The place of the next message, if eight bytes count all bytes after so many more.
+    fn next_place(&self, more: usize) -> Option<usize>
+        ensures place { IfSome result (λ place. place ≡ self.now.told.messages + length self.now.waiting.messages.items) }
+        ensures room { IfSome result (λ place. place + more < 2 ^ 64) }
+        ensures none { IfNone result (2 ^ 64 ≤ next_place self.now + more) }
+    {
+        let place = self.told.messages.checked_add(self.waiting.messages.len())?;
+        if more > usize::MAX - place {
+            return None;
+        }
+        Some(place)
+    }
+
+    // Adds a message, as it is stored, and its entry, to the ones that wait.
+    fn add(&mut self, bytes: &[u8], digest: u64) -> Result<(), StoreError>
+        ensures names { self.new.names ≡ self.old.names }
+        ensures end { self.new.end ≡ self.old.end }
+        ensures told { self.new.told ≡ self.old.told }
+        ensures waits { OnOk result (OneMoreWaits self.old self.new bytes.now digest) }
+        ensures whole { IsErrOf result StoreError.Damaged → ⊥ }
+        ensures device { IsErrOf result StoreError.Device → ⊥ }
+        ensures many { IsErrOf result StoreError.TooMany → 2 ^ 64 ≤ next_place self.old + length bytes.now }
+    {
+        let Some(place) = self.next_place(bytes.len()) else {
+            return Err(StoreError::TooMany);
+        };
+        let entry = entry(place as u64, digest);
+        self.keys.extend_from_slice(&entry)?;
+        self.waiting.add(bytes, &entry)?;
+        Ok(())
+    }
+
+    // Writes the waiting messages.
+    fn write_out<D: Disk>(&mut self, disk: &mut D) -> Result<(), StoreError>
+        requires named { IsNamed self.old }
+        requires opened { Honestly (D.state disk.old) (IsOpen (D.state disk.old) self.old) }
+        ensures named { IsNamed self.new }
+        ensures opened { Honestly (D.state disk.new) (OnOk result (IsOpen (D.state disk.new) self.new)) }
+        ensures written { OnOk result (IsWritten self.new) }
+        ensures path { path_of self.new ≡ path_of self.old }
+        ensures mark { self.new.told.mark ≡ self.old.told.mark }
+        ensures held { Honestly (D.state disk.new) (OnOk result (held_by (D.state disk.new) self.new ≡ held_by (D.state disk.old) self.old)) }
+        ensures same { Honestly (D.state disk.new) (OnOk result (committed_by (D.state disk.new) self.new ≡ committed_by (D.state disk.old) self.old)) }
+        ensures end { self.new.end ≡ self.old.end }
+        ensures number { self.new.told.number ≡ self.old.told.number }
+        ensures beside { SameBesideBoth (path_of self.old) self.old.told.number (D.state disk.old).seen (D.state disk.new).seen }
+        ensures any_moment { Honestly (D.state disk.new) (LeavesOnly (D.state disk.old) (D.state disk.new)
+            (StandsAlone (path_of self.old) (D.state disk.old) (committed_by (D.state disk.old) self.old))) }
+        ensures outside { KeepsOutside (path_of self.old) (D.state disk.old) (D.state disk.new) }
+        ensures leaves { LeavesOutside (path_of self.old) (D.state disk.old) (D.state disk.new) }
+        ensures whole { IsErrOf result StoreError.Damaged → ⊥ }
+        ensures cause { HasReadCause (D.failures disk.old) (D.failures disk.new) result }
+        ensures many { IsErrOf result StoreError.TooMany → (2 ^ 64 ≤ next_place self.old) ⊎ (2 ^ 64 ≤ self.old.told.keys + length self.old.waiting.keys.items) }
+    {
+        let messages = &self.waiting.messages;
+        let keys = &self.waiting.keys;
+        if messages.len() > usize::MAX - self.told.messages
+            || keys.len() > usize::MAX - self.told.keys
+        {
+            return Err(StoreError::TooMany);
+        }
+        let more = stage_both(disk, &self.names, self.end, self.told, messages, keys)?;
+        self.told = more;
+        self.waiting.clear();
+        Ok(())
+    }
+
+    /// Adds a message, as it is stored, and its entry. Many are written by one call. Nothing is committed. After an
+    /// error only the effects of a crash are known: open the folder again.
+    pub fn stage<D: Disk>(
+        &mut self,
+        disk: &mut D,
+        bytes: &[u8],
+        digest: u64,
+    ) -> Result<(), StoreError>
+        requires named { IsNamed self.old }
+        requires opened { Honestly (D.state disk.old) (IsOpen (D.state disk.old) self.old) }
+        ensures named { IsNamed self.new }
+        ensures opened { Honestly (D.state disk.new) (OnOk result (IsOpen (D.state disk.new) self.new)) }
+        ensures path { path_of self.new ≡ path_of self.old }
+        ensures mark { self.new.told.mark ≡ self.old.told.mark }
+        ensures staged { Honestly (D.state disk.new) (OnOk result (held_by (D.state disk.new) self.new ≡ with_stored (held_by (D.state disk.old) self.old) bytes.now digest)) }
+        ensures fits { Honestly (D.state disk.new) (OnOk result (length (held_by (D.state disk.new) self.new).messages < 2 ^ 64)) }
+        ensures same { Honestly (D.state disk.new) (OnOk result (committed_by (D.state disk.new) self.new ≡ committed_by (D.state disk.old) self.old)) }
+        ensures end { self.new.end ≡ self.old.end }
+        ensures number { self.new.told.number ≡ self.old.told.number }
+        ensures beside { SameBesideBoth (path_of self.old) self.old.told.number (D.state disk.old).seen (D.state disk.new).seen }
+
+        // A crash at any time leaves what was committed, and nothing outside the folder has changed.
+        ensures any_moment { Honestly (D.state disk.new) (LeavesOnly (D.state disk.old) (D.state disk.new)
+            (StandsAlone (path_of self.old) (D.state disk.old) (committed_by (D.state disk.old) self.old))) }
+        ensures outside { KeepsOutside (path_of self.old) (D.state disk.old) (D.state disk.new) }
+        ensures whole { IsErrOf result StoreError.Damaged → ⊥ }
+        ensures cause { HasReadCause (D.failures disk.old) (D.failures disk.new) result }
+    {
+        self.add(bytes, digest)?;
+        if self.waiting.messages.len() < PIECE {
+            return Ok(());
+        }
+        self.write_out(disk)
+    }
+
+    /// Moves the cursor to the end: all messages are scanned. Nothing is committed.
+    pub fn move_to_end(&mut self)
+        ensures { self.new ≡ record self.old { told = record self.old.told { cursor = length self.old.keys.items / 16 } } }
+    {
+        self.told.cursor = self.count() as u64;
+    }
+
+    // Writes the record of its contents, all of which are written.
+    fn tell<D: Disk>(&mut self, disk: &mut D) -> Result<(), StoreError>
+        requires named { IsNamed self.old }
+        requires opened { Honestly (D.state disk.old) (IsOpen (D.state disk.old) self.old) }
+        requires written { IsWritten self.old }
+        ensures named { IsNamed self.new }
+        ensures written { IsWritten self.new }
+        ensures opened { Honestly (D.state disk.new) (OnOk result (IsOpen (D.state disk.new) self.new)) }
+        ensures path { path_of self.new ≡ path_of self.old }
+        ensures mark { self.new.told.mark ≡ self.old.told.mark }
+        ensures same { Honestly (D.state disk.new) (OnOk result (held_by (D.state disk.new) self.new ≡ held_by (D.state disk.old) self.old)) }
+        ensures committed { Honestly (D.state disk.new) (OnOk result (committed_by (D.state disk.new) self.new ≡ held_by (D.state disk.old) self.old)) }
+        ensures settled { Honestly (D.state disk.new) (OnOk result (IsAtRest (D.state disk.new) (path_of self.new) self.new.end)) }
+        ensures told { OnOk result (self.new.end.told ≡ self.new.told) }
+
+        // A crash at any time leaves what was committed before, or what was held.
+        ensures any_moment { Honestly (D.state disk.new) (LeavesOnly (D.state disk.old) (D.state disk.new)
+            (IsBeforeOrAfter (path_of self.old) (D.state disk.old) (committed_by (D.state disk.old) self.old) (held_by (D.state disk.old) self.old))) }
+        ensures outside { KeepsOutside (path_of self.old) (D.state disk.old) (D.state disk.new) }
+        ensures leaves { LeavesOutside (path_of self.old) (D.state disk.old) (D.state disk.new) }
+        ensures whole { IsErrOf result StoreError.Damaged → ⊥ }
+        ensures cause { HasReadCause (D.failures disk.old) (D.failures disk.new) result }
+        ensures many { IsErrOf result StoreError.TooMany → 2 ^ 64 ≤ self.old.end.gate + 51 }
+    {
+        if self.end.gate >= usize::MAX - RECORD {
+            return Err(StoreError::TooMany);
+        }
+        let end = commit(disk, &self.names, self.end, self.told)?;
+        self.end = end;
+        Ok(())
+    }
+
+    // Writes the waiting messages, and the record of the contents.
+    fn acknowledge<D: Disk>(&mut self, disk: &mut D) -> Result<(), StoreError>
+        requires named { IsNamed self.old }
+        requires opened { Honestly (D.state disk.old) (IsOpen (D.state disk.old) self.old) }
+        ensures named { IsNamed self.new }
+        ensures written { OnOk result (IsWritten self.new) }
+        ensures opened { Honestly (D.state disk.new) (OnOk result (IsOpen (D.state disk.new) self.new)) }
+        ensures path { path_of self.new ≡ path_of self.old }
+        ensures mark { self.new.told.mark ≡ self.old.told.mark }
+        ensures same { Honestly (D.state disk.new) (OnOk result (held_by (D.state disk.new) self.new ≡ held_by (D.state disk.old) self.old)) }
+        ensures committed { Honestly (D.state disk.new) (OnOk result (committed_by (D.state disk.new) self.new ≡ held_by (D.state disk.old) self.old)) }
+        ensures settled { Honestly (D.state disk.new) (OnOk result (IsAtRest (D.state disk.new) (path_of self.new) self.new.end)) }
+        ensures told { OnOk result (self.new.end.told ≡ self.new.told) }
+
+        // A crash at any time leaves what was committed before, or what was held.
+        ensures any_moment { Honestly (D.state disk.new) (LeavesOnly (D.state disk.old) (D.state disk.new)
+            (IsBeforeOrAfter (path_of self.old) (D.state disk.old) (committed_by (D.state disk.old) self.old) (held_by (D.state disk.old) self.old))) }
+        ensures outside { KeepsOutside (path_of self.old) (D.state disk.old) (D.state disk.new) }
+        ensures leaves { LeavesOutside (path_of self.old) (D.state disk.old) (D.state disk.new) }
+        ensures whole { IsErrOf result StoreError.Damaged → ⊥ }
+        ensures cause { HasReadCause (D.failures disk.old) (D.failures disk.new) result }
+        ensures many { IsErrOf result StoreError.TooMany → IsFull self.old }
+    {
+        self.write_out(disk)?;
+        self.tell(disk)
+    }
+
+    // Removes the files of a number that no longer counts.
+    fn remove_former<D: Disk>(&self, disk: &mut D, former: u8) -> Result<(), StoreError>
+        requires { Honestly (D.state disk.old) (IsAtRest (D.state disk.old) (path_of self.now) self.now.end) }
+        ensures settled { Honestly (D.state disk.new) (OnOk result (IsAtRest (D.state disk.new) (path_of self.now) self.now.end)) }
+        ensures gone { Honestly (D.state disk.new) (OnOk result (former < 10 → former ≢ self.now.end.told.number → AreGone (D.state disk.new) (path_of self.now) former)) }
+        ensures same { committed_by (D.state disk.new) self.now ≡ committed_by (D.state disk.old) self.now }
+        ensures any_moment { Honestly (D.state disk.new) (LeavesOnly (D.state disk.old) (D.state disk.new)
+            (StandsAlone (path_of self.now) (D.state disk.old) (committed_by (D.state disk.old) self.now))) }
+        ensures outside { KeepsOutside (path_of self.now) (D.state disk.old) (D.state disk.new) }
+        ensures leaves { LeavesOutside (path_of self.now) (D.state disk.old) (D.state disk.new) }
+        ensures whole { IsErrOf result StoreError.Damaged → ⊥ }
+        ensures cause { HasReadCause (D.failures disk.old) (D.failures disk.new) result }
+        ensures few { IsErrOf result StoreError.TooMany → ⊥ }
+    {
+        if former == self.end.told.number || former > 9 {
+            return Ok(());
+        }
+        let alloc = *self.names.folder.allocator();
+        let names = Names::new(alloc, &self.names.folder, former)?;
+        remove_files(disk, &names, self.end, former)?;
+        Ok(())
+    }
+
+    /// Commits its contents, and removes the files that held them before, if those are others. At `Ok` each later
+    /// crash leaves the contents; after an error open the folder again.
+    pub fn commit<D: Disk>(&mut self, disk: &mut D) -> Result<(), StoreError>
+        requires named { IsNamed self.old }
+        requires opened { Honestly (D.state disk.old) (IsOpen (D.state disk.old) self.old) }
+        ensures named { IsNamed self.new }
+        ensures written { OnOk result (IsWritten self.new) }
+        ensures opened { Honestly (D.state disk.new) (OnOk result (IsOpen (D.state disk.new) self.new)) }
+        ensures path { path_of self.new ≡ path_of self.old }
+        ensures mark { self.new.told.mark ≡ self.old.told.mark }
+        ensures same { Honestly (D.state disk.new) (OnOk result (held_by (D.state disk.new) self.new ≡ held_by (D.state disk.old) self.old)) }
+        ensures committed { Honestly (D.state disk.new) (OnOk result (committed_by (D.state disk.new) self.new ≡ held_by (D.state disk.old) self.old)) }
+        ensures settled { Honestly (D.state disk.new) (OnOk result (IsAtRest (D.state disk.new) (path_of self.new) self.new.end)) }
+        ensures told { OnOk result (self.new.end.told ≡ self.new.told) }
+
+        // The files that held it before are gone, if others hold it now.
+        ensures gone { Honestly (D.state disk.new) (OnOk result (self.old.end.told.number < 10 → self.old.end.told.number ≢ self.new.end.told.number
+            → AreGone (D.state disk.new) (path_of self.old) self.old.end.told.number)) }
+
+        // A crash at any time leaves what was committed before, or what was held.
+        ensures any_moment { Honestly (D.state disk.new) (LeavesOnly (D.state disk.old) (D.state disk.new)
+            (IsBeforeOrAfter (path_of self.old) (D.state disk.old) (committed_by (D.state disk.old) self.old) (held_by (D.state disk.old) self.old))) }
+        ensures outside { KeepsOutside (path_of self.old) (D.state disk.old) (D.state disk.new) }
+        ensures leaves { LeavesOutside (path_of self.old) (D.state disk.old) (D.state disk.new) }
+        ensures whole { IsErrOf result StoreError.Damaged → ⊥ }
+        ensures cause { HasReadCause (D.failures disk.old) (D.failures disk.new) result }
+        ensures many { IsErrOf result StoreError.TooMany → IsFull self.old }
+    {
+        let former = self.end.told.number;
+        self.acknowledge(disk)?;
+        self.remove_former(disk, former)
+    }
+}

@@ -1,0 +1,186 @@
+//! A base folder, as a store.
+ghost use Rattle.std.specs.Prelude.{◌≡◌, true, false};
+ghost use Rattle.disk_io.specs.Disk.{Honestly};
+ghost use Rattle.base_file.specs.Base.{Base};
+ghost use Rattle.base_folder_store.specs.Held.{HoldsBase};
+ghost use Rattle.base_folder_store.specs.Opened.{IsNamed, IsOpen, committed_by, held_by};
+ghost use Rattle.base_folder_store.specs.Owned.{IsUnclaimed, owner_of, with_mark};
+ghost use Rattle.base_folder_store.specs.State.{IsIndexed, state_of, where_so};
+ghost use Rattle.base_store.specs.Store.{CommitsNothing, GoesOn, LooksOn};
+
+use crate::alone::{Alone, bytes_alone};
+use crate::folder::Folder;
+use crate::sought::Id;
+use base_log::Mark;
+use base_store::{Digest, Index, PurgedStore, Store, StoreError, bytes_of_key};
+use disk_io::Disk;
+use echo_filed::{Filed, Key};
+use std::alloc::Global;
+use std::marker::PhantomData;
+
+/// A base folder on a disk. After a call that failed in the middle of a change, open it again.
+///
+/// Look-ups of expected messages take one pass over its keys. Of the others, the first ones of a run each take a
+/// pass, and the rest use an index.
+#[derive(Drop)]
+pub struct FolderStore<D: Disk, H: Digest> {
+    alloc: Global,
+    disk: D,
+    folder: Folder,
+    index: Index,
+    // The current message.
+    alone: Option<Alone>,
+    digests: PhantomData<H>,
+}
+
+impl<D: Disk, H: Digest> FolderStore<D, H> {
+    /// An open folder on the disk, as a store. Its entries have digests by its key.
+    pub fn new(alloc: Global, disk: D, folder: Folder) -> FolderStore<D, H>
+        requires named { IsNamed folder }
+        requires opened { Honestly (D.state disk) (IsOpen (D.state disk) folder) }
+        ensures ready { (⟦<FolderStore<D, H> as Store>⟧.state result).is_ready }
+        ensures keeps { (base : Base) → HoldsBase H.keyed (held_by (D.state disk) folder) base
+            → (⟦<FolderStore<D, H> as Store>⟧.state result).keeps base }
+        ensures committed { (base : Base) → HoldsBase H.keyed (committed_by (D.state disk) folder) base
+            → (⟦<FolderStore<D, H> as Store>⟧.state result).committed base }
+        ensures disk { result.disk ≡ disk }
+        ensures folder { result.folder ≡ folder }
+    {
+        FolderStore {
+            alloc,
+            disk,
+            folder,
+            index: Index::new(alloc),
+            alone: None,
+            digests: PhantomData,
+        }
+    }
+
+    /// The disk and the folder, taken out.
+    pub fn into_parts(self) -> (D, Folder)
+        ensures disk { result.0 ≡ self.disk }
+        ensures folder { result.1 ≡ self.folder }
+    {
+        (self.disk, self.folder)
+    }
+
+    /// The owner of the folder; none if it has no owner.
+    pub fn owner(&self) -> Option<u64>
+        ensures { result ≡ owner_of self.now.folder.told.mark }
+    {
+        self.folder.owner()
+    }
+
+    /// Gives the folder an owner and a key, if it has no owner and no message, and returns whether it did. It keeps
+    /// them from the next commit on.
+    pub fn claim(&mut self, mark: Mark) -> bool
+        requires { (⟦<FolderStore<D, H> as Store>⟧.state self.old).is_ready }
+        ensures claimed { result ≡ true → IsUnclaimed self.old.folder × (self.new ≡ record self.old { folder = with_mark self.old.folder mark }) }
+        ensures refused { result ≡ false → (IsUnclaimed self.old.folder → ⊥) × (self.new ≡ self.old) }
+        ensures keeps { Honestly (D.state self.new.disk) ((base : Base) → (⟦<FolderStore<D, H> as Store>⟧.state self.old).keeps base
+            → (⟦<FolderStore<D, H> as Store>⟧.state self.new).keeps base) }
+        ensures goes_on { GoesOn (⟦<FolderStore<D, H> as Store>⟧.state self.old) (⟦<FolderStore<D, H> as Store>⟧.state self.new) }
+        ensures commits { CommitsNothing (⟦<FolderStore<D, H> as Store>⟧.state self.old) (⟦<FolderStore<D, H> as Store>⟧.state self.new) }
+    {
+        self.folder.claim(mark)
+    }
+
+    /// The messages with these keys will be looked up. Answers are the same whether they are or not. If memory is
+    /// refused, some are not expected.
+    pub fn expect(&mut self, keys: &[Key])
+        requires { (⟦<FolderStore<D, H> as Store>⟧.state self.old).is_ready }
+        ensures looks { LooksOn (⟦<FolderStore<D, H> as Store>⟧.state self.old) (⟦<FolderStore<D, H> as Store>⟧.state self.new) }
+        ensures disk { self.new.disk ≡ self.old.disk }
+        ensures folder { self.new.folder ≡ self.old.folder }
+    {
+        'keys: for i in 0..keys.len() {
+            self.expect_one(&keys[i]);
+        }
+    }
+
+    // The message with this key is one of them.
+    fn expect_one(&mut self, key: &Key)
+        requires { (⟦<FolderStore<D, H> as Store>⟧.state self.old).is_ready }
+        ensures looks { LooksOn (⟦<FolderStore<D, H> as Store>⟧.state self.old) (⟦<FolderStore<D, H> as Store>⟧.state self.new) }
+        ensures disk { self.new.disk ≡ self.old.disk }
+        ensures folder { self.new.folder ≡ self.old.folder }
+    {
+        let Ok(bytes) = bytes_of_key(self.alloc, key) else {
+            return;
+        };
+        let digest = self.folder.digest::<H>(&bytes);
+        self.index.expect(self.alloc, digest);
+    }
+}
+
+impl<D: Disk, H: Digest> Store for FolderStore<D, H> {
+    ghost state = { λ store. where_so (state_of (D.state store.disk) H.keyed store.folder store.alone) (IsIndexed (D.state store.disk) store.folder store.index) };
+
+    ghost failures = { λ store. D.failures store.disk };
+
+    fn len(&self) -> usize {
+        self.folder.count()
+    }
+
+    fn cursor(&self) -> usize {
+        self.folder.cursor()
+    }
+
+    fn knows(&mut self, key: &Key) -> Result<bool, StoreError> {
+        let bytes = bytes_of_key(self.alloc, key)?;
+        let digest = self.folder.digest::<H>(&bytes);
+        self.index.prepare(self.alloc, &self.folder.keys, digest);
+        self.folder
+            .find(self.alloc, &mut self.disk, &self.index, key, digest)
+    }
+
+    fn has_id(&mut self, msgid: &[u8]) -> Result<bool, StoreError> {
+        let digest = self.folder.digest::<H>(msgid);
+        self.index.prepare(self.alloc, &self.folder.keys, digest);
+        self.folder.find(
+            self.alloc,
+            &mut self.disk,
+            &self.index,
+            &Id { msgid },
+            digest,
+        )
+    }
+
+    fn fetch(&mut self, place: usize) -> Result<(), StoreError> {
+        if place >= self.folder.count() {
+            return Err(StoreError::Damaged);
+        }
+        let alone = self.folder.read(self.alloc, &mut self.disk, place)?;
+        self.alone = Some(alone);
+        Ok(())
+    }
+
+    fn at_hand(&self) -> Option<&Filed> {
+        let alone = self.alone.as_ref()?;
+        alone.message(0)
+    }
+
+    fn file(&mut self, key: Key, message: Filed) -> Result<(), StoreError> {
+        let bytes = bytes_alone(self.alloc, &message)?;
+        let digested = bytes_of_key(self.alloc, &key)?;
+        let digest = self.folder.digest::<H>(&digested);
+        self.folder.stage(&mut self.disk, &bytes, digest)
+    }
+
+    fn move_to_end(&mut self) -> Result<(), StoreError> {
+        self.folder.move_to_end();
+        Ok(())
+    }
+
+    fn commit(&mut self) -> Result<(), StoreError> {
+        self.folder.commit(&mut self.disk)
+    }
+}
+
+impl<D: Disk, H: Digest> PurgedStore for FolderStore<D, H> {
+    fn purge(&mut self) -> Result<u64, StoreError> {
+        let index = Index::new(self.alloc);
+        self.index = index;
+        self.folder.purge(self.alloc, &mut self.disk)
+    }
+}

@@ -1,0 +1,52 @@
+//! The owner of a base folder, and the digests by its key.
+ghost use Rattle.std.specs.Prelude.{◌≡◌, true, false};
+ghost use Rattle.base_folder_store.specs.Held.{digest_by};
+ghost use Rattle.base_folder_store.specs.Owned.{IsUnclaimed, owner_of, with_mark, with_owner};
+
+use crate::folder::Folder;
+use base_log::Mark;
+use base_store::Digest;
+
+impl Folder {
+    /// Its owner; none if it has no owner.
+    pub fn owner(&self) -> Option<u64>
+        ensures { result ≡ owner_of self.now.told.mark }
+    {
+        if self.told.mark.owner == 0 {
+            return None;
+        }
+        Some(self.told.mark.owner)
+    }
+
+    /// Gives it an owner and a key, if it has no owner and no message, and returns whether it did. Nothing is
+    /// committed.
+    pub fn claim(&mut self, mark: Mark) -> bool
+        ensures claimed { result ≡ true → IsUnclaimed self.old × (self.new ≡ with_mark self.old mark) }
+        ensures refused { result ≡ false → (IsUnclaimed self.old → ⊥) × (self.new ≡ self.old) }
+    {
+        if self.told.mark.owner != 0 || !self.keys.is_empty() {
+            return false;
+        }
+        self.told.mark = mark;
+        true
+    }
+
+    /// Gives it an owner, if it has none, and returns whether it did. Its key stays. Nothing is committed.
+    pub fn adopt(&mut self, owner: u64) -> bool
+        ensures adopted { result ≡ true → (self.old.told.mark.owner ≡ 0) × (self.new ≡ with_owner self.old owner) }
+        ensures refused { result ≡ false → (self.old.told.mark.owner ≡ 0 → ⊥) × (self.new ≡ self.old) }
+    {
+        if self.told.mark.owner != 0 {
+            return false;
+        }
+        self.told.mark.owner = owner;
+        true
+    }
+
+    /// The digest by its key.
+    pub fn digest<H: Digest>(&self, bytes: &[u8]) -> u64
+        ensures { result ≡ digest_by H.keyed self.now.told.mark bytes.now }
+    {
+        H::keyed(self.told.mark.first, self.told.mark.second).of(bytes)
+    }
+}

@@ -1,0 +1,173 @@
+//! A purge: what it leaves of each message is staged in files of another number, which the next commit names.
+ghost use Rattle.std.specs.Prelude.{◌≡◌, ◌≢◌, ◌+◌, ◌<◌, ◌/◌, ℕ, List, [], not, length, take, count_by, IfOk, OnOk, IsErrOf, if◌then◌else◌};
+ghost use Rattle.disk_io.specs.Disk.{Honestly};
+ghost use Rattle.disk_io.specs.Runs.{LeavesOnly};
+ghost use Rattle.base_file.specs.Base.{Base};
+ghost use Rattle.echo_filed.specs.Stubs.{is_stub};
+ghost use Rattle.base_log.specs.AtRest.{IsAtRest};
+ghost use Rattle.base_log.specs.Moments.{IsBeforeOrAfter, KeepsOutside, StandsAlone};
+ghost use Rattle.base_store.specs.Store.{purged};
+ghost use Rattle.base_folder_store.specs.Answers.{HasReadCause};
+ghost use Rattle.base_folder_store.specs.Held.{HoldsBase};
+ghost use Rattle.base_folder_store.specs.Left.{IsBesideIn, IsReadable, changed_in, first_left};
+ghost use Rattle.base_folder_store.specs.Opened.{IsNamed, IsOpen, committed_by, held_by, path_of};
+
+use crate::folder::{Folder, message_at};
+use crate::leaving::{HEAD, left_of};
+use crate::waiting::Waiting;
+use base_log::{Names, stage_anew};
+use base_store::{StoreError, digest_of};
+use disk_io::Disk;
+use std::alloc::Global;
+
+// The number of the new files, made while those of this number exist.
+fn other_number(number: u8) -> u8
+    ensures digit { result < 10 }
+    ensures other { result ≢ number }
+{
+    if number == 0 { 1 } else { 0 }
+}
+
+// One if this holds.
+fn one_if(so: bool) -> u64
+    ensures { result ≡ (if so then 1 else 0) }
+{
+    u64::from(so)
+}
+
+impl Folder {
+    // The folder with no message, in files of another number.
+    fn anew<D: Disk>(&self, alloc: Global, disk: &mut D) -> Result<Folder, StoreError>
+        requires settled { Honestly (D.state disk.old) (IsAtRest (D.state disk.old) (path_of self.now) self.now.end) }
+        requires readable { Honestly (D.state disk.old) (IsReadable (D.state disk.old) self.now) }
+        ensures named { IfOk result IsNamed }
+        ensures opened { Honestly (D.state disk.new) (IfOk result (IsOpen (D.state disk.new))) }
+        ensures beside { IfOk result (IsBesideIn self.now) }
+        ensures empty { IfOk result (λ next. held_by (D.state disk.new) next ≡ record { messages = []; keys = []; cursor = 0; mark = self.now.end.told.mark }) }
+        ensures committed { Honestly (D.state disk.new) (IfOk result (λ next. committed_by (D.state disk.new) next ≡ committed_by (D.state disk.old) self.now)) }
+        ensures readable { Honestly (D.state disk.new) (OnOk result (IsReadable (D.state disk.new) self.now)) }
+        ensures any_moment { Honestly (D.state disk.new) (LeavesOnly (D.state disk.old) (D.state disk.new)
+            (StandsAlone (path_of self.now) (D.state disk.old) (committed_by (D.state disk.old) self.now))) }
+        ensures outside { KeepsOutside (path_of self.now) (D.state disk.old) (D.state disk.new) }
+        ensures whole { IsErrOf result StoreError.Damaged → ⊥ }
+        ensures cause { HasReadCause (D.failures disk.old) (D.failures disk.new) result }
+    {
+        let number = other_number(self.end.told.number);
+        let names = Names::new(alloc, &self.names.folder, number)?;
+        let told = stage_anew(disk, &names, self.end, number, 0)?;
+        let keys = Vec::new(alloc);
+        let waiting = Waiting::new(alloc);
+        Ok(Folder {
+            names,
+            end: self.end,
+            told,
+            keys,
+            waiting,
+        })
+    }
+
+    // Stages what a purge leaves of the message of this number, and returns whether that changed it.
+    fn leave_next<D: Disk>(
+        &self,
+        alloc: Global,
+        disk: &mut D,
+        next: &mut Folder,
+        place: usize,
+    ) -> Result<bool, StoreError>
+        requires within { place < length self.now.keys.items / 16 }
+        requires readable { Honestly (D.state disk.old) (IsReadable (D.state disk.old) self.now) }
+        requires beside { IsBesideIn self.now next.old }
+        requires named { IsNamed next.old }
+        requires opened { Honestly (D.state disk.old) (IsOpen (D.state disk.old) next.old) }
+        ensures readable { Honestly (D.state disk.new) (IsReadable (D.state disk.new) self.now) }
+        ensures beside { IsBesideIn self.now next.new }
+        ensures named { IsNamed next.new }
+        ensures opened { Honestly (D.state disk.new) (OnOk result (IsOpen (D.state disk.new) next.new)) }
+        ensures left { Honestly (D.state disk.new) ((keyed : ℕ → ℕ → List ℕ → ℕ) (base : Base) → HoldsBase keyed (committed_by (D.state disk.old) next.old) base
+            → HoldsBase keyed (held_by (D.state disk.old) next.old) (first_left base place)
+            → OnOk result (HoldsBase keyed (held_by (D.state disk.new) next.new) (first_left base (place + 1)))) }
+        ensures changed { Honestly (D.state disk.new) ((keyed : ℕ → ℕ → List ℕ → ℕ) (base : Base) → HoldsBase keyed (committed_by (D.state disk.old) next.old) base
+            → IfOk result (λ changed. changed_in base (place + 1) ≡ changed_in base place + (if changed then 1 else 0))) }
+        ensures same { Honestly (D.state disk.new) (OnOk result (committed_by (D.state disk.new) next.new ≡ committed_by (D.state disk.old) next.old)) }
+        ensures any_moment { Honestly (D.state disk.new) (LeavesOnly (D.state disk.old) (D.state disk.new)
+            (StandsAlone (path_of next.old) (D.state disk.old) (committed_by (D.state disk.old) next.old))) }
+        ensures outside { KeepsOutside (path_of next.old) (D.state disk.old) (D.state disk.new) }
+        ensures damaged { Honestly (D.state disk.new) (IsErrOf result StoreError.Damaged
+            → (keyed : ℕ → ℕ → List ℕ → ℕ) (base : Base) → HoldsBase keyed (committed_by (D.state disk.old) next.old) base → ⊥) }
+        ensures cause { HasReadCause (D.failures disk.old) (D.failures disk.new) result }
+    {
+        let messages = &self.names.messages;
+        let all = self.end.told.messages;
+        let alone = message_at(alloc, disk, messages, all, &self.keys, place)?;
+        let left = left_of(alloc, alone, (place as u64) < self.end.told.cursor)?;
+        let digest = digest_of(&self.keys, place);
+        next.stage(disk, &left.file[HEAD..], digest)?;
+        Ok(left.changed)
+    }
+
+    // Stages what a purge leaves of each message, and returns how many changed.
+    fn leave_all<D: Disk>(
+        &self,
+        alloc: Global,
+        disk: &mut D,
+        next: &mut Folder,
+    ) -> Result<u64, StoreError>
+        requires readable { Honestly (D.state disk.old) (IsReadable (D.state disk.old) self.now) }
+        requires beside { IsBesideIn self.now next.old }
+        requires named { IsNamed next.old }
+        requires opened { Honestly (D.state disk.old) (IsOpen (D.state disk.old) next.old) }
+        requires empty { held_by (D.state disk.old) next.old ≡ record { messages = []; keys = []; cursor = 0; mark = self.now.end.told.mark } }
+        ensures beside { IsBesideIn self.now next.new }
+        ensures named { IsNamed next.new }
+        ensures opened { Honestly (D.state disk.new) (OnOk result (IsOpen (D.state disk.new) next.new)) }
+        ensures left { Honestly (D.state disk.new) ((keyed : ℕ → ℕ → List ℕ → ℕ) (base : Base) → HoldsBase keyed (committed_by (D.state disk.old) next.old) base
+            → OnOk result (HoldsBase keyed (held_by (D.state disk.new) next.new) (first_left base (length base.messages)))) }
+        ensures changed { Honestly (D.state disk.new) ((keyed : ℕ → ℕ → List ℕ → ℕ) (base : Base) → HoldsBase keyed (committed_by (D.state disk.old) next.old) base
+            → IfOk result (λ changed. changed ≡ changed_in base (length base.messages))) }
+        ensures same { Honestly (D.state disk.new) (OnOk result (committed_by (D.state disk.new) next.new ≡ committed_by (D.state disk.old) next.old)) }
+        ensures any_moment { Honestly (D.state disk.new) (LeavesOnly (D.state disk.old) (D.state disk.new)
+            (StandsAlone (path_of next.old) (D.state disk.old) (committed_by (D.state disk.old) next.old))) }
+        ensures outside { KeepsOutside (path_of next.old) (D.state disk.old) (D.state disk.new) }
+        ensures damaged { Honestly (D.state disk.new) (IsErrOf result StoreError.Damaged
+            → (keyed : ℕ → ℕ → List ℕ → ℕ) (base : Base) → HoldsBase keyed (committed_by (D.state disk.old) next.old) base → ⊥) }
+        ensures cause { HasReadCause (D.failures disk.old) (D.failures disk.new) result }
+    {
+        let mut changed = 0u64;
+        'messages: for place in 0..self.count() {
+            let one = self.leave_next(alloc, disk, next, place)?;
+            changed += one_if(one);
+        }
+        Ok(changed)
+    }
+
+    /// Commits its contents, and then purges: a scanned message with an id keeps only the id of its text. Returns how
+    /// many messages changed. The purge itself stays once it is committed. After an error only the effects of a crash
+    /// are known: open the folder again.
+    pub fn purge<D: Disk>(&mut self, alloc: Global, disk: &mut D) -> Result<u64, StoreError>
+        requires named { IsNamed self.old }
+        requires opened { Honestly (D.state disk.old) (IsOpen (D.state disk.old) self.old) }
+        ensures named { IsNamed self.new }
+        ensures opened { Honestly (D.state disk.new) (OnOk result (IsOpen (D.state disk.new) self.new)) }
+        ensures path { path_of self.new ≡ path_of self.old }
+        ensures purged { Honestly (D.state disk.new) ((keyed : ℕ → ℕ → List ℕ → ℕ) (base : Base) → HoldsBase keyed (held_by (D.state disk.old) self.old) base
+            → OnOk result (HoldsBase keyed (held_by (D.state disk.new) self.new) (purged base))) }
+        ensures count { Honestly (D.state disk.new) ((keyed : ℕ → ℕ → List ℕ → ℕ) (base : Base) → HoldsBase keyed (held_by (D.state disk.old) self.old) base
+            → IfOk result (λ count. count ≡ count_by (λ m. not (is_stub m)) (take base.cursor base.messages))) }
+        ensures committed { Honestly (D.state disk.new) (OnOk result (committed_by (D.state disk.new) self.new ≡ held_by (D.state disk.old) self.old)) }
+
+        // A crash at any time leaves what was committed before, or what was held.
+        ensures any_moment { Honestly (D.state disk.new) (LeavesOnly (D.state disk.old) (D.state disk.new)
+            (IsBeforeOrAfter (path_of self.old) (D.state disk.old) (committed_by (D.state disk.old) self.old) (held_by (D.state disk.old) self.old))) }
+        ensures outside { KeepsOutside (path_of self.old) (D.state disk.old) (D.state disk.new) }
+        ensures damaged { Honestly (D.state disk.new) (IsErrOf result StoreError.Damaged
+            → (keyed : ℕ → ℕ → List ℕ → ℕ) (base : Base) → HoldsBase keyed (held_by (D.state disk.old) self.old) base → ⊥) }
+        ensures cause { HasReadCause (D.failures disk.old) (D.failures disk.new) result }
+    {
+        self.commit(disk)?;
+        let mut next = self.anew(alloc, disk)?;
+        let changed = self.leave_all(alloc, disk, &mut next)?;
+        next.told.cursor = self.end.told.cursor;
+        *self = next;
+        Ok(changed)
+    }
+}

@@ -1,0 +1,173 @@
+-- A log with no record stands for no message, whatever the other files are.
+use Rattle.std.proofs.Common.{◌≡◌, ◌≢◌, ◌≤◌, inl, inr, ⊎_elim, ℕ, List, [], ◌∷◌, length, Option, refl, sym, ◌∙◌, ap, subst, arith}
+use Rattle.disk_io.specs.Disk.{DiskState, Files, bytes_in, IsIn}
+use Rattle.disk_io.specs.Steps.{TornMaking, TornWrite, ChangesFile}
+use Rattle.disk_io.specs.Runs.{OneStepOn, LeavesOneStepOn, LeavesOnly, Elapses, ChangesNothing}
+use Rattle.disk_io.specs.Synced.{IsOnDisk}
+use Rattle.disk_io.proofs.Moments.{no_call, then_nothing, then_run, then_call, left_now, weaker_run}
+use Rattle.base_log.specs.Names.{log_of, messages_of, keys_of}
+use Rattle.base_log.specs.Log.{IsLog, IsShutAt}
+use Rattle.base_log.specs.Standing.{BaseBytes, IsEnded, IsFrontOf, IsNew, StandsFor}
+use Rattle.base_log.specs.Moments.{StandsAlone, SameOutside, KeepsOutside}
+use Rattle.base_log.specs.Opening.{AreFlushed, AreNamed, StandsOrWasLeft}
+use Rattle.base_log.proofs.Same.{tells_by}
+use Rattle.base_log.proofs.Gates.{outside_log}
+use Rattle.base_log.proofs.Paths.{log_in, messages_in, keys_in, messages_not_log, keys_not_log}
+
+-- ---- no record
+
+front_none : (front bytes : List ℕ) → 0 ≡ length front → IsFrontOf front bytes
+front_none [] bytes none = refl
+front_none (b ∷ front) bytes none = absurd (omega (arith, none))
+
+pub no_record : (path : List ℕ) (base : BaseBytes) (a c : Files) → StandsFor path base a → IsLog [] (bytes_in (a (log_of path))) → IsLog [] (bytes_in (c (log_of path))) → IsEnded path [] c → StandsFor path base c
+no_record path base a c stands was now ended =
+    let by = tells_by path base a [] stands was in
+    record {
+      bodies = [];
+      log = now;
+      ended = ended;
+      there = tt;
+      tells = record {
+        messages_long = by.1.messages_long;
+        keys_long = by.1.keys_long;
+        cursor = by.1.cursor;
+        mark = by.1.mark;
+        digit = omega arith;
+        messages = front_none base.messages (bytes_in (c (messages_of path 0))) by.1.messages_long;
+        keys = front_none base.keys (bytes_in (c (keys_of path 0))) by.1.keys_long;
+      };
+    }
+
+pub new_log : (path : List ℕ) (c : Files) → IsNew path c → IsLog [] (bytes_in (c (log_of path)))
+new_log path c new = record { rest = bytes_in (c (log_of path)); parts = refl; sizes = tt; ends = inl (omega (arith, new.log)) }
+
+-- ---- a run that changes nothing, and one after it
+
+pub stands_quiet : (d0 d1 : DiskState) (path : List ℕ) (base : BaseBytes) → ChangesNothing d0 d1 → StandsFor path base d0.seen → StandsFor path base d1.seen
+stands_quiet d0 d1 path base quiet stands =
+    let same : d1.seen ≡ d0.seen = λ i m. quiet.seen m i in
+    subst (λ (f : Files). StandsFor path base f) (sym same) stands
+
+pub was_left : (d0 d1 : DiskState) (path : List ℕ) (base : BaseBytes) → ChangesNothing d0 d1 → LeavesOnly d0 d1 (StandsOrWasLeft path d0 base)
+was_left d0 d1 path base quiet = weaker_run d0 d1 d0.may_leave (StandsOrWasLeft path d0 base) quiet.run (λ c left. inr left)
+
+-- what stands alone seen from a later state does so seen from the first
+pub alone_since : (d0 d1 : DiskState) (path : List ℕ) (base : BaseBytes) (c : Files) → KeepsOutside path d0 d1 → StandsAlone path d1 base c → StandsAlone path d0 base c
+alone_since d0 d1 path base c kept alone = record {
+  outside = λ m out named flushed. alone.outside m out (kept.named m out named) (kept.flushed m out flushed) ∙ kept.seen m out;
+  stands = alone.stands;
+}
+
+pub chained_alone : (d0 d1 d2 : DiskState) (path : List ℕ) (base : BaseBytes) → LeavesOnly d0 d1 (StandsOrWasLeft path d0 base) → KeepsOutside path d0 d1
+    → LeavesOnly d1 d2 (StandsAlone path d1 base) → LeavesOnly d0 d2 (StandsOrWasLeft path d0 base)
+chained_alone d0 d1 d2 path base first kept second =
+    then_run d0 d1 d2 (StandsOrWasLeft path d0 base) (StandsAlone path d1 base) first second (λ c alone. inl (alone_since d0 d1 path base c kept alone))
+
+-- a quiet call, and what a run after it may leave
+pub chained_quiet : (d0 d1 d2 : DiskState) (path : List ℕ) (base : BaseBytes) → ChangesNothing d0 d1 → KeepsOutside path d0 d1
+    → LeavesOnly d1 d2 (StandsOrWasLeft path d1 base) → LeavesOnly d0 d2 (StandsOrWasLeft path d0 base)
+chained_quiet d0 d1 d2 path base quiet kept second =
+    then_run d0 d1 d2 (StandsOrWasLeft path d0 base) (StandsOrWasLeft path d1 base) (was_left d0 d1 path base quiet) second
+    (λ c or. ⊎_elim (λ alone. inl (alone_since d0 d1 path base c kept alone)) (λ left. inr (quiet.no_more c left)) or)
+
+-- ---- a new folder, whose files were put on the disk as they are, gets a log
+
+making_short : (before after : Option (List ℕ)) → TornMaking before after → length (bytes_in before) ≤ 1 → length (bytes_in after) ≤ 1
+making_short before after (inl same) short = subst (λ f. length (bytes_in f) ≤ 1) (sym same) short
+making_short before after (inr (inl none)) short = omega (arith, ap (λ f. length (bytes_in f)) none)
+making_short before after (inr (inr some)) short = omega (arith, ap (λ f. length (bytes_in f)) some)
+
+module _ (d0 d1 : DiskState) (path : List ℕ) (base : BaseBytes) (quiet : ChangesNothing d0 d1) (named : AreNamed path d0) (new : IsNew path d0.seen) (stands : StandsFor path base d0.seen) (all : AreFlushed path d1) where
+  -- the folder is new, and nothing outside it has changed
+  record NewAlone (c : Files) : Type 0 where
+    outside : SameOutside path d0 c
+    is : IsNew path c
+
+  as_seen : (m : List ℕ) → IsIn path m → d1.is_flushed m → (c : Files) → d1.may_leave c → c m ≡ d0.seen m
+  as_seen m inside flushed c left = d1.on_disk m (quiet.named m (λ h. h) (named m inside)) flushed c left ∙ quiet.seen m
+
+  new_first : LeavesOnly d1 d1 NewAlone
+  new_first = no_call d1 NewAlone (λ c left. record {
+    outside = λ m out is flushed. d0.on_disk m is flushed c (quiet.no_more c left);
+    is = record {
+      log = subst (λ f. length (bytes_in f) ≤ 1) (sym (as_seen (log_of path) (log_in path) all.log c left)) new.log;
+      empty = record {
+        messages = λ n lt. ap bytes_in (as_seen (messages_of path n) (messages_in path n) (all.messages n lt) c left) ∙ new.empty.messages n lt;
+        keys = λ n lt. ap bytes_in (as_seen (keys_of path n) (keys_in path n) (all.keys n lt) c left) ∙ new.empty.keys n lt;
+      };
+    };
+  })
+
+  -- the log changes, and has no more than one byte still
+  new_changed : (a c : Files) → NewAlone a → ((m : List ℕ) → m ≢ log_of path → c m ≡ a m) → length (bytes_in (c (log_of path))) ≤ 1 → NewAlone c
+  new_changed a c was same short = record {
+    outside = λ m out is flushed. same m (outside_log path m out) ∙ was.outside m out is flushed;
+    is = record {
+      log = short;
+      empty = record {
+        messages = λ n lt. ap bytes_in (same (messages_of path n) (messages_not_log path n)) ∙ was.is.empty.messages n lt;
+        keys = λ n lt. ap bytes_in (same (keys_of path n) (keys_not_log path n)) ∙ was.is.empty.keys n lt;
+      };
+    };
+  }
+
+  from_first : (d : DiskState) → LeavesOnly d1 d NewAlone → LeavesOnly d0 d (StandsOrWasLeft path d0 base)
+  from_first d run =
+      then_run d0 d1 d (StandsOrWasLeft path d0 base) NewAlone (was_left d0 d1 path base quiet) run
+      (λ c was. inl (record { outside = was.outside; stands = no_record path base d0.seen c stands (new_log path d0.seen new) (new_log path c was.is) (inr was.is) }))
+
+  module _ (d2 : DiskState) (time : Elapses d1 d2) (crash : LeavesOneStepOn (ChangesFile d1 (log_of path) TornMaking) d1 d2) where
+    log_named : d1.is_named (log_of path)
+    log_named = quiet.named (log_of path) (λ h. h) (named (log_of path) (log_in path))
+
+    made : LeavesOnly d1 d2 NewAlone
+    made =
+        then_call d1 d1 d2 NewAlone (ChangesFile d1 (log_of path) TornMaking) new_first time crash
+        (λ a c was step. new_changed a c was (λ m ne. step.beside m ne (inl log_named)) (making_short (a (log_of path)) (c (log_of path)) (step.within log_named) was.is.log))
+
+    pub made_run : LeavesOnly d0 d2 (StandsOrWasLeft path d0 base)
+    made_run = from_first d2 made
+
+    pub named_run : (d3 : DiskState) → ChangesNothing d2 d3 → LeavesOnly d0 d3 (StandsOrWasLeft path d0 base)
+    named_run d3 quiet3 = then_nothing d0 d2 d3 (StandsOrWasLeft path d0 base) made_run quiet3
+
+    -- the first gate is written, which may be torn
+    pub gate_run : (d3 d4 : DiskState) → ChangesNothing d2 d3 → d3.is_named (log_of path) → LeavesOnly d3 d4 (OneStepOn (ChangesFile d3 (log_of path) (TornWrite 0 1)) d3) → LeavesOnly d0 d4 (StandsOrWasLeft path d0 base)
+    gate_run d3 d4 quiet3 is_named more =
+        let run = then_nothing d1 d2 d3 NewAlone made quiet3 in
+        from_first d4
+        (then_run d1 d3 d4 NewAlone (OneStepOn (ChangesFile d3 (log_of path) (TornWrite 0 1)) d3) run more
+        (λ c from.
+        let was = left_now d1 d3 NewAlone run from.0 from.1 in
+        let short : length (bytes_in (c (log_of path))) ≤ 1 = omega (arith, (from.2.within is_named).no_longer, was.is.log) in
+        new_changed from.0 c was (λ m ne. from.2.beside m ne (inl is_named)) short))
+
+-- ---- the two files of a folder whose log has no record
+
+module _ (d0 : DiskState) (path : List ℕ) (on : IsOnDisk d0 (log_of path)) where
+  -- the log as it was, and nothing outside the folder has changed
+  pub record LogAlone (c : Files) : Type 0 where
+    pub log : c (log_of path) ≡ d0.seen (log_of path)
+    pub outside : SameOutside path d0 c
+
+  pub log_alone_first : LeavesOnly d0 d0 LogAlone
+  log_alone_first = no_call d0 LogAlone (λ c left. record { log = d0.on_disk (log_of path) on.named on.flushed c left; outside = λ m out named flushed. d0.on_disk m named flushed c left })
+
+  pub log_alone_made : (d e : DiskState) (file : List ℕ) → IsIn path file → log_of path ≢ file → d.is_named file → LeavesOnly d0 d LogAlone → Elapses d e
+      → LeavesOneStepOn (ChangesFile d file TornMaking) d e → LeavesOnly d0 e LogAlone
+  log_alone_made d e file inside ne named run time crash =
+      then_call d0 d e LogAlone (ChangesFile d file TornMaking) run time crash
+      (λ a c was changed. record {
+        log = changed.beside (log_of path) ne (inl named) ∙ was.log;
+        outside = λ m out is flushed. changed.beside m (λ e. out (subst (λ (l : List ℕ). IsIn path l) (sym e) inside)) (inl named) ∙ was.outside m out is flushed;
+      })
+
+  pub log_alone_stands : (d : DiskState) (base : BaseBytes) → StandsFor path base d0.seen → IsLog [] (bytes_in (d0.seen (log_of path))) → IsShutAt 0 (bytes_in (d0.seen (log_of path))) → LeavesOnly d0 d LogAlone
+      → LeavesOnly d0 d (StandsAlone path d0 base)
+  log_alone_stands d base stands empty shut run =
+      weaker_run d0 d LogAlone (StandsAlone path d0 base) run
+      (λ c was. record {
+        outside = was.outside;
+        stands = no_record path base d0.seen c stands empty (subst (λ f. IsLog [] (bytes_in f)) (sym was.log) empty) (inl (subst (λ f. IsShutAt 0 (bytes_in f)) (sym was.log) shut));
+      })

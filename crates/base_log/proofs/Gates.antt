@@ -1,0 +1,287 @@
+-- What a crash leaves at each moment of a commit.
+use Rattle.std.proofs.Common.{◌≡◌, ◌≢◌, ◌≤◌, ◌⊎◌, inl, inr, ℕ, ◌+◌, List, [], ◌∷◌, ◌++◌, length, get_or, take, drop, sym, ◌∙◌, ap, subst, arith, append_assoc, length-append}
+use Rattle.std.proofs.lemmas.Bool.{cases_eq}
+use Rattle.std.proofs.lemmas.Nat.{from_le_bytes-to_le_bytes_8}
+use Rattle.std.specs.Prelude.{IsSome}
+use Rattle.disk_io.specs.Disk.{DiskState, Files, bytes_in, IsIn}
+use Rattle.disk_io.specs.Steps.{IsWrittenAt, TornWrite, ChangesFile}
+use Rattle.disk_io.specs.Runs.{OneStepOn, LeavesOnly, ChangesNothing}
+use Rattle.disk_io.specs.Synced.{IsOnDisk, KeepsOthers}
+use Rattle.disk_io.proofs.Moments.{no_call, then_run, then_nothing, left_now}
+use Rattle.base_log.specs.Names.{log_of, messages_of, keys_of}
+use Rattle.base_log.specs.Log.{opened, told_by, body_of, FitsRecord, last_told}
+use Rattle.base_log.specs.Standing.{BaseBytes, StandsFor, TellsBase, base_at}
+use Rattle.base_log.specs.AtRest.{IsAtRest, IsStaged}
+use Rattle.base_log.specs.Moments.{SameOutside, KeepsOutside, IsBeforeOrAfter}
+use Rattle.base_log.specs.declared.log.Told.{Told}
+use Rattle.base_log.specs.declared.log.End.{End}
+use Rattle.base_log.proofs.Logs.{opened-snoc, AreBodies-snoc, last_told-snoc, shut_log, shut_at, torn_record, whole_record, torn_gate, whole_gate}
+use Rattle.base_log.proofs.Paths.{log_in, messages_in, keys_in, messages_not_log, keys_not_log}
+use Rattle.base_log.proofs.Same.{AreThere-both, TellsBase-seen, log_changed}
+
+pub told_by-body_of : (told : Told) → FitsRecord told → told_by (body_of told) ≡ told
+told_by-body_of told fits = λ i. record {
+  messages = from_le_bytes-to_le_bytes_8 told.messages fits.messages i;
+  keys = from_le_bytes-to_le_bytes_8 told.keys fits.keys i;
+  cursor = from_le_bytes-to_le_bytes_8 told.cursor fits.cursor i;
+  number = told.number;
+  mark = record {
+    owner = from_le_bytes-to_le_bytes_8 told.mark.owner fits.owner i;
+    first = from_le_bytes-to_le_bytes_8 told.mark.first fits.first i;
+    second = from_le_bytes-to_le_bytes_8 told.mark.second fits.second i;
+  };
+}
+
+-- a path outside the folder is none of its log
+pub outside_log : (path m : List ℕ) → (IsIn path m → ⊥) → m ≢ log_of path
+outside_log path m out is = out (subst (λ (l : List ℕ). IsIn path l) (sym is) (log_in path))
+
+-- what is outside stays where one file of the folder changes
+pub outside_kept : (path file : List ℕ) (d e : DiskState) → IsIn path file → KeepsOthers d e file → KeepsOutside path d e
+outside_kept path file d e inside kept =
+    let other : (m : List ℕ) → (IsIn path m → ⊥) → m ≢ file = λ m out is. out (subst (λ (l : List ℕ). IsIn path l) (sym is) inside) in
+    record {
+      seen = λ m out. kept.seen m (other m out);
+      named = λ m out. kept.named m;
+      flushed = λ m out. kept.flushed m (other m out);
+      alone = λ m out. kept.alone m;
+      honest = kept.honest;
+    }
+
+pub outside_quiet : (path : List ℕ) (d e : DiskState) → ChangesNothing d e → KeepsOutside path d e
+outside_quiet path d e quiet = record {
+  seen = λ m out. quiet.seen m;
+  named = λ m out. quiet.named m (λ h. h);
+  flushed = λ m out. quiet.flushed m (λ h. h);
+  alone = λ m out. quiet.alone m (λ h. h);
+  honest = quiet.honest;
+}
+
+pub outside_twice : (path : List ℕ) (d e f : DiskState) → KeepsOutside path d e → KeepsOutside path e f → KeepsOutside path d f
+outside_twice path d e f one two = record {
+  seen = λ m out. two.seen m out ∙ one.seen m out;
+  named = λ m out is. two.named m out (one.named m out is);
+  flushed = λ m out is. two.flushed m out (one.flushed m out is);
+  alone = λ m out is. two.alone m out (one.alone m out is);
+  honest = λ is. one.honest (two.honest is);
+}
+
+pub on_disk_quiet : (d e : DiskState) (file : List ℕ) → ChangesNothing d e → IsOnDisk d file → IsOnDisk e file
+on_disk_quiet d e file quiet on = record {
+  there = subst (λ f. IsSome f) (sym (quiet.seen file)) on.there;
+  named = quiet.named file (λ h. h) on.named;
+  flushed = quiet.flushed file (λ h. h) on.flushed;
+  alone = quiet.alone file (λ h. h) on.alone;
+}
+
+pub on_disk_kept : (d e : DiskState) (file other : List ℕ) → KeepsOthers d e other → file ≢ other → IsOnDisk d file → IsOnDisk e file
+on_disk_kept d e file other kept ne on = record {
+  there = subst (λ f. IsSome f) (sym (kept.seen file ne)) on.there;
+  named = kept.named file on.named;
+  flushed = kept.flushed file ne on.flushed;
+  alone = kept.alone file on.alone;
+}
+
+-- an open record with a closed gate behind it is one record more
+record_behind : (bodies : List (List ℕ)) (body left : List ℕ) → opened bodies ++ 1 ∷ ((body ++ 0 ∷ []) ++ left) ≡ opened (bodies ++ body ∷ []) ++ 0 ∷ left
+record_behind bodies body left = ap (λ (l : List ℕ). opened bodies ++ 1 ∷ l) (append_assoc body (0 ∷ []) left) ∙ sym (opened-snoc bodies body (0 ∷ left))
+
+module _ (d0 : DiskState) (path : List ℕ) (end : End) (told : Told) (staged : IsStaged d0 path end told) where
+  abbrev pub first : BaseBytes
+  first = base_at d0 path end.told
+
+  abbrev pub next : BaseBytes
+  next = base_at d0 path told
+
+  abbrev bodies : List (List ℕ)
+  bodies = staged.log.bodies
+
+  abbrev closed : ℕ
+  closed = staged.log.closed
+
+  abbrev pub P : Files → Type 0
+  P = IsBeforeOrAfter path d0 first next
+
+  -- the base from before, where the log has its closed gate still
+  before_log : (a c : Files) (gate : ℕ) (rest : List ℕ) → StandsFor path first a → ((m : List ℕ) → m ≢ log_of path → c m ≡ a m) → (old : List ℕ) → bytes_in (a (log_of path)) ≡ opened bodies ++ closed ∷ old
+      → gate ≢ 1 → bytes_in (c (log_of path)) ≡ opened bodies ++ gate ∷ rest → StandsFor path first c
+  before_log a c gate rest stands same old was shut now =
+      log_changed path first a c bodies stands
+      (shut_log bodies closed old (bytes_in (a (log_of path))) staged.log.sizes staged.log.shut was) same
+      (shut_log bodies gate rest (bytes_in (c (log_of path))) staged.log.sizes shut now)
+      (shut_at (opened bodies) gate rest (bytes_in (c (log_of path))) shut now)
+
+  pub run_at_first : LeavesOnly d0 d0 P
+  run_at_first = no_call d0 P (λ c left. record { outside = λ m out named flushed. d0.on_disk m named flushed c left; stands = inl (staged.stands c left) })
+
+  -- the two files are on the disk; behind the closed gate of the log stands a tail
+  pub record Ready (d : DiskState) (tail : List ℕ) : Type 0 where
+    pub run : LeavesOnly d0 d P
+    pub stands : (c : Files) → d.may_leave c → StandsFor path first c
+    pub outside : (c : Files) → d.may_leave c → SameOutside path d0 c
+    pub kept : KeepsOutside path d0 d
+    pub log : bytes_in (d.seen (log_of path)) ≡ opened bodies ++ closed ∷ tail
+    pub log_on : IsOnDisk d (log_of path)
+    pub named : (m : List ℕ) → IsIn path m → d.is_named m
+    pub messages_on : IsOnDisk d (messages_of path told.number)
+    pub keys_on : IsOnDisk d (keys_of path told.number)
+    pub messages_same : d.seen (messages_of path told.number) ≡ d0.seen (messages_of path told.number)
+    pub keys_same : d.seen (keys_of path told.number) ≡ d0.seen (keys_of path told.number)
+
+  -- after the two syncs
+  pub ready : (d1 d2 : DiskState) → ChangesNothing d0 d1 → ChangesNothing d1 d2 → d1.is_flushed (messages_of path told.number) → d2.is_flushed (keys_of path told.number) → Ready d2 staged.log.rest
+  ready d1 d2 quiet1 quiet2 m_flushed k_flushed = record {
+    run = then_nothing d0 d1 d2 P (then_nothing d0 d0 d1 P run_at_first quiet1) quiet2;
+    stands = λ c left. staged.stands c (quiet1.no_more c (quiet2.no_more c left));
+    outside = λ c left m out named flushed. d0.on_disk m named flushed c (quiet1.no_more c (quiet2.no_more c left));
+    kept = outside_twice path d0 d1 d2 (outside_quiet path d0 d1 quiet1) (outside_quiet path d1 d2 quiet2);
+    log = ap bytes_in (quiet2.seen (log_of path) ∙ quiet1.seen (log_of path)) ∙ staged.log.log;
+    log_on = on_disk_quiet d1 d2 (log_of path) quiet2 (on_disk_quiet d0 d1 (log_of path) quiet1 staged.log.on_disk);
+    named = λ m inside. quiet2.named m (λ h. h) (quiet1.named m (λ h. h) (staged.log.named m inside));
+    messages_on = record {
+      there = subst (λ f. IsSome f) (sym (quiet2.seen (messages_of path told.number) ∙ quiet1.seen (messages_of path told.number))) staged.messages_there;
+      named = quiet2.named (messages_of path told.number) (λ h. h) (quiet1.named (messages_of path told.number) (λ h. h) (staged.log.named (messages_of path told.number) (messages_in path told.number)));
+      flushed = quiet2.flushed (messages_of path told.number) (λ h. h) m_flushed;
+      alone = quiet2.alone (messages_of path told.number) (λ h. h) (quiet1.alone (messages_of path told.number) (λ h. h) staged.messages_alone);
+    };
+    keys_on = record {
+      there = subst (λ f. IsSome f) (sym (quiet2.seen (keys_of path told.number) ∙ quiet1.seen (keys_of path told.number))) staged.keys_there;
+      named = quiet2.named (keys_of path told.number) (λ h. h) (quiet1.named (keys_of path told.number) (λ h. h) (staged.log.named (keys_of path told.number) (keys_in path told.number)));
+      flushed = k_flushed;
+      alone = quiet2.alone (keys_of path told.number) (λ h. h) (quiet1.alone (keys_of path told.number) (λ h. h) staged.keys_alone);
+    };
+    messages_same = quiet2.seen (messages_of path told.number) ∙ quiet1.seen (messages_of path told.number);
+    keys_same = quiet2.seen (keys_of path told.number) ∙ quiet1.seen (keys_of path told.number);
+  }
+
+  module _ (d e : DiskState) where
+    -- while the record is written behind the closed gate
+    record_torn : (n : ℕ) → Ready d staged.log.rest → (c : Files) → OneStepOn (ChangesFile d (log_of path) (TornWrite (end.gate + 1) n)) d c → StandsFor path first c × SameOutside path d0 c
+    record_torn n r c from =
+        let a = from.0 in
+        let changed = from.2 in
+        let same : (m : List ℕ) → m ≢ log_of path → c m ≡ a m = λ m ne. changed.beside m ne (inl r.log_on.named) in
+        let front = opened bodies in
+        let torn : TornWrite (length front + 1) n (a (log_of path)) (c (log_of path)) =
+        subst (λ (g : ℕ). TornWrite (g + 1) n (a (log_of path)) (c (log_of path))) staged.log.gate (changed.within r.log_on.named) in
+        let a_log : bytes_in (a (log_of path)) ≡ front ++ closed ∷ staged.log.rest = ap bytes_in (d.on_disk (log_of path) r.log_on.named r.log_on.flushed a from.1) ∙ r.log in
+        let c_log = torn_record front closed staged.log.rest n (a (log_of path)) (c (log_of path)) torn a_log in (
+          before_log a c closed (drop (length front + 1) (bytes_in (c (log_of path)))) (r.stands a from.1) same staged.log.rest a_log staged.log.shut c_log,
+          λ m out named flushed. same m (outside_log path m out) ∙ r.outside a from.1 m out named flushed,
+        )
+
+    pub run_record : (n : ℕ) → Ready d staged.log.rest → LeavesOnly d e (OneStepOn (ChangesFile d (log_of path) (TornWrite (end.gate + 1) n)) d) → LeavesOnly d0 e P
+    run_record n r more =
+        then_run d0 d e P (OneStepOn (ChangesFile d (log_of path) (TornWrite (end.gate + 1) n)) d) r.run more
+        (λ c from. let both = record_torn n r c from in record { outside = both.1; stands = inl both.0 })
+
+    pub done_record : (bytes : List ℕ) → Ready d staged.log.rest → LeavesOnly d e (OneStepOn (ChangesFile d (log_of path) (TornWrite (end.gate + 1) (length bytes))) d) → KeepsOthers d e (log_of path) → IsOnDisk e (log_of path)
+        → IsWrittenAt (bytes_in (d.seen (log_of path))) (end.gate + 1) bytes (bytes_in (e.seen (log_of path))) → Ready e (bytes ++ drop (length bytes) staged.log.rest)
+    done_record bytes r more kept on written =
+        let Q = OneStepOn (ChangesFile d (log_of path) (TornWrite (end.gate + 1) (length bytes))) d in
+        let front = opened bodies in
+        let log = bytes_in (e.seen (log_of path)) in
+        let is : IsWrittenAt (front ++ closed ∷ staged.log.rest) (length front + 1) bytes log =
+        subst (λ (l : List ℕ). IsWrittenAt l (length front + 1) bytes log) r.log (subst (λ (g : ℕ). IsWrittenAt (bytes_in (d.seen (log_of path))) (g + 1) bytes log) staged.log.gate written) in
+        record {
+          run = run_record (length bytes) r more;
+          stands = λ c left. (record_torn (length bytes) r c (left_now d e Q more c left)).0;
+          outside = λ c left. (record_torn (length bytes) r c (left_now d e Q more c left)).1;
+          kept = outside_twice path d0 d e r.kept (outside_kept path (log_of path) d e (log_in path) kept);
+          log = whole_record front closed staged.log.rest bytes log is;
+          log_on = on;
+          named = λ m inside. kept.named m (r.named m inside);
+          messages_on = on_disk_kept d e (messages_of path told.number) (log_of path) kept (messages_not_log path told.number) r.messages_on;
+          keys_on = on_disk_kept d e (keys_of path told.number) (log_of path) kept (keys_not_log path told.number) r.keys_on;
+          messages_same = kept.seen (messages_of path told.number) (messages_not_log path told.number) ∙ r.messages_same;
+          keys_same = kept.seen (keys_of path told.number) (keys_not_log path told.number) ∙ r.keys_same;
+        }
+
+    -- while the gate is opened
+    gate_torn : (body left : List ℕ) → length body ≡ 49 → told_by body ≡ told → Ready d ((body ++ 0 ∷ []) ++ left) → (c : Files) → OneStepOn (ChangesFile d (log_of path) (TornWrite end.gate 1)) d c
+        → (StandsFor path first c ⊎ StandsFor path next c) × SameOutside path d0 c
+    gate_torn body left size says r c from =
+        let a = from.0 in
+        let changed = from.2 in
+        let same : (m : List ℕ) → m ≢ log_of path → c m ≡ a m = λ m ne. changed.beside m ne (inl r.log_on.named) in
+        let front = opened bodies in
+        let tail = (body ++ 0 ∷ []) ++ left in
+        let log = bytes_in (c (log_of path)) in
+        let torn : TornWrite (length front) 1 (a (log_of path)) (c (log_of path)) =
+        subst (λ (g : ℕ). TornWrite g 1 (a (log_of path)) (c (log_of path))) staged.log.gate (changed.within r.log_on.named) in
+        let a_log : bytes_in (a (log_of path)) ≡ front ++ closed ∷ tail = ap bytes_in (d.on_disk (log_of path) r.log_on.named r.log_on.flushed a from.1) ∙ r.log in
+        let gate = get_or log (length front) 0 in
+        let whole : log ≡ front ++ gate ∷ tail = torn_gate front closed tail (a (log_of path)) (c (log_of path)) torn a_log in
+        let outside : SameOutside path d0 c = λ m out named flushed. same m (outside_log path m out) ∙ r.outside a from.1 m out named flushed in
+        let m_same : c (messages_of path told.number) ≡ d0.seen (messages_of path told.number) =
+        same (messages_of path told.number) (messages_not_log path told.number) ∙ d.on_disk (messages_of path told.number) r.messages_on.named r.messages_on.flushed a from.1 ∙ r.messages_same in
+        let k_same : c (keys_of path told.number) ≡ d0.seen (keys_of path told.number) =
+        same (keys_of path told.number) (keys_not_log path told.number) ∙ d.on_disk (keys_of path told.number) r.keys_on.named r.keys_on.flushed a from.1 ∙ r.keys_same in
+        let tells : TellsBase told path next c = TellsBase-seen told path d0 c staged.digit staged.messages_long staged.keys_long m_same k_same in
+        let is_told : last_told (bodies ++ body ∷ []) ≡ told = last_told-snoc bodies body ∙ says in
+        let there_m : IsSome (c (messages_of path told.number)) = subst (λ f. IsSome f) (sym m_same) staged.messages_there in
+        let there_k : IsSome (c (keys_of path told.number)) = subst (λ f. IsSome f) (sym k_same) staged.keys_there in
+        let more = bodies ++ body ∷ [] in
+        let now : gate ≡ 1 → log ≡ opened more ++ 0 ∷ left = λ is_open. whole ∙ ap (λ (g : ℕ). front ++ g ∷ tail) is_open ∙ record_behind bodies body left in
+        elim (cases_eq gate 1) [
+          | inl is_open ↦ (
+            inr (
+                record {
+                  bodies = more;
+                  log = shut_log more 0 left log (AreBodies-snoc bodies body staged.log.sizes size) (omega arith) (now is_open);
+                  ended = inl (shut_at (opened more) 0 left log (omega arith) (now is_open));
+                  there = AreThere-both path more c (subst (λ (t : Told). IsSome (c (messages_of path t.number))) (sym is_told) there_m) (subst (λ (t : Told). IsSome (c (keys_of path t.number))) (sym is_told) there_k);
+                  tells = subst (λ (t : Told). TellsBase t path next c) (sym is_told) tells;
+                }),
+            outside,
+          )
+          | inr shut ↦ (
+            inl (before_log a c gate tail (r.stands a from.1) same tail a_log shut whole),
+            outside,
+          )
+        ]
+
+    pub run_gate : (body left : List ℕ) → length body ≡ 49 → told_by body ≡ told → Ready d ((body ++ 0 ∷ []) ++ left) → LeavesOnly d e (OneStepOn (ChangesFile d (log_of path) (TornWrite end.gate 1)) d) → LeavesOnly d0 e P
+    run_gate body left size says r more =
+        then_run d0 d e P (OneStepOn (ChangesFile d (log_of path) (TornWrite end.gate 1)) d) r.run more
+        (λ c from. let both = gate_torn body left size says r c from in record { outside = both.1; stands = both.0 })
+
+    pub kept_gate : (body : List ℕ) → Ready d body → KeepsOthers d e (log_of path) → KeepsOutside path d0 e
+    kept_gate body r kept = outside_twice path d0 d e r.kept (outside_kept path (log_of path) d e (log_in path) kept)
+
+    -- at last the record counts
+    pub done_gate : (body left : List ℕ) → length body ≡ 49 → told_by body ≡ told → Ready d ((body ++ 0 ∷ []) ++ left) → KeepsOthers d e (log_of path) → IsOnDisk e (log_of path)
+        → IsWrittenAt (bytes_in (d.seen (log_of path))) end.gate (1 ∷ []) (bytes_in (e.seen (log_of path))) → IsAtRest e path (record { gate = end.gate + 50; told = told })
+    done_gate body left size says r kept on written =
+        let front = opened bodies in
+        let tail = (body ++ 0 ∷ []) ++ left in
+        let log = bytes_in (e.seen (log_of path)) in
+        let is : IsWrittenAt (front ++ closed ∷ tail) (length front) (1 ∷ []) log =
+        subst (λ (l : List ℕ). IsWrittenAt l (length front) (1 ∷ []) log) r.log (subst (λ (g : ℕ). IsWrittenAt (bytes_in (d.seen (log_of path))) g (1 ∷ []) log) staged.log.gate written) in
+        let m_same = kept.seen (messages_of path told.number) (messages_not_log path told.number) ∙ r.messages_same in
+        let k_same = kept.seen (keys_of path told.number) (keys_not_log path told.number) ∙ r.keys_same in
+        record {
+          log = record {
+            bodies = bodies ++ body ∷ [];
+            sizes = AreBodies-snoc bodies body staged.log.sizes size;
+            closed = 0;
+            rest = left;
+            log = whole_gate front closed tail log is ∙ record_behind bodies body left;
+            shut = omega arith;
+            gate = omega (arith, staged.log.gate, size, ap length (opened-snoc bodies body []), length-append (opened (bodies ++ body ∷ [])) [], length-append front (1 ∷ body ++ []), length-append body []);
+            told = last_told-snoc bodies body ∙ says;
+            on_disk = on;
+            named = λ m inside. kept.named m (r.named m inside);
+          };
+          digit = staged.digit;
+          messages_long = subst (λ f. told.messages ≤ length (bytes_in f)) (sym m_same) staged.messages_long;
+          keys_long = subst (λ f. told.keys ≤ length (bytes_in f)) (sym k_same) staged.keys_long;
+          messages_on = on_disk_kept d e (messages_of path told.number) (log_of path) kept (messages_not_log path told.number) r.messages_on;
+          keys_on = on_disk_kept d e (keys_of path told.number) (log_of path) kept (keys_not_log path told.number) r.keys_on;
+        }
+
+    pub same_gate : (body : List ℕ) → Ready d body → KeepsOthers d e (log_of path) → base_at e path told ≡ next
+    same_gate body r kept =
+        let m_same = kept.seen (messages_of path told.number) (messages_not_log path told.number) ∙ r.messages_same in
+        let k_same = kept.seen (keys_of path told.number) (keys_not_log path told.number) ∙ r.keys_same in
+        λ i. record { messages = take told.messages (bytes_in (m_same i)); keys = take told.keys (bytes_in (k_same i)); cursor = told.cursor; mark = told.mark }

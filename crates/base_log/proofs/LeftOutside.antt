@@ -1,0 +1,34 @@
+-- What a crash leaves outside a folder while its files change.
+use Rattle.std.proofs.Common.{◌≢◌, ℕ, List, Option, inr, refl, sym, ◌∙◌, subst}
+use Rattle.disk_io.specs.Disk.{DiskState, IsIn}
+use Rattle.disk_io.specs.Runs.{ChangesNothing, Elapses, LeavesOneStepOn, LeavesOnly, OneStepOn}
+use Rattle.disk_io.specs.Steps.{ChangesFile}
+use Rattle.disk_io.proofs.Moments.{left_now, no_call, one_call, then_run, weaker_run}
+use Rattle.base_log.specs.Moments.{LeavesOutside, SameNamedOutside}
+
+pub left_start : (path : List ℕ) (d : DiskState) → LeavesOutside path d d
+left_start path d = no_call d (OneStepOn (SameNamedOutside path d) d) (λ c left. (c, left, λ m out named. refl))
+
+pub left_quiet : (path : List ℕ) (d e : DiskState) → ChangesNothing d e → LeavesOutside path d e
+left_quiet path d e quiet = weaker_run d e d.may_leave (OneStepOn (SameNamedOutside path d) d) quiet.run (λ c left. (c, left, λ m out named. refl))
+
+-- a file of the folder changes
+module _ (path file : List ℕ) (d e : DiskState) (step : Option (List ℕ) → Option (List ℕ) → Type 0) (inside : IsIn path file) where
+  other : (m : List ℕ) → (IsIn path m → ⊥) → m ≢ file
+  other m out is = out (subst (λ (l : List ℕ). IsIn path l) (sym is) inside)
+
+  pub left_changed : LeavesOnly d e (OneStepOn (ChangesFile d file step) d) → LeavesOutside path d e
+  left_changed run =
+      weaker_run d e (OneStepOn (ChangesFile d file step) d) (OneStepOn (SameNamedOutside path d) d) run
+      (λ c from. (from.0, from.1, λ m out named. from.2.beside m (other m out) (inr named)))
+
+  pub left_call : Elapses d e → LeavesOneStepOn (ChangesFile d file step) d e → LeavesOutside path d e
+  left_call time crash =
+      one_call d e (SameNamedOutside path d) (λ c m out named. refl) time
+      (λ c left. let from = crash c left in (from.0, from.1, λ m out named. from.2.beside m (other m out) (inr named)))
+
+-- one run after another
+pub left_twice : (path : List ℕ) (d e f : DiskState) → ((m : List ℕ) → (IsIn path m → ⊥) → d.is_named m → e.is_named m) → LeavesOutside path d e → LeavesOutside path e f → LeavesOutside path d f
+left_twice path d e f named one two =
+    then_run d e f (OneStepOn (SameNamedOutside path d) d) (OneStepOn (SameNamedOutside path e) e) one two
+    (λ c from. let at = left_now d e (OneStepOn (SameNamedOutside path d) d) one from.0 from.1 in (at.0, at.1, λ m out is. from.2 m out (named m out is) ∙ at.2 m out is))

@@ -1,0 +1,14 @@
+pub mod Behind
+pub mod Empty
+pub mod Gates
+pub mod LeftOutside
+pub mod Logs
+pub mod Made
+pub mod Opened
+pub mod Paths
+pub mod Quiet
+pub mod Reading
+pub mod Removed
+pub mod Renewed
+pub mod Rested
+pub mod Same

@@ -1,0 +1,110 @@
+-- The bytes of a log: records, the gate behind them, and what a torn write leaves of both.
+use Rattle.std.proofs.Common.{◌≡◌, ◌≢◌, ◌≤◌, inl, inr, ℕ, ◌+◌, List, [], ◌∷◌, ◌++◌, length, get_or, take, drop, min, Option, refl, sym, ◌∙◌, ap, subst, arith, append_assoc, length-append, take-append-drop}
+use Rattle.std.proofs.lemmas.List.{take_at, drop_at, drop-drop, get_or_at, drop_more, append-nil}
+use Rattle.disk_io.specs.Disk.{bytes_in}
+use Rattle.disk_io.specs.Steps.{IsWrittenAt, TornWrite}
+use Rattle.base_log.specs.Log.{opened, AreBodies, EndsHere, IsLog, IsShutAt, told_by, last_told}
+
+-- ---- one record more
+
+pub opened-snoc : (bodies : List (List ℕ)) (body rest : List ℕ) → opened (bodies ++ body ∷ []) ++ rest ≡ opened bodies ++ (1 ∷ body ++ rest)
+opened-snoc [] body rest = ap (λ (l : List ℕ). 1 ∷ l ++ rest) (append-nil body)
+opened-snoc (b ∷ bodies) body rest =
+    let tail : opened (bodies ++ body ∷ []) ++ rest ≡ opened bodies ++ (1 ∷ body ++ rest) = opened-snoc bodies body rest in
+    ap (λ (l : List ℕ). 1 ∷ l) (append_assoc b (opened (bodies ++ body ∷ [])) rest ∙ ap (λ (l : List ℕ). b ++ l) tail ∙ sym (append_assoc b (opened bodies) (1 ∷ body ++ rest)))
+
+pub AreBodies-snoc : (bodies : List (List ℕ)) (body : List ℕ) → AreBodies bodies → length body ≡ 49 → AreBodies (bodies ++ body ∷ [])
+AreBodies-snoc [] body all size = (size, tt)
+AreBodies-snoc (b ∷ bodies) body all size = (all.0, AreBodies-snoc bodies body all.1 size)
+
+pub last_told-snoc : (bodies : List (List ℕ)) (body : List ℕ) → last_told (bodies ++ body ∷ []) ≡ told_by body
+last_told-snoc [] body = refl
+last_told-snoc (b ∷ []) body = refl
+last_told-snoc (b ∷ c ∷ bodies) body = last_told-snoc (c ∷ bodies) body
+
+pub shut_log : (bodies : List (List ℕ)) (gate : ℕ) (rest bytes : List ℕ) → AreBodies bodies → gate ≢ 1 → bytes ≡ opened bodies ++ gate ∷ rest → IsLog bodies bytes
+shut_log bodies gate rest bytes sizes shut is = record { rest = gate ∷ rest; parts = is; sizes = sizes; ends = inr shut }
+
+pub shut_at : (front : List ℕ) (gate : ℕ) (rest bytes : List ℕ) → gate ≢ 1 → bytes ≡ front ++ gate ∷ rest → IsShutAt (length front) bytes
+shut_at front gate rest bytes shut is =
+    let there : get_or bytes (length front) 0 ≡ gate = ap (λ (l : List ℕ). get_or l (length front) 0) is ∙ get_or_at front gate rest 0 (length front) refl in
+    (omega (arith, ap length is, length-append front (gate ∷ rest)), λ is_open. shut (sym there ∙ is_open))
+
+-- ---- a log has one list of records
+
+not_ended : (e body rest : List ℕ) → length body ≡ 49 → EndsHere e → e ≡ 1 ∷ body ++ rest → ⊥
+not_ended e body rest size (inl short) is = omega (arith, ap length is, length-append body rest)
+not_ended e body rest size (inr shut) is = shut (ap (λ (l : List ℕ). get_or l 0 0) is)
+
+same_bodies : (xs ys : List (List ℕ)) (e f : List ℕ) → AreBodies xs → AreBodies ys → EndsHere e → EndsHere f → opened xs ++ e ≡ opened ys ++ f → xs ≡ ys
+same_bodies [] [] e f a b p q is = refl
+same_bodies [] (y ∷ ys) e f a b p q is = absurd (not_ended e y (opened ys ++ f) b.0 p (is ∙ append_assoc (1 ∷ y) (opened ys) f))
+same_bodies (x ∷ xs) [] e f a b p q is = absurd (not_ended f x (opened xs ++ e) a.0 q (sym is ∙ append_assoc (1 ∷ x) (opened xs) e))
+same_bodies (x ∷ xs) (y ∷ ys) e f a b p q is =
+    let behind : x ++ (opened xs ++ e) ≡ y ++ (opened ys ++ f) = sym (append_assoc x (opened xs) e) ∙ ap (λ (l : List ℕ). drop 1 l) is ∙ append_assoc y (opened ys) f in
+    let first : x ≡ y = sym (take_at x (opened xs ++ e) 49 a.0) ∙ ap (λ (l : List ℕ). take 49 l) behind ∙ take_at y (opened ys ++ f) 49 b.0 in
+    let others : xs ≡ ys = same_bodies xs ys e f a.1 b.1 p q (sym (drop_at x (opened xs ++ e) 49 a.0) ∙ ap (λ (l : List ℕ). drop 49 l) behind ∙ drop_at y (opened ys ++ f) 49 b.0) in
+    λ i. first i ∷ others i
+
+pub one_log : (xs ys : List (List ℕ)) (bytes : List ℕ) → IsLog xs bytes → IsLog ys bytes → xs ≡ ys
+one_log xs ys bytes a b = same_bodies xs ys a.rest b.rest a.sizes b.sizes a.ends b.ends (sym a.parts ∙ b.parts)
+
+-- ---- the writes of a commit: in front are the records
+
+-- what stood before a write within the file
+pub kept_before : (at count : ℕ) (old new : Option (List ℕ)) → TornWrite at count old new → at ≤ length (bytes_in old) → take at (bytes_in new) ≡ take at (bytes_in old)
+kept_before at count old new torn within =
+    let same : min at (length (bytes_in old)) ≡ at = omega arith in
+    subst (λ (n : ℕ). take n (bytes_in new) ≡ take at (bytes_in old)) same torn.before
+
+-- what stands behind a place, and behind so much more
+just_behind : (front : List ℕ) (gate : ℕ) (rest : List ℕ) → drop (length front + 1) (front ++ gate ∷ rest) ≡ rest
+just_behind front gate rest =
+    ap (λ (l : List ℕ). drop (length front + 1) l) (sym (append_assoc front (gate ∷ []) rest)) ∙ drop_at (front ++ gate ∷ []) rest (length front + 1) (omega (arith, length-append front (gate ∷ [])))
+
+behind : (front : List ℕ) (gate : ℕ) (rest : List ℕ) (n : ℕ) → drop (length front + 1 + n) (front ++ gate ∷ rest) ≡ drop n rest
+behind front gate rest n = sym (drop-drop n (length front + 1) (front ++ gate ∷ rest)) ∙ ap (λ (l : List ℕ). drop n l) (just_behind front gate rest)
+
+up_to : (front : List ℕ) (gate : ℕ) (rest : List ℕ) → take (length front + 1) (front ++ gate ∷ rest) ≡ front ++ gate ∷ []
+up_to front gate rest =
+    ap (λ (l : List ℕ). take (length front + 1) l) (sym (append_assoc front (gate ∷ []) rest))
+    ∙ take_at (front ++ gate ∷ []) rest (length front + 1) (omega (arith, length-append front (gate ∷ [])))
+
+-- the closed gate stays where a record behind it is cut short
+pub torn_record : (front : List ℕ) (gate : ℕ) (tail : List ℕ) (count : ℕ) (old new : Option (List ℕ)) → TornWrite (length front + 1) count old new → bytes_in old ≡ front ++ gate ∷ tail
+    → bytes_in new ≡ front ++ gate ∷ drop (length front + 1) (bytes_in new)
+torn_record front gate tail count old new torn is =
+    let n = length front + 1 in
+    let c = bytes_in new in
+    let within : n ≤ length (bytes_in old) = omega (arith, ap length is, length-append front (gate ∷ tail)) in
+    let kept : take n c ≡ front ++ gate ∷ [] = kept_before n count old new torn within ∙ ap (λ (l : List ℕ). take n l) is ∙ up_to front gate tail in
+    sym (take-append-drop n c) ∙ ap (λ (l : List ℕ). l ++ drop n c) kept ∙ append_assoc front (gate ∷ []) (drop n c)
+
+pub whole_record : (front : List ℕ) (gate : ℕ) (tail bytes new : List ℕ) → IsWrittenAt (front ++ gate ∷ tail) (length front + 1) bytes new → new ≡ front ++ gate ∷ (bytes ++ drop (length bytes) tail)
+whole_record front gate tail bytes new is =
+    let all = front ++ gate ∷ tail in
+    let rest = drop (length bytes) tail in
+    is
+    ∙ ap (λ (l : List ℕ). l ++ bytes ++ drop (length front + 1 + length bytes) all) (up_to front gate tail)
+    ∙ ap (λ (l : List ℕ). (front ++ gate ∷ []) ++ bytes ++ l) (behind front gate tail (length bytes))
+    ∙ append_assoc (front ++ gate ∷ []) bytes rest
+    ∙ append_assoc front (gate ∷ []) (bytes ++ rest)
+
+-- the record stays whole, whatever its gate is
+pub torn_gate : (front : List ℕ) (gate : ℕ) (tail : List ℕ) (old new : Option (List ℕ)) → TornWrite (length front) 1 old new → bytes_in old ≡ front ++ gate ∷ tail
+    → bytes_in new ≡ front ++ get_or (bytes_in new) (length front) 0 ∷ tail
+torn_gate front gate tail old new torn is =
+    let n = length front in
+    let c = bytes_in new in
+    let within : n + 1 ≤ length (bytes_in old) = omega (arith, ap length is, length-append front (gate ∷ tail)) in
+    let back : drop (n + 1) (bytes_in old) ≡ tail = ap (λ (l : List ℕ). drop (n + 1) l) is ∙ just_behind front gate tail in
+    let before : take n c ≡ front = kept_before n 1 old new torn (omega arith) ∙ ap (λ (l : List ℕ). take n l) is ∙ take_at front (gate ∷ tail) n refl in
+    let rest : drop n c ≡ get_or c n 0 ∷ tail = drop_more c n 0 (omega (arith, torn.no_shorter)) ∙ ap (λ (l : List ℕ). get_or c n 0 ∷ l) (torn.behind ∙ back) in
+    sym (take-append-drop n c) ∙ ap (λ (l : List ℕ). l ++ drop n c) before ∙ ap (λ (l : List ℕ). front ++ l) rest
+
+pub whole_gate : (front : List ℕ) (gate : ℕ) (tail new : List ℕ) → IsWrittenAt (front ++ gate ∷ tail) (length front) (1 ∷ []) new → new ≡ front ++ 1 ∷ tail
+whole_gate front gate tail new is =
+    is
+    ∙ ap (λ (l : List ℕ). l ++ (1 ∷ []) ++ drop (length front + 1) (front ++ gate ∷ tail)) (take_at front (gate ∷ tail) (length front) refl)
+    ∙ ap (λ (l : List ℕ). front ++ (1 ∷ []) ++ l) (just_behind front gate tail)
+    ∙ append_assoc front (1 ∷ []) tail

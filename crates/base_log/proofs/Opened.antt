@@ -1,0 +1,270 @@
+-- What a log that was read says of the files of a folder.
+use Rattle.std.proofs.Common.{◌≡◌, ◌≢◌, ◌≤◌, ◌<◌, ◌⊎◌, inl, inr, ⊎_elim, ℕ, List, [], ◌∷◌, ◌++◌, length, get_or, take, Option, Some, None, refl, sym, ◌∙◌, ap, subst, arith, length-append}
+use Rattle.std.proofs.lemmas.List.{get_or_at}
+use Rattle.std.specs.Prelude.{IsSome}
+use Rattle.disk_io.specs.Disk.{DiskState, Files, bytes_in}
+use Rattle.disk_io.specs.Synced.{IsOnDisk}
+use Rattle.disk_io.specs.Runs.{ChangesNothing}
+use Rattle.base_log.specs.AtRest.{IsAtRest, IsLogAt}
+use Rattle.base_log.specs.Names.{log_of, messages_of, keys_of}
+use Rattle.base_log.specs.Log.{opened, AreBodies, IsLog, IsShutAt, last_told, nothing_told}
+use Rattle.base_log.specs.Opening.{AreNamed, HasFiles, KeepsButOne}
+use Rattle.base_log.specs.Standing.{BaseBytes, AreThere, IsBroken, IsLost, IsNew, TellsBase, StandsFor, base_at}
+use Rattle.base_log.specs.Reading.{ReadsAll}
+use Rattle.base_log.specs.declared.log.Told.{Told}
+use Rattle.base_log.specs.declared.log.End.{End}
+use Rattle.base_log.proofs.Empty.{new_log}
+use Rattle.base_log.proofs.Logs.{shut_log, shut_at}
+use Rattle.base_log.proofs.Paths.{messages_in, keys_in, messages_not_log, keys_not_log}
+use Rattle.base_log.proofs.Quiet.{log_quiet}
+use Rattle.base_log.proofs.Same.{AreThere-both, TellsBase-seen, ended_by, front_long, tells_by}
+
+no_bodies : (bodies : List (List ℕ)) → AreBodies bodies → length (opened bodies) < 50 → bodies ≡ []
+no_bodies [] sizes few = refl
+no_bodies (body ∷ bodies) sizes few = absurd (omega (arith, few, sizes.0, length-append body (opened bodies)))
+
+some_bodies : (bodies : List (List ℕ)) (path : List ℕ) (files : Files) → length (opened bodies) ≢ 0 → AreThere path bodies files
+    → IsSome (files (messages_of path (last_told bodies).number)) × IsSome (files (keys_of path (last_told bodies).number))
+some_bodies [] path files some there = absurd (some refl)
+some_bodies (body ∷ bodies) path files some there = there
+
+-- a closed gate is the first byte behind the records
+record Behind (front rest : List ℕ) : Type 0 where
+  pub closed : ℕ
+  pub more : List ℕ
+  pub is : rest ≡ closed ∷ more
+  pub shut : closed ≢ 1
+
+shut_behind : (front rest bytes : List ℕ) → bytes ≡ front ++ rest → IsShutAt (length front) bytes → Behind front rest
+shut_behind front [] bytes is shut = absurd (omega (arith, shut.0, ap length is, length-append front []))
+shut_behind front (closed ∷ more) bytes is shut =
+    let there : get_or bytes (length front) 0 ≡ closed = ap (λ (l : List ℕ). get_or l (length front) 0) is ∙ get_or_at front closed more 0 (length front) refl in
+    record { closed = closed; more = more; is = refl; shut = λ one. shut.1 (there ∙ one) }
+
+pub some_there : (f : Option (List ℕ)) → 0 < length (bytes_in f) → IsSome f
+some_there None some = absurd (omega (arith, some))
+some_there (Some bytes) some = refl
+
+-- a log at whose front its gate is has no record
+pub none_at : (d : DiskState) (path : List ℕ) (end : End) → IsLogAt d path end → end.gate ≡ 0 → IsLog [] (bytes_in (d.seen (log_of path))) × IsShutAt 0 (bytes_in (d.seen (log_of path)))
+none_at d path end at none =
+    let empty : at.bodies ≡ [] = no_bodies at.bodies at.sizes (omega (arith, none, at.gate)) in
+    let bytes = bytes_in (d.seen (log_of path)) in
+    let is : bytes ≡ at.closed ∷ at.rest = at.log ∙ ap (λ b. opened b ++ at.closed ∷ at.rest) empty in
+    (shut_log [] at.closed at.rest bytes tt at.shut is, shut_at [] at.closed at.rest bytes at.shut is)
+
+-- the log is as it was, after other files were made
+pub log_moved : (d e : DiskState) (path : List ℕ) (end : End) → IsLogAt d path end → e.seen (log_of path) ≡ d.seen (log_of path) → IsOnDisk e (log_of path) → AreNamed path e → IsLogAt e path end
+log_moved d e path end was same on named = record {
+  bodies = was.bodies;
+  sizes = was.sizes;
+  closed = was.closed;
+  rest = was.rest;
+  log = ap bytes_in same ∙ was.log;
+  shut = was.shut;
+  gate = was.gate;
+  told = was.told;
+  on_disk = on;
+  named = named;
+}
+
+-- the two files of a folder without a record
+pub first_files : (path : List ℕ) (files : Files) (told : Told) → told ≡ nothing_told → IsSome (files (messages_of path 0)) → IsSome (files (keys_of path 0)) → HasFiles path files told
+first_files path files told none m k =
+    let zero : HasFiles path files nothing_told = record { messages = m; keys = k; messages_long = omega arith; keys_long = omega arith } in
+    subst (λ (t : Told). HasFiles path files t) (sym none) zero
+
+-- the two files are put on the disk
+pub files_settled : (d e : DiskState) (path : List ℕ) (end : End) → IsLogAt d path end → ChangesNothing d e → end.told.number < 10 → HasFiles path d.seen end.told
+    → d.is_alone (messages_of path end.told.number) → d.is_alone (keys_of path end.told.number) → e.is_flushed (messages_of path end.told.number) → e.is_flushed (keys_of path end.told.number) → IsAtRest e path end
+files_settled d e path end log quiet digit has m_alone k_alone m_flushed k_flushed =
+    let m = messages_of path end.told.number in
+    let k = keys_of path end.told.number in
+    record {
+      log = log_quiet d e path end quiet log;
+      digit = digit;
+      messages_long = subst (λ f. end.told.messages ≤ length (bytes_in f)) (sym (quiet.seen m)) has.messages_long;
+      keys_long = subst (λ f. end.told.keys ≤ length (bytes_in f)) (sym (quiet.seen k)) has.keys_long;
+      messages_on = record {
+        there = subst (λ f. IsSome f) (sym (quiet.seen m)) has.messages;
+        named = quiet.named m (λ h. h) (log.named m (messages_in path end.told.number));
+        flushed = m_flushed;
+        alone = quiet.alone m (λ h. h) m_alone;
+      };
+      keys_on = record {
+        there = subst (λ f. IsSome f) (sym (quiet.seen k)) has.keys;
+        named = quiet.named k (λ h. h) (log.named k (keys_in path end.told.number));
+        flushed = k_flushed;
+        alone = quiet.alone k (λ h. h) k_alone;
+      };
+    }
+
+-- files that are the same but for the log
+pub files_beside : (d e : DiskState) (path : List ℕ) (told : Told) → KeepsButOne d e (log_of path) → HasFiles path d.seen told → HasFiles path e.seen told
+files_beside d e path told kept has =
+    let m = kept.seen (messages_of path told.number) (messages_not_log path told.number) in
+    let k = kept.seen (keys_of path told.number) (keys_not_log path told.number) in
+    record {
+      messages = subst (λ f. IsSome f) (sym m) has.messages;
+      keys = subst (λ f. IsSome f) (sym k) has.keys;
+      messages_long = subst (λ f. told.messages ≤ length (bytes_in f)) (sym m) has.messages_long;
+      keys_long = subst (λ f. told.keys ≤ length (bytes_in f)) (sym k) has.keys_long;
+    }
+
+-- files that are lost stand for no base
+pub lost_none : (path : List ℕ) (files : Files) (base : BaseBytes) → IsLost path files → StandsFor path base files → ⊥
+lost_none path files base lost stands =
+    ⊎_elim (λ shut. absurd (omega (arith, shut.0, ap length lost.log))) (λ new. lost.some new.empty) stands.ended
+
+module _ (bytes : List ℕ) (end : End) (reads : ReadsAll bytes end) where
+  abbrev pub bodies : List (List ℕ)
+  bodies = reads.reads.bodies
+
+  pub read_log : IsLog bodies bytes
+  read_log = record { rest = reads.rest; parts = reads.reads.parts; sizes = reads.reads.sizes; ends = reads.ends }
+
+  within : end.gate ≤ length bytes
+  within = omega (arith, reads.reads.gate, ap length reads.reads.parts, length-append (opened bodies) reads.rest)
+
+  pub none_read : end.gate < 50 → bodies ≡ []
+  none_read few = no_bodies bodies reads.reads.sizes (omega (arith, few, reads.reads.gate))
+
+  pub nothing_read : end.gate < 50 → end.told ≡ nothing_told
+  nothing_read few = sym reads.reads.told ∙ ap last_told (none_read few)
+
+  -- the log of a folder, which is on the disk
+  pub shut_read : (d : DiskState) (path : List ℕ) → bytes ≡ bytes_in (d.seen (log_of path)) → IsShutAt end.gate bytes → IsOnDisk d (log_of path) → AreNamed path d → IsLogAt d path end
+  shut_read d path is shut on named =
+      let behind = shut_behind (opened bodies) reads.rest bytes reads.reads.parts (subst (λ (n : ℕ). IsShutAt n bytes) reads.reads.gate shut) in
+      record {
+        bodies = bodies;
+        sizes = reads.reads.sizes;
+        closed = behind.closed;
+        rest = behind.more;
+        log = sym is ∙ reads.reads.parts ∙ ap (λ (l : List ℕ). opened bodies ++ l) behind.is;
+        shut = behind.shut;
+        gate = reads.reads.gate;
+        told = reads.reads.told;
+        on_disk = on;
+        named = named;
+      }
+
+  -- that of a new folder, which is made
+  pub made_read : (d : DiskState) (path : List ℕ) → end.gate < 50 → bytes_in (d.seen (log_of path)) ≡ 0 ∷ [] → IsOnDisk d (log_of path) → AreNamed path d → IsLogAt d path end
+  made_read d path few is on named =
+      let none = none_read few in
+      record {
+        bodies = [];
+        sizes = tt;
+        closed = 0;
+        rest = [];
+        log = is;
+        shut = omega arith;
+        gate = reads.reads.gate ∙ ap (λ b. length (opened b)) none;
+        told = ap last_told (sym none) ∙ reads.reads.told;
+        on_disk = on;
+        named = named;
+      }
+
+  -- files with this log, and what they stand for
+  module _ (path : List ℕ) (files : Files) (is : bytes ≡ bytes_in (files (log_of path))) where
+    log_in_files : IsLog bodies (bytes_in (files (log_of path)))
+    log_in_files = subst (λ (l : List ℕ). IsLog bodies l) is read_log
+
+    module _ (base : BaseBytes) (stands : StandsFor path base files) where
+      by : AreThere path bodies files × TellsBase (last_told bodies) path base files
+      by = tells_by path base files bodies stands log_in_files
+
+      pub end_tells : TellsBase end.told path base files
+      end_tells = subst (λ (t : Told). TellsBase t path base files) reads.reads.told by.1
+
+      pub end_shut : IsShutAt end.gate bytes ⊎ IsNew path files
+      end_shut =
+          ⊎_elim
+          (λ shut. inl (subst (λ (l : List ℕ). IsShutAt end.gate l) (sym is) (subst (λ (n : ℕ). IsShutAt n (bytes_in (files (log_of path)))) (sym reads.reads.gate) shut)))
+          (λ new. inr new)
+          (ended_by path base files bodies stands log_in_files)
+
+      pub has_files : end.gate ≢ 0 → HasFiles path files end.told
+      has_files some =
+          let there =
+          subst (λ (t : Told). IsSome (files (messages_of path t.number)) × IsSome (files (keys_of path t.number))) reads.reads.told
+          (some_bodies bodies path files (λ none. some (reads.reads.gate ∙ none)) by.0) in
+          record {
+            messages = there.0;
+            keys = there.1;
+            messages_long = omega (arith, end_tells.messages_long, front_long base.messages (bytes_in (files (messages_of path end.told.number))) end_tells.messages);
+            keys_long = omega (arith, end_tells.keys_long, front_long base.keys (bytes_in (files (keys_of path end.told.number))) end_tells.keys);
+          }
+
+      -- what the files begin with, as they are seen where they are the same
+      pub base_found : (d : DiskState) → d.seen (messages_of path end.told.number) ≡ files (messages_of path end.told.number) → d.seen (keys_of path end.told.number) ≡ files (keys_of path end.told.number)
+          → base_at d path end.told ≡ base
+      base_found d m k =
+          let m_is : take end.told.messages (bytes_in (d.seen (messages_of path end.told.number))) ≡ base.messages =
+          ap (λ f. take end.told.messages (bytes_in f)) m ∙ ap (λ (n : ℕ). take n (bytes_in (files (messages_of path end.told.number)))) end_tells.messages_long ∙ end_tells.messages in
+          let k_is : take end.told.keys (bytes_in (d.seen (keys_of path end.told.number))) ≡ base.keys =
+          ap (λ f. take end.told.keys (bytes_in f)) k ∙ ap (λ (n : ℕ). take n (bytes_in (files (keys_of path end.told.number)))) end_tells.keys_long ∙ end_tells.keys in
+          λ i. record { messages = m_is i; keys = k_is i; cursor = end_tells.cursor i; mark = end_tells.mark i }
+
+    pub none_log : end.gate < 50 → IsLog [] (bytes_in (files (log_of path)))
+    none_log few = subst (λ b. IsLog b (bytes_in (files (log_of path)))) (none_read few) log_in_files
+
+    -- new files are those of no record
+    pub new_few : IsNew path files → end.gate < 50
+    new_few new = omega (arith, new.log, ap length is, within)
+
+    -- why they stand for none
+    broken_by : length bytes ≢ 0 → ((base : BaseBytes) → StandsFor path base files → ⊥) → IsBroken path files
+    broken_by some none = record { logged = λ lost. some (ap length is ∙ ap length lost.log); none = none }
+
+    pub no_digit : 10 ≤ end.told.number → IsBroken path files
+    no_digit high =
+        broken_by (λ none. absurd (omega (arith, high, ap (λ (t : Told). t.number) (nothing_read (omega (arith, none, within))))))
+        (λ base stands. absurd (omega (arith, high, (end_tells base stands).digit)))
+
+    pub no_files : end.gate ≢ 0 → (HasFiles path files end.told → ⊥) → IsBroken path files
+    no_files some none = broken_by (λ empty. some (omega (arith, empty, within))) (λ base stands. none (has_files base stands some))
+
+    pub not_new : length bytes ≢ 0 → (IsShutAt end.gate bytes → ⊥) → (IsNew path files → ⊥) → IsBroken path files
+    not_new some ajar old = broken_by some (λ base stands. ⊎_elim ajar old (end_shut base stands))
+
+  -- files as they are seen, and the base for which they stand
+  module _ (d : DiskState) (path : List ℕ) (is : bytes ≡ bytes_in (d.seen (log_of path))) where
+    abbrev pub seen : BaseBytes
+    seen = base_at d path end.told
+
+    nothing_seen : end.told ≡ nothing_told → TellsBase end.told path seen d.seen
+    nothing_seen told =
+        TellsBase-seen end.told path d d.seen (omega (arith, ap (λ (t : Told). t.number) told)) (omega (arith, ap (λ (t : Told). t.messages) told)) (omega (arith, ap (λ (t : Told). t.keys) told)) refl refl
+
+    pub new_stands : IsNew path d.seen → StandsFor path seen d.seen
+    new_stands new =
+        let told = nothing_read (new_few path d.seen is new) in
+        record {
+          bodies = [];
+          log = new_log path d.seen new;
+          ended = inr new;
+          there = tt;
+          tells = subst (λ (t : Told). TellsBase t path seen d.seen) told (nothing_seen told);
+        }
+
+    shut_stands : IsShutAt end.gate bytes → AreThere path bodies d.seen → TellsBase end.told path seen d.seen → StandsFor path seen d.seen
+    shut_stands shut there tells = record {
+      bodies = bodies;
+      log = log_in_files path d.seen is;
+      ended = inl (subst (λ (n : ℕ). IsShutAt n (bytes_in (d.seen (log_of path)))) reads.reads.gate (subst (λ (l : List ℕ). IsShutAt end.gate l) is shut));
+      there = there;
+      tells = subst (λ (t : Told). TellsBase t path seen d.seen) (sym reads.reads.told) tells;
+    }
+
+    pub first_stands : end.gate ≡ 0 → IsShutAt end.gate bytes → StandsFor path seen d.seen
+    first_stands first shut =
+        let few : end.gate < 50 = omega (arith, first) in
+        shut_stands shut (subst (λ b. AreThere path b d.seen) (sym (none_read few)) tt) (nothing_seen (nothing_read few))
+
+    pub files_stand : end.told.number < 10 → HasFiles path d.seen end.told → IsShutAt end.gate bytes → StandsFor path seen d.seen
+    files_stand digit has shut =
+        shut_stands shut
+        (AreThere-both path bodies d.seen (subst (λ (t : Told). IsSome (d.seen (messages_of path t.number))) (sym reads.reads.told) has.messages) (subst (λ (t : Told). IsSome (d.seen (keys_of path t.number))) (sym reads.reads.told) has.keys))
+        (TellsBase-seen end.told path d d.seen digit has.messages_long has.keys_long refl refl)

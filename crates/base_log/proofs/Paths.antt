@@ -1,0 +1,86 @@
+-- The files of a folder are in it, and have paths of their own.
+use Rattle.std.proofs.Common.{◌≡◌, ◌≢◌, ℕ, zero, suc, ◌+◌, List, [], ◌∷◌, ◌++◌, get_or, refl, sym, ap, arith, All}
+use Rattle.std.proofs.lemmas.List.{append_cancel_left}
+use Rattle.disk_io.specs.Disk.{IsIn}
+use Rattle.base_log.specs.Names.{IsBeside, log_of, messages_of, keys_of}
+use Rattle.base_log.specs.declared.names.TheConstants.{LOG, MESSAGES, KEYS}
+
+pub log_not_messages : (path : List ℕ) (n : ℕ) → log_of path ≢ messages_of path n
+log_not_messages path n is = absurd (omega (arith, ap (λ (l : List ℕ). get_or l 0 0) (append_cancel_left path LOG.now (MESSAGES.now ++ (48 + n) ∷ []) is)))
+
+pub log_not_keys : (path : List ℕ) (n : ℕ) → log_of path ≢ keys_of path n
+log_not_keys path n is = absurd (omega (arith, ap (λ (l : List ℕ). get_or l 0 0) (append_cancel_left path LOG.now (KEYS.now ++ (48 + n) ∷ []) is)))
+
+pub messages_not_keys : (path : List ℕ) (n m : ℕ) → messages_of path n ≢ keys_of path m
+messages_not_keys path n m is = absurd (omega (arith, ap (λ (l : List ℕ). get_or l 0 0) (append_cancel_left path (MESSAGES.now ++ (48 + n) ∷ []) (KEYS.now ++ (48 + m) ∷ []) is)))
+
+pub messages_not_log : (path : List ℕ) (n : ℕ) → messages_of path n ≢ log_of path
+messages_not_log path n is = log_not_messages path n (sym is)
+
+pub keys_not_log : (path : List ℕ) (n : ℕ) → keys_of path n ≢ log_of path
+keys_not_log path n is = log_not_keys path n (sym is)
+
+pub keys_not_messages : (path : List ℕ) (n m : ℕ) → keys_of path n ≢ messages_of path m
+keys_not_messages path n m is = messages_not_keys path m n (sym is)
+
+-- the digit tells the files of two numbers apart
+pub messages_of-injective : (path : List ℕ) (n m : ℕ) → messages_of path n ≡ messages_of path m → n ≡ m
+messages_of-injective path n m is = omega (arith, ap (λ (l : List ℕ). get_or l 9 0) (append_cancel_left path (MESSAGES.now ++ (48 + n) ∷ []) (MESSAGES.now ++ (48 + m) ∷ []) is))
+
+pub keys_of-injective : (path : List ℕ) (n m : ℕ) → keys_of path n ≡ keys_of path m → n ≡ m
+keys_of-injective path n m is = omega (arith, ap (λ (l : List ℕ). get_or l 5 0) (append_cancel_left path (KEYS.now ++ (48 + n) ∷ []) (KEYS.now ++ (48 + m) ∷ []) is))
+
+-- no slash stands in a name
+plain_log : All (λ b. b ≢ 47) LOG.now
+plain_log zero d lt is = omega (arith, is)
+plain_log (suc zero) d lt is = omega (arith, is)
+plain_log (suc (suc zero)) d lt is = omega (arith, is)
+plain_log (suc (suc (suc k))) d lt is = omega (arith, lt)
+
+plain_messages : (n : ℕ) → All (λ b. b ≢ 47) (MESSAGES.now ++ (48 + n) ∷ [])
+plain_messages n zero d lt is = omega (arith, is)
+plain_messages n (suc zero) d lt is = omega (arith, is)
+plain_messages n (suc (suc zero)) d lt is = omega (arith, is)
+plain_messages n (suc (suc (suc zero))) d lt is = omega (arith, is)
+plain_messages n (suc (suc (suc (suc zero)))) d lt is = omega (arith, is)
+plain_messages n (suc (suc (suc (suc (suc zero))))) d lt is = omega (arith, is)
+plain_messages n (suc (suc (suc (suc (suc (suc zero)))))) d lt is = omega (arith, is)
+plain_messages n (suc (suc (suc (suc (suc (suc (suc zero))))))) d lt is = omega (arith, is)
+plain_messages n (suc (suc (suc (suc (suc (suc (suc (suc zero)))))))) d lt is = omega (arith, is)
+plain_messages n (suc (suc (suc (suc (suc (suc (suc (suc (suc zero))))))))) d lt is = omega (arith, is)
+plain_messages n (suc (suc (suc (suc (suc (suc (suc (suc (suc (suc k)))))))))) d lt is = omega (arith, lt)
+
+plain_keys : (n : ℕ) → All (λ b. b ≢ 47) (KEYS.now ++ (48 + n) ∷ [])
+plain_keys n zero d lt is = omega (arith, is)
+plain_keys n (suc zero) d lt is = omega (arith, is)
+plain_keys n (suc (suc zero)) d lt is = omega (arith, is)
+plain_keys n (suc (suc (suc zero))) d lt is = omega (arith, is)
+plain_keys n (suc (suc (suc (suc zero)))) d lt is = omega (arith, is)
+plain_keys n (suc (suc (suc (suc (suc zero))))) d lt is = omega (arith, is)
+plain_keys n (suc (suc (suc (suc (suc (suc k)))))) d lt is = omega (arith, lt)
+
+pub log_in : (path : List ℕ) → IsIn path (log_of path)
+log_in path = record { name = LOG.now; parts = refl; plain = plain_log }
+
+pub messages_in : (path : List ℕ) (n : ℕ) → IsIn path (messages_of path n)
+messages_in path n = record { name = MESSAGES.now ++ (48 + n) ∷ []; parts = refl; plain = plain_messages n }
+
+pub keys_in : (path : List ℕ) (n : ℕ) → IsIn path (keys_of path n)
+keys_in path n = record { name = KEYS.now ++ (48 + n) ∷ []; parts = refl; plain = plain_keys n }
+
+-- the files of another number do not count
+pub messages_beside : (path : List ℕ) (n number : ℕ) → number ≢ n → IsBeside path n (messages_of path number)
+messages_beside path n number other = record {
+  inside = messages_in path number;
+  not_log = log_not_messages path number;
+  not_messages = λ is. other (sym (messages_of-injective path n number is));
+  not_keys = keys_not_messages path n number;
+}
+
+pub keys_beside : (path : List ℕ) (n number : ℕ) → number ≢ n → IsBeside path n (keys_of path number)
+keys_beside path n number other = record {
+  inside = keys_in path number;
+  not_log = log_not_keys path number;
+  not_messages = messages_not_keys path n number;
+  not_keys = λ is. other (sym (keys_of-injective path n number is));
+}

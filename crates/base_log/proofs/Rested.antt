@@ -1,0 +1,53 @@
+-- A base folder at rest: nothing is staged yet.
+use Rattle.std.proofs.Common.{◌≡◌, List, ℕ, inl, sym, ◌∙◌, ap, subst, arith, refl}
+use Rattle.std.specs.Prelude.{IsSome}
+use Rattle.disk_io.specs.Disk.{DiskState, Files, bytes_in}
+use Rattle.base_log.specs.Names.{log_of, messages_of, keys_of}
+use Rattle.base_log.specs.Log.{opened}
+use Rattle.base_log.specs.Standing.{TellsBase, StandsFor, base_at}
+use Rattle.base_log.specs.AtRest.{IsAtRest, IsStaged}
+use Rattle.base_log.specs.declared.log.Mark.{Mark}
+use Rattle.base_log.specs.declared.log.Told.{Told}
+use Rattle.base_log.specs.declared.log.End.{End}
+use Rattle.base_log.proofs.Logs.{shut_log, shut_at}
+use Rattle.base_log.proofs.Same.{AreThere-both, TellsBase-seen}
+
+-- files that are as they are seen in the folder
+pub rest_same : (d : DiskState) (path : List ℕ) (end : End) → IsAtRest d path end → (c : Files) → c (log_of path) ≡ d.seen (log_of path)
+    → c (messages_of path end.told.number) ≡ d.seen (messages_of path end.told.number) → c (keys_of path end.told.number) ≡ d.seen (keys_of path end.told.number) → StandsFor path (base_at d path end.told) c
+rest_same d path end rest c same_log same_m same_k =
+    let n = end.told.number in
+    let log = rest.log in
+    let is = ap bytes_in same_log ∙ log.log in
+    let there_m : IsSome (c (messages_of path n)) = subst (λ f. IsSome f) (sym same_m) rest.messages_on.there in
+    let there_k : IsSome (c (keys_of path n)) = subst (λ f. IsSome f) (sym same_k) rest.keys_on.there in
+    record {
+      bodies = log.bodies;
+      log = shut_log log.bodies log.closed log.rest (bytes_in (c (log_of path))) log.sizes log.shut is;
+      ended = inl (shut_at (opened log.bodies) log.closed log.rest (bytes_in (c (log_of path))) log.shut is);
+      there = AreThere-both path log.bodies c (subst (λ (t : Told). IsSome (c (messages_of path t.number))) (sym log.told) there_m) (subst (λ (t : Told). IsSome (c (keys_of path t.number))) (sym log.told) there_k);
+      tells = subst (λ (t : Told). TellsBase t path (base_at d path end.told) c) (sym log.told) (TellsBase-seen end.told path d c rest.digit rest.messages_long rest.keys_long same_m same_k);
+    }
+
+pub rest_stands : (d : DiskState) (path : List ℕ) (end : End) → IsAtRest d path end → (c : Files) → d.may_leave c → StandsFor path (base_at d path end.told) c
+rest_stands d path end rest c left =
+    rest_same d path end rest c
+    (d.on_disk (log_of path) rest.log.on_disk.named rest.log.on_disk.flushed c left)
+    (d.on_disk (messages_of path end.told.number) rest.messages_on.named rest.messages_on.flushed c left)
+    (d.on_disk (keys_of path end.told.number) rest.keys_on.named rest.keys_on.flushed c left)
+
+pub rest_staged : (d : DiskState) (path : List ℕ) (end : End) (cursor : ℕ) (mark : Mark) → IsAtRest d path end → IsStaged d path end (record end.told { cursor = cursor; mark = mark })
+rest_staged d path end cursor mark rest = record {
+  log = rest.log;
+  stands = rest_stands d path end rest;
+  shown = rest_same d path end rest d.seen refl refl refl;
+  digit = rest.digit;
+  messages_there = rest.messages_on.there;
+  keys_there = rest.keys_on.there;
+  messages_alone = rest.messages_on.alone;
+  keys_alone = rest.keys_on.alone;
+  messages_long = rest.messages_long;
+  keys_long = rest.keys_long;
+  messages_behind = λ same. omega arith;
+  keys_behind = λ same. omega arith;
+}

@@ -1,0 +1,79 @@
+-- Files that stand for a base, before and after a change that leaves it.
+use Rattle.std.proofs.Common.{◌≡◌, ◌≢◌, ◌≤◌, ◌<◌, inl, ℕ, List, [], ◌∷◌, length, take, sym, ap, subst, arith, length-take, refl}
+use Rattle.std.specs.Prelude.{IsSome}
+use Rattle.disk_io.specs.Disk.{DiskState, Files, bytes_in}
+use Rattle.base_log.specs.Names.{log_of, messages_of, keys_of}
+use Rattle.base_log.specs.Log.{IsLog, IsShutAt, last_told, opened}
+use Rattle.base_log.specs.Standing.{BaseBytes, IsFrontOf, AreThere, IsEnded, TellsBase, StandsFor, base_at}
+use Rattle.base_log.specs.declared.log.Told.{Told}
+use Rattle.base_log.proofs.Logs.{one_log}
+use Rattle.base_log.proofs.Paths.{messages_not_log, keys_not_log}
+
+pub AreThere-same : (path : List ℕ) (bodies : List (List ℕ)) (a c : Files) → c (messages_of path (last_told bodies).number) ≡ a (messages_of path (last_told bodies).number)
+    → c (keys_of path (last_told bodies).number) ≡ a (keys_of path (last_told bodies).number) → AreThere path bodies a → AreThere path bodies c
+AreThere-same path [] a c m k was = tt
+AreThere-same path (body ∷ bodies) a c m k was = (subst (λ f. IsSome f) (sym m) was.0, subst (λ f. IsSome f) (sym k) was.1)
+
+pub AreThere-both : (path : List ℕ) (bodies : List (List ℕ)) (c : Files) → IsSome (c (messages_of path (last_told bodies).number)) → IsSome (c (keys_of path (last_told bodies).number)) → AreThere path bodies c
+AreThere-both path [] c m k = tt
+AreThere-both path (body ∷ bodies) c m k = (m, k)
+
+pub TellsBase-same : (told : Told) (path : List ℕ) (base : BaseBytes) (a c : Files) → c (messages_of path told.number) ≡ a (messages_of path told.number)
+    → c (keys_of path told.number) ≡ a (keys_of path told.number) → TellsBase told path base a → TellsBase told path base c
+TellsBase-same told path base a c m k was = record {
+  messages_long = was.messages_long;
+  keys_long = was.keys_long;
+  cursor = was.cursor;
+  mark = was.mark;
+  digit = was.digit;
+  messages = subst (λ f. IsFrontOf base.messages (bytes_in f)) (sym m) was.messages;
+  keys = subst (λ f. IsFrontOf base.keys (bytes_in f)) (sym k) was.keys;
+}
+
+pub front_taken : (n : ℕ) (bytes : List ℕ) → n ≤ length bytes → IsFrontOf (take n bytes) bytes
+front_taken n bytes le =
+    let long : length (take n bytes) ≡ n = omega (arith, length-take n bytes) in
+    ap (λ (k : ℕ). take k bytes) long
+
+pub front_long : (front bytes : List ℕ) → IsFrontOf front bytes → length front ≤ length bytes
+front_long front bytes is = omega (arith, ap length is, length-take (length front) bytes)
+
+-- the base that is seen, where the files are as they are seen
+pub TellsBase-seen : (told : Told) (path : List ℕ) (d : DiskState) (c : Files) → told.number < 10 → told.messages ≤ length (bytes_in (d.seen (messages_of path told.number)))
+    → told.keys ≤ length (bytes_in (d.seen (keys_of path told.number))) → c (messages_of path told.number) ≡ d.seen (messages_of path told.number)
+    → c (keys_of path told.number) ≡ d.seen (keys_of path told.number) → TellsBase told path (base_at d path told) c
+TellsBase-seen told path d c digit m_long k_long m k = record {
+  messages_long = omega (arith, length-take told.messages (bytes_in (d.seen (messages_of path told.number))));
+  keys_long = omega (arith, length-take told.keys (bytes_in (d.seen (keys_of path told.number))));
+  cursor = refl;
+  mark = refl;
+  digit = digit;
+  messages = subst (λ f. IsFrontOf (base_at d path told).messages (bytes_in f)) (sym m) (front_taken told.messages (bytes_in (d.seen (messages_of path told.number))) m_long);
+  keys = subst (λ f. IsFrontOf (base_at d path told).keys (bytes_in f)) (sym k) (front_taken told.keys (bytes_in (d.seen (keys_of path told.number))) k_long);
+}
+
+-- what a base's files tell by these records, which are those of their log
+pub tells_by : (path : List ℕ) (base : BaseBytes) (c : Files) (bodies : List (List ℕ)) → StandsFor path base c → IsLog bodies (bytes_in (c (log_of path))) → AreThere path bodies c × TellsBase (last_told bodies) path base c
+tells_by path base c bodies stands log =
+    let same : stands.bodies ≡ bodies = one_log stands.bodies bodies (bytes_in (c (log_of path))) stands.log log in
+    (subst (λ b. AreThere path b c) same stands.there, subst (λ b. TellsBase (last_told b) path base c) same stands.tells)
+
+-- and how they end
+pub ended_by : (path : List ℕ) (base : BaseBytes) (c : Files) (bodies : List (List ℕ)) → StandsFor path base c → IsLog bodies (bytes_in (c (log_of path))) → IsEnded path bodies c
+ended_by path base c bodies stands log = subst (λ b. IsEnded path b c) (one_log stands.bodies bodies (bytes_in (c (log_of path))) stands.log log) stands.ended
+
+-- a change of the log alone, after which it has the same records and a closed gate behind them
+pub log_changed : (path : List ℕ) (base : BaseBytes) (a c : Files) (bodies : List (List ℕ)) → StandsFor path base a → IsLog bodies (bytes_in (a (log_of path)))
+    → ((m : List ℕ) → m ≢ log_of path → c m ≡ a m) → IsLog bodies (bytes_in (c (log_of path))) → IsShutAt (length (opened bodies)) (bytes_in (c (log_of path))) → StandsFor path base c
+log_changed path base a c bodies stands log same now shut =
+    let by = tells_by path base a bodies stands log in
+    let told = last_told bodies in
+    let m = same (messages_of path told.number) (messages_not_log path told.number) in
+    let k = same (keys_of path told.number) (keys_not_log path told.number) in
+    record {
+      bodies = bodies;
+      log = now;
+      ended = inl shut;
+      there = AreThere-same path bodies a c m k by.0;
+      tells = TellsBase-same told path base a c m k by.1;
+    }

@@ -1,0 +1,12 @@
+use Rattle.std.proofs.Common.{arith, length-drop}
+use Rattle.base_log.proofs.Reading.{reads_more}
+use Rattle.base_log.proofs.log.last_record.Goals as goal
+
+pub records-preserved : goal.records-preserved
+records-preserved c =
+    let end = c.records.end in
+    let test = c.records-test.ensures in
+    record {
+      reads = reads_more c.args.bytes.now end c.told_at.result c.records.invariant.reads test.0 test.1 c.told_at.ensures;
+      within = omega (arith, test.0, length-drop end.gate c.args.bytes.now);
+    }

@@ -1,0 +1,136 @@
+use Rattle.std.proofs.Common.{List, ℕ, ◌∙◌, subst}
+use Rattle.disk_io.proofs.Moments.{then_nothing}
+use Rattle.base_log.specs.Names.{folder_of, log_of, messages_of, keys_of}
+use Rattle.base_log.proofs.Empty.{LogAlone, log_alone_stands}
+use Rattle.base_log.proofs.Gates.{on_disk_quiet, outside_quiet, outside_twice}
+use Rattle.base_log.proofs.Made.{Made, log_both, log_first, outside_both}
+use Rattle.base_log.proofs.Paths.{log_not_messages, log_not_keys, messages_in}
+use Rattle.base_log.proofs.Removed.{on_disk_but_one, outside_but_one}
+use Rattle.base_log.proofs.making.make_files.Given as given
+use Rattle.base_log.proofs.making.make_files.Goals.{After-create, After-create-2}
+use Rattle.base_log.proofs.making.make_files.Goals as goal
+
+messages_made : (g : given.Over) (c : After-create g) → Made (g.D.Disk.state c.args.disk.now) (g.D.Disk.state c.create.new.self) (messages_of (folder_of c.args.names.now) 0)
+messages_made g c =
+    let made = c.create.ensures in
+    subst (λ (l : List ℕ). Made (g.D.Disk.state c.args.disk.now) (g.D.Disk.state c.create.new.self) l) (c.deref.ensures.value ∙ c.requires.names.messages) (record {
+      kept = record { seen = made.beside; named = made.named; flushed = made.flushed; alone = made.alone; honest = made.time.honest };
+      crash = made.crash;
+      time = made.time;
+    })
+
+keys_made : (g : given.Over) (c : After-create-2 g) → Made (g.D.Disk.state c.create.new.self) (g.D.Disk.state c.create-2.new.self) (keys_of (folder_of c.args.names.now) 0)
+keys_made g c =
+    let made = c.create-2.ensures in
+    subst (λ (l : List ℕ). Made (g.D.Disk.state c.create.new.self) (g.D.Disk.state c.create-2.new.self) l) (c.deref-2.ensures.value ∙ c.requires.names.keys) (record {
+      kept = record { seen = made.beside; named = made.named; flushed = made.flushed; alone = made.alone; honest = made.time.honest };
+      crash = made.crash;
+      time = made.time;
+    })
+
+pub returns-in_err-create-clause-any_moment : goal.returns-in_err-create-clause-any_moment
+returns-in_err-create-clause-any_moment g c honest base stands =
+    let one = messages_made g (goal.at.returns-in_err-create-clause-any_moment g c).After-create in
+    let h0 = one.time.honest honest in
+    let path = folder_of c.args.names.now in
+    let d0 = g.D.Disk.state c.args.disk.now in
+    let d1 = g.D.Disk.state c.create.new.self in
+    let on = c.requires.log h0 in
+    log_alone_stands d0 path on d1 base stands (c.requires.none h0) (c.requires.shut h0) (log_first d0 path on (c.requires.named h0) 0 d1 one)
+
+pub returns-in_err-create-clause-log : goal.returns-in_err-create-clause-log
+returns-in_err-create-clause-log g c honest =
+    let one = messages_made g (goal.at.returns-in_err-create-clause-log g c).After-create in
+    let path = folder_of c.args.names.now in
+    on_disk_but_one (g.D.Disk.state c.args.disk.now) (g.D.Disk.state c.create.new.self) (log_of path) (messages_of path 0) one.kept (log_not_messages path 0) (c.requires.log (one.time.honest honest))
+
+pub returns-in_err-create-clause-same : goal.returns-in_err-create-clause-same
+returns-in_err-create-clause-same g c =
+    let path = folder_of c.args.names.now in
+    (messages_made g (goal.at.returns-in_err-create-clause-same g c).After-create).kept.seen (log_of path) (log_not_messages path 0)
+
+pub returns-in_err-create-clause-outside : goal.returns-in_err-create-clause-outside
+returns-in_err-create-clause-outside g c =
+    let one = messages_made g (goal.at.returns-in_err-create-clause-outside g c).After-create in
+    let path = folder_of c.args.names.now in
+    outside_but_one path (g.D.Disk.state c.args.disk.now) (g.D.Disk.state c.create.new.self) (messages_of path 0) (messages_in path 0) one.kept
+
+pub returns-in_err-create-2-clause-any_moment : goal.returns-in_err-create-2-clause-any_moment
+returns-in_err-create-2-clause-any_moment g c honest base stands =
+    let one = messages_made g (goal.at.returns-in_err-create-2-clause-any_moment g c).After-create in
+    let two = keys_made g (goal.at.returns-in_err-create-2-clause-any_moment g c).After-create-2 in
+    let h0 = one.time.honest (two.time.honest honest) in
+    let path = folder_of c.args.names.now in
+    let d0 = g.D.Disk.state c.args.disk.now in
+    let d1 = g.D.Disk.state c.create.new.self in
+    let d2 = g.D.Disk.state c.create-2.new.self in
+    let on = c.requires.log h0 in
+    log_alone_stands d0 path on d2 base stands (c.requires.none h0) (c.requires.shut h0) (log_both d0 path on (c.requires.named h0) 0 d1 one d2 two)
+
+pub returns-in_err-create-2-clause-log : goal.returns-in_err-create-2-clause-log
+returns-in_err-create-2-clause-log g c honest =
+    let one = messages_made g (goal.at.returns-in_err-create-2-clause-log g c).After-create in
+    let two = keys_made g (goal.at.returns-in_err-create-2-clause-log g c).After-create-2 in
+    let path = folder_of c.args.names.now in
+    let log = log_of path in
+    let d0 = g.D.Disk.state c.args.disk.now in
+    let d1 = g.D.Disk.state c.create.new.self in
+    let d2 = g.D.Disk.state c.create-2.new.self in
+    on_disk_but_one d1 d2 log (keys_of path 0) two.kept (log_not_keys path 0) (on_disk_but_one d0 d1 log (messages_of path 0) one.kept (log_not_messages path 0) (c.requires.log (one.time.honest (two.time.honest honest))))
+
+pub returns-in_err-create-2-clause-same : goal.returns-in_err-create-2-clause-same
+returns-in_err-create-2-clause-same g c =
+    let path = folder_of c.args.names.now in
+    (keys_made g (goal.at.returns-in_err-create-2-clause-same g c).After-create-2).kept.seen (log_of path) (log_not_keys path 0)
+    ∙ (messages_made g (goal.at.returns-in_err-create-2-clause-same g c).After-create).kept.seen (log_of path) (log_not_messages path 0)
+
+pub returns-in_err-create-2-clause-outside : goal.returns-in_err-create-2-clause-outside
+returns-in_err-create-2-clause-outside g c =
+    let one = messages_made g (goal.at.returns-in_err-create-2-clause-outside g c).After-create in
+    let two = keys_made g (goal.at.returns-in_err-create-2-clause-outside g c).After-create-2 in
+    outside_both (folder_of c.args.names.now) 0 (g.D.Disk.state c.args.disk.now) (g.D.Disk.state c.create.new.self) (g.D.Disk.state c.create-2.new.self) one two
+
+pub returns-clause-any_moment : goal.returns-clause-any_moment
+returns-clause-any_moment g c honest base stands =
+    let one = messages_made g (goal.at.returns-clause-any_moment g c).After-create in
+    let two = keys_made g (goal.at.returns-clause-any_moment g c).After-create-2 in
+    let quiet = c.sync_folder_of.ensures.quiet in
+    let h0 = one.time.honest (two.time.honest (quiet.honest honest)) in
+    let path = folder_of c.args.names.now in
+    let d0 = g.D.Disk.state c.args.disk.now in
+    let d1 = g.D.Disk.state c.create.new.self in
+    let d2 = g.D.Disk.state c.create-2.new.self in
+    let d3 = g.D.Disk.state c.sync_folder_of.new.disk in
+    let on = c.requires.log h0 in
+    let both = then_nothing d0 d2 d3 (LogAlone d0 path on) (log_both d0 path on (c.requires.named h0) 0 d1 one d2 two) quiet in
+    log_alone_stands d0 path on d3 base stands (c.requires.none h0) (c.requires.shut h0) both
+
+pub returns-clause-log : goal.returns-clause-log
+returns-clause-log g c honest =
+    let one = messages_made g (goal.at.returns-clause-log g c).After-create in
+    let two = keys_made g (goal.at.returns-clause-log g c).After-create-2 in
+    let quiet = c.sync_folder_of.ensures.quiet in
+    let path = folder_of c.args.names.now in
+    let log = log_of path in
+    let d0 = g.D.Disk.state c.args.disk.now in
+    let d1 = g.D.Disk.state c.create.new.self in
+    let d2 = g.D.Disk.state c.create-2.new.self in
+    on_disk_quiet d2 (g.D.Disk.state c.sync_folder_of.new.disk) log quiet
+    (on_disk_but_one d1 d2 log (keys_of path 0) two.kept (log_not_keys path 0) (on_disk_but_one d0 d1 log (messages_of path 0) one.kept (log_not_messages path 0) (c.requires.log (one.time.honest (two.time.honest (quiet.honest honest))))))
+
+pub returns-clause-same : goal.returns-clause-same
+returns-clause-same g c =
+    let path = folder_of c.args.names.now in
+    c.sync_folder_of.ensures.quiet.seen (log_of path)
+    ∙ (keys_made g (goal.at.returns-clause-same g c).After-create-2).kept.seen (log_of path) (log_not_keys path 0)
+    ∙ (messages_made g (goal.at.returns-clause-same g c).After-create).kept.seen (log_of path) (log_not_messages path 0)
+
+pub returns-clause-outside : goal.returns-clause-outside
+returns-clause-outside g c =
+    let one = messages_made g (goal.at.returns-clause-outside g c).After-create in
+    let two = keys_made g (goal.at.returns-clause-outside g c).After-create-2 in
+    let path = folder_of c.args.names.now in
+    let d0 = g.D.Disk.state c.args.disk.now in
+    let d2 = g.D.Disk.state c.create-2.new.self in
+    let d3 = g.D.Disk.state c.sync_folder_of.new.disk in
+    outside_twice path d0 d2 d3 (outside_both path 0 d0 (g.D.Disk.state c.create.new.self) d2 one two) (outside_quiet path d2 d3 c.sync_folder_of.ensures.quiet)

@@ -1,0 +1,48 @@
+-- A base folder between two commits, and in one.
+use Rattle.std.specs.Prelude.{◌≡◌, ◌≢◌, ◌<◌, ◌≤◌, ℕ, List, ◌∷◌, ◌++◌, length, IsSome}
+use Rattle.disk_io.specs.Disk.{DiskState, Files, bytes_in, IsIn}
+use Rattle.disk_io.specs.Synced.{IsOnDisk}
+use Rattle.base_log.specs.Names.{log_of, messages_of, keys_of}
+use Rattle.base_log.specs.Log.{opened, AreBodies, last_told}
+use Rattle.base_log.specs.Standing.{StandsFor, base_at}
+use Rattle.base_log.specs.declared.log.Told.{Told}
+use Rattle.base_log.specs.declared.log.End.{End}
+
+-- a closed gate stands at this place in the log, behind records of which the last tells this, and the log is on the disk
+pub record IsLogAt (disk : DiskState) (path : List ℕ) (end : End) : Type 0 where
+  pub bodies : List (List ℕ)
+  pub sizes : AreBodies bodies
+  pub closed : ℕ
+  pub rest : List ℕ
+  pub log : bytes_in (disk.seen (log_of path)) ≡ opened bodies ++ closed ∷ rest
+  pub shut : closed ≢ 1
+  pub gate : end.gate ≡ length (opened bodies)
+  pub told : last_told bodies ≡ end.told
+  pub on_disk : IsOnDisk disk (log_of path)
+  pub named : (m : List ℕ) → IsIn path m → disk.is_named m
+
+-- the log is at its end, and what it tells is on the disk
+pub record IsAtRest (disk : DiskState) (path : List ℕ) (end : End) : Type 0 where
+  pub log : IsLogAt disk path end
+  pub digit : end.told.number < 10
+  pub messages_long : end.told.messages ≤ length (bytes_in (disk.seen (messages_of path end.told.number)))
+  pub keys_long : end.told.keys ≤ length (bytes_in (disk.seen (keys_of path end.told.number)))
+  pub messages_on : IsOnDisk disk (messages_of path end.told.number)
+  pub keys_on : IsOnDisk disk (keys_of path end.told.number)
+
+-- So much was written and is not yet told: each crash leaves the base that the log tells, which is seen too, and the files have the bytes
+-- of the next one.
+pub record IsStaged (disk : DiskState) (path : List ℕ) (end : End) (told : Told) : Type 0 where
+  pub log : IsLogAt disk path end
+  pub stands : (c : Files) → disk.may_leave c → StandsFor path (base_at disk path end.told) c
+  pub shown : StandsFor path (base_at disk path end.told) disk.seen
+  pub digit : told.number < 10
+  pub messages_there : IsSome (disk.seen (messages_of path told.number))
+  pub keys_there : IsSome (disk.seen (keys_of path told.number))
+  pub messages_alone : disk.is_alone (messages_of path told.number)
+  pub keys_alone : disk.is_alone (keys_of path told.number)
+  pub messages_long : told.messages ≤ length (bytes_in (disk.seen (messages_of path told.number)))
+  pub keys_long : told.keys ≤ length (bytes_in (disk.seen (keys_of path told.number)))
+  -- in the files that count it is behind what counts
+  pub messages_behind : told.number ≡ end.told.number → end.told.messages ≤ told.messages
+  pub keys_behind : told.number ≡ end.told.number → end.told.keys ≤ told.keys

@@ -1,0 +1,48 @@
+//! Files of another number, for a purge.
+ghost use Rattle.std.specs.Prelude.{◌≡◌, ◌≢◌, ◌<◌, ℕ, List, IfOk};
+ghost use Rattle.disk_io.specs.Disk.{Honestly};
+ghost use Rattle.disk_io.specs.Runs.{LeavesOnly, HasCause};
+ghost use Rattle.base_log.specs.Names.{AreNames, folder_of, keys_of, messages_of};
+ghost use Rattle.base_log.specs.Standing.{base_at};
+ghost use Rattle.base_log.specs.AtRest.{IsAtRest, IsStaged};
+ghost use Rattle.base_log.specs.Moments.{StandsAlone, KeepsOutside};
+
+use crate::log::{End, Told};
+use crate::names::Names;
+use disk_io::{Disk, DiskError, sync_folder_of};
+
+/// Makes empty files of another number, with the same mark. What is staged there becomes the base once it is
+/// committed; until then a crash leaves the base as it was.
+pub fn stage_anew<D: Disk>(
+    disk: &mut D,
+    names: &Names,
+    end: End,
+    number: u8,
+    cursor: u64,
+) -> Result<Told, DiskError>
+    requires names { AreNames names.now number }
+    requires digit { number < 10 }
+    requires other { number ≢ end.told.number }
+    requires settled { Honestly (D.state disk.old) (IsAtRest (D.state disk.old) (folder_of names.now) end) }
+    ensures staged { Honestly (D.state disk.new) (IfOk result (λ told. IsStaged (D.state disk.new) (folder_of names.now) end told)) }
+    ensures told { IfOk result (λ told. told ≡ record { messages = 0; keys = 0; cursor = cursor; number = number; mark = end.told.mark }) }
+    ensures same { Honestly (D.state disk.new) (base_at (D.state disk.new) (folder_of names.now) end.told
+        ≡ base_at (D.state disk.old) (folder_of names.now) end.told) }
+    ensures beside { (m : List ℕ) → m ≢ messages_of (folder_of names.now) number → m ≢ keys_of (folder_of names.now) number
+        → (D.state disk.new).seen m ≡ (D.state disk.old).seen m }
+    ensures any_moment { Honestly (D.state disk.new) (LeavesOnly (D.state disk.old) (D.state disk.new)
+        (StandsAlone (folder_of names.now) (D.state disk.old) (base_at (D.state disk.old) (folder_of names.now) end.told))) }
+    ensures outside { KeepsOutside (folder_of names.now) (D.state disk.old) (D.state disk.new) }
+    ensures cause { HasCause (D.failures disk.old) (D.failures disk.new) result }
+{
+    disk.create(&names.messages)?;
+    disk.create(&names.keys)?;
+    sync_folder_of(disk, &names.folder)?;
+    Ok(Told {
+        messages: 0,
+        keys: 0,
+        cursor,
+        number,
+        mark: end.told.mark,
+    })
+}

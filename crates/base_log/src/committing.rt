@@ -1,0 +1,57 @@
+//! A commit: the staged bytes are synced, a record is written after the closed gate, and its gate is opened.
+ghost use Rattle.std.specs.Prelude.{◌≡◌, ◌<◌, ◌+◌, ◌^◌, ◌++◌, ◌∷◌, [], IfOk};
+ghost use Rattle.disk_io.specs.Disk.{Honestly};
+ghost use Rattle.disk_io.specs.Runs.{LeavesOnly, HasCause};
+ghost use Rattle.base_log.specs.Names.{AreNames, folder_of};
+ghost use Rattle.base_log.specs.Log.{body_of, FitsRecord};
+ghost use Rattle.base_log.specs.Standing.{base_at};
+ghost use Rattle.base_log.specs.AtRest.{IsAtRest, IsStaged};
+ghost use Rattle.base_log.specs.Moments.{IsBeforeOrAfter, KeepsOutside, LeavesOutside};
+
+use crate::log::{End, Told};
+use crate::names::Names;
+use disk_io::{Disk, DiskError, write_synced};
+
+// The bytes of a record, and the closed gate after it.
+fn record_of(told: Told) -> [u8; 50]
+    ensures bytes { result ≡ body_of told ++ 0 ∷ [] }
+    ensures fits { FitsRecord told }
+{
+    let mut record = [0u8; 50];
+    record[0..8].copy_from_slice(&(told.messages as u64).to_le_bytes());
+    record[8..16].copy_from_slice(&(told.keys as u64).to_le_bytes());
+    record[16..24].copy_from_slice(&told.cursor.to_le_bytes());
+    record[24] = told.number;
+    record[25..33].copy_from_slice(&told.mark.owner.to_le_bytes());
+    record[33..41].copy_from_slice(&told.mark.first.to_le_bytes());
+    record[41..49].copy_from_slice(&told.mark.second.to_le_bytes());
+    record
+}
+
+/// Makes the staged bytes the base. At `Ok` it is acknowledged: from then on each crash leaves files that hold it. At
+/// `Err`, open the folder again.
+pub fn commit<D: Disk>(disk: &mut D, names: &Names, end: End, told: Told) -> Result<End, DiskError>
+    requires names { AreNames names.now told.number }
+    requires staged { Honestly (D.state disk.old) (IsStaged (D.state disk.old) (folder_of names.now) end told) }
+    requires room { end.gate + 50 < 2 ^ 64 }
+
+    ensures settled { Honestly (D.state disk.new) (IfOk result (λ after. IsAtRest (D.state disk.new) (folder_of names.now) after)) }
+    ensures told { IfOk result (λ after. after.told ≡ told) }
+    ensures acknowledged { Honestly (D.state disk.new) (IfOk result (λ after. base_at (D.state disk.new) (folder_of names.now) after.told ≡ base_at (D.state disk.old) (folder_of names.now) told)) }
+
+    // A crash at any time of the call leaves the base from before it or the one after it, and all else as it was.
+    ensures any_moment { Honestly (D.state disk.new) (LeavesOnly (D.state disk.old) (D.state disk.new)
+        (IsBeforeOrAfter (folder_of names.now) (D.state disk.old) (base_at (D.state disk.old) (folder_of names.now) end.told) (base_at (D.state disk.old) (folder_of names.now) told))) }
+    ensures outside { KeepsOutside (folder_of names.now) (D.state disk.old) (D.state disk.new) }
+    ensures leaves { LeavesOutside (folder_of names.now) (D.state disk.old) (D.state disk.new) }
+    ensures cause { HasCause (D.failures disk.old) (D.failures disk.new) result }
+{
+    disk.sync(&names.messages)?;
+    disk.sync(&names.keys)?;
+    write_synced(disk, &names.log, end.gate + 1, &record_of(told))?;
+    write_synced(disk, &names.log, end.gate, &[1])?;
+    Ok(End {
+        gate: end.gate + 50,
+        told,
+    })
+}

@@ -1,0 +1,32 @@
+//! The files of a base folder: messages and keys that only grow, and a log of commits.
+//!
+//! The contract for the layers above: whatever a crash leaves at any time, the folder holds the bytes from before a
+//! commit or from after it. A commit counts once its record's gate is open (1). A closed gate (any other byte)
+//! follows the last record. It is synced before anything is written after it.
+//!
+//! Modules in reading order: `names` (the paths of the files), `log` (records, and the last of them), `staging`
+//! (bytes written after those that count), `anew` (files of another number), `committing` (a record, and its gate),
+//! `removing` (files that no longer count), `folder_error`, `judging` (whether files hold a base), `making` (the
+//! files of a folder that has none) and `opening`.
+#![tactic(auto)]
+
+mod anew;
+mod committing;
+mod folder_error;
+mod judging;
+mod log;
+mod making;
+mod names;
+mod opening;
+mod removing;
+mod staging;
+
+pub use anew::stage_anew;
+pub use committing::commit;
+pub use folder_error::FolderError;
+pub use judging::{judge, len_of, read_log};
+pub use log::{End, Log, Mark, Told};
+pub use names::Names;
+pub use opening::open;
+pub use removing::remove_files;
+pub use staging::{stage_keys, stage_messages, stage_nothing};

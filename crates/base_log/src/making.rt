@@ -1,0 +1,101 @@
+//! The log of a folder that is new, and the first files of messages and of keys.
+ghost use Rattle.std.specs.Prelude.{◌≡◌, ◌<◌, ◌∷◌, [], ℕ, List, None, IsSome, OnOk};
+ghost use Rattle.disk_io.specs.Disk.{Honestly, IsIn, bytes_in};
+ghost use Rattle.disk_io.specs.Runs.{ChangesNothing, LeavesOnly, HasCause};
+ghost use Rattle.disk_io.specs.Synced.{IsOnDisk};
+ghost use Rattle.base_log.specs.Names.{AreNames, folder_of, log_of, messages_of, keys_of};
+ghost use Rattle.base_log.specs.Moments.{StandsAlone, KeepsOutside};
+ghost use Rattle.base_log.specs.Standing.{BaseBytes, IsNew, StandsFor};
+ghost use Rattle.base_log.specs.Log.{IsLog, IsShutAt};
+ghost use Rattle.base_log.specs.Opening.{AreFlushed, StayGone, AreNamed, StandsOrWasLeft, KeepsButOne};
+
+use crate::names::Names;
+use disk_io::{Disk, DiskError, sync_folder_of, write_synced};
+use std::alloc::Global;
+
+// Syncs a file as it is, if it exists.
+fn settle_file<D: Disk>(disk: &mut D, path: &[u8]) -> Result<(), DiskError>
+    requires { Honestly (D.state disk.old) ((D.state disk.old).seen path.now ≡ None → (D.state disk.old).is_flushed path.now) }
+    ensures flushed { Honestly (D.state disk.new) (OnOk result ((D.state disk.new).is_flushed path.now)) }
+    ensures quiet { ChangesNothing (D.state disk.old) (D.state disk.new) }
+    ensures cause { HasCause (D.failures disk.old) (D.failures disk.new) result }
+{
+    if !disk.exists(path)? {
+        return Ok(());
+    }
+    disk.sync(path)
+}
+
+// Syncs the two files of a number as they are.
+fn settle_number<D: Disk>(disk: &mut D, names: &Names, _number: u8) -> Result<(), DiskError>
+    requires names { AreNames names.now _number }
+    requires gone { Honestly (D.state disk.old) (StayGone (folder_of names.now) (D.state disk.old)) }
+    ensures messages { Honestly (D.state disk.new) (OnOk result ((D.state disk.new).is_flushed (messages_of (folder_of names.now) _number))) }
+    ensures keys { Honestly (D.state disk.new) (OnOk result ((D.state disk.new).is_flushed (keys_of (folder_of names.now) _number))) }
+    ensures quiet { ChangesNothing (D.state disk.old) (D.state disk.new) }
+    ensures cause { HasCause (D.failures disk.old) (D.failures disk.new) result }
+{
+    settle_file(disk, &names.messages)?;
+    settle_file(disk, &names.keys)
+}
+
+// Syncs the log and the files of each number as they are.
+fn settle_all<D: Disk>(alloc: Global, disk: &mut D, names: &Names) -> Result<(), DiskError>
+    requires log { names.now.log.items ≡ log_of (folder_of names.now) }
+    requires gone { Honestly (D.state disk.old) (StayGone (folder_of names.now) (D.state disk.old)) }
+    ensures flushed { Honestly (D.state disk.new) (OnOk result (AreFlushed (folder_of names.now) (D.state disk.new))) }
+    ensures quiet { ChangesNothing (D.state disk.old) (D.state disk.new) }
+    ensures cause { HasCause (D.failures disk.old) (D.failures disk.new) result }
+{
+    'numbers: for number in 0..10 {
+        let there = Names::new(alloc, &names.folder, number)?;
+        settle_number(disk, &there, number)?;
+    }
+    settle_file(disk, &names.log)
+}
+
+// Makes the log of a new folder, which is a closed gate. Before it is made, the other files have no bytes on the
+// disk.
+pub(crate) fn make_log<D: Disk>(alloc: Global, disk: &mut D, names: &Names) -> Result<(), DiskError>
+    requires log { names.now.log.items ≡ log_of (folder_of names.now) }
+    requires named { Honestly (D.state disk.old) (AreNamed (folder_of names.now) (D.state disk.old)) }
+    requires gone { Honestly (D.state disk.old) (StayGone (folder_of names.now) (D.state disk.old)) }
+    requires new { Honestly (D.state disk.old) (IsNew (folder_of names.now) (D.state disk.old).seen) }
+    ensures made { Honestly (D.state disk.new) (OnOk result (bytes_in ((D.state disk.new).seen (log_of (folder_of names.now))) ≡ 0 ∷ [])) }
+    ensures on_disk { Honestly (D.state disk.new) (OnOk result (IsOnDisk (D.state disk.new) (log_of (folder_of names.now)))) }
+    ensures named { Honestly (D.state disk.new) (OnOk result (AreNamed (folder_of names.now) (D.state disk.new))) }
+    ensures others { KeepsButOne (D.state disk.old) (D.state disk.new) (log_of (folder_of names.now)) }
+    ensures any_moment { Honestly (D.state disk.new) ((base : BaseBytes) → StandsFor (folder_of names.now) base (D.state disk.old).seen
+        → LeavesOnly (D.state disk.old) (D.state disk.new) (StandsOrWasLeft (folder_of names.now) (D.state disk.old) base)) }
+    ensures cause { HasCause (D.failures disk.old) (D.failures disk.new) result }
+{
+    settle_all(alloc, disk, names)?;
+    disk.create(&names.log)?;
+    sync_folder_of(disk, &names.folder)?;
+    disk.sync(&names.log)?;
+    write_synced(disk, &names.log, 0, &[0])
+}
+
+// Makes the two files of a folder whose log has no record.
+pub(crate) fn make_files<D: Disk>(disk: &mut D, names: &Names) -> Result<(), DiskError>
+    requires names { AreNames names.now 0 }
+    requires named { Honestly (D.state disk.old) (AreNamed (folder_of names.now) (D.state disk.old)) }
+    requires log { Honestly (D.state disk.old) (IsOnDisk (D.state disk.old) (log_of (folder_of names.now))) }
+    requires none { Honestly (D.state disk.old) (IsLog [] (bytes_in ((D.state disk.old).seen (log_of (folder_of names.now))))) }
+    requires shut { Honestly (D.state disk.old) (IsShutAt 0 (bytes_in ((D.state disk.old).seen (log_of (folder_of names.now))))) }
+    ensures messages { OnOk result (IsSome ((D.state disk.new).seen (messages_of (folder_of names.now) 0))) }
+    ensures keys { OnOk result (IsSome ((D.state disk.new).seen (keys_of (folder_of names.now) 0))) }
+    ensures messages_alone { OnOk result ((D.state disk.new).is_alone (messages_of (folder_of names.now) 0)) }
+    ensures keys_alone { OnOk result ((D.state disk.new).is_alone (keys_of (folder_of names.now) 0)) }
+    ensures named { OnOk result (AreNamed (folder_of names.now) (D.state disk.new)) }
+    ensures log { Honestly (D.state disk.new) (IsOnDisk (D.state disk.new) (log_of (folder_of names.now))) }
+    ensures same { (D.state disk.new).seen (log_of (folder_of names.now)) ≡ (D.state disk.old).seen (log_of (folder_of names.now)) }
+    ensures outside { KeepsOutside (folder_of names.now) (D.state disk.old) (D.state disk.new) }
+    ensures any_moment { Honestly (D.state disk.new) ((base : BaseBytes) → StandsFor (folder_of names.now) base (D.state disk.old).seen
+        → LeavesOnly (D.state disk.old) (D.state disk.new) (StandsAlone (folder_of names.now) (D.state disk.old) base)) }
+    ensures cause { HasCause (D.failures disk.old) (D.failures disk.new) result }
+{
+    disk.create(&names.messages)?;
+    disk.create(&names.keys)?;
+    sync_folder_of(disk, &names.folder)
+}

@@ -1,0 +1,87 @@
+//! Opens a base folder that a crash, or a stopped program, may have left.
+ghost use Rattle.std.specs.Prelude.{◌≡◌, ◌⊎◌, IsSome, OnOk};
+ghost use Rattle.disk_io.specs.Disk.{Honestly};
+ghost use Rattle.disk_io.specs.Runs.{ChangesNothing, LeavesOnly, HasCause};
+ghost use Rattle.base_log.specs.Log.{IsShutAt};
+ghost use Rattle.base_log.specs.Names.{AreNames, folder_of, log_of};
+ghost use Rattle.base_log.specs.Standing.{BaseBytes, IsNew, StandsFor, base_at};
+ghost use Rattle.base_log.specs.Reading.{IsLogIn, IsRead};
+ghost use Rattle.base_log.specs.AtRest.{IsAtRest, IsLogAt};
+ghost use Rattle.base_log.specs.Moments.{KeepsOutside};
+ghost use Rattle.base_log.specs.Opening.{AreAlone, StandsOrWasLeft, KeepsButOne};
+
+use crate::log::Log;
+use crate::making::{make_files, make_log};
+use crate::names::Names;
+use disk_io::{Disk, DiskError, sync_folder_of};
+use std::alloc::Global;
+
+// Syncs the log as it is: the bytes of a killed program are seen and may not be synced yet. The log of a new folder
+// is made.
+fn settle_log<D: Disk>(
+    alloc: Global,
+    disk: &mut D,
+    names: &Names,
+    log: &Log,
+) -> Result<(), DiskError>
+    requires name { names.now.log.items ≡ log_of (folder_of names.now) }
+    requires alone { Honestly (D.state disk.old) (AreAlone (folder_of names.now) (D.state disk.old)) }
+    requires log { Honestly (D.state disk.old) (IsLogIn (folder_of names.now) (D.state disk.old).seen log.now) }
+    requires read { IsRead log.now }
+    requires ended { Honestly (D.state disk.old) (IsShutAt log.now.end.gate log.now.bytes.items ⊎ IsNew (folder_of names.now) (D.state disk.old).seen) }
+    ensures log { Honestly (D.state disk.new) (OnOk result (IsLogAt (D.state disk.new) (folder_of names.now) log.now.end)) }
+    ensures others { KeepsButOne (D.state disk.old) (D.state disk.new) (log_of (folder_of names.now)) }
+    ensures any_moment { Honestly (D.state disk.new) ((base : BaseBytes) → StandsFor (folder_of names.now) base (D.state disk.old).seen
+        → LeavesOnly (D.state disk.old) (D.state disk.new) (StandsOrWasLeft (folder_of names.now) (D.state disk.old) base)) }
+    ensures cause { HasCause (D.failures disk.old) (D.failures disk.new) result }
+{
+    sync_folder_of(disk, &names.folder)?;
+    if log.is_shut() {
+        disk.sync(&names.log)?;
+        return Ok(());
+    }
+    make_log(alloc, disk, names)?;
+    Ok(())
+}
+
+// Syncs the two files as they are.
+fn settle_files<D: Disk>(disk: &mut D, names: &Names) -> Result<(), DiskError>
+    requires messages { Honestly (D.state disk.old) (IsSome ((D.state disk.old).seen names.now.messages.items)) }
+    requires keys { Honestly (D.state disk.old) (IsSome ((D.state disk.old).seen names.now.keys.items)) }
+    ensures messages { OnOk result ((D.state disk.new).is_flushed names.now.messages.items) }
+    ensures keys { OnOk result ((D.state disk.new).is_flushed names.now.keys.items) }
+    ensures quiet { ChangesNothing (D.state disk.old) (D.state disk.new) }
+    ensures cause { HasCause (D.failures disk.old) (D.failures disk.new) result }
+{
+    disk.sync(&names.messages)?;
+    disk.sync(&names.keys)
+}
+
+/// Opens the base folder whose files hold its base, with its log as it was read. Missing files are made; others are
+/// only synced. It may crash too, at any time.
+pub fn open<D: Disk>(alloc: Global, disk: &mut D, names: &Names, log: &Log) -> Result<(), DiskError>
+    requires names { AreNames names.now log.now.end.told.number }
+    requires alone { Honestly (D.state disk.old) (AreAlone (folder_of names.now) (D.state disk.old)) }
+    requires log { Honestly (D.state disk.old) (IsLogIn (folder_of names.now) (D.state disk.old).seen log.now) }
+    requires read { IsRead log.now }
+    requires stands { Honestly (D.state disk.old) (StandsFor (folder_of names.now) (base_at (D.state disk.old) (folder_of names.now) log.now.end.told) (D.state disk.old).seen) }
+
+    ensures settled { Honestly (D.state disk.new) (OnOk result (IsAtRest (D.state disk.new) (folder_of names.now) log.now.end)) }
+    ensures same { Honestly (D.state disk.new) (OnOk result (base_at (D.state disk.new) (folder_of names.now) log.now.end.told
+        ≡ base_at (D.state disk.old) (folder_of names.now) log.now.end.told)) }
+
+    // A crash at any time leaves the same base and all else as it was, or what a crash might have left before.
+    ensures any_moment { Honestly (D.state disk.new) (LeavesOnly (D.state disk.old) (D.state disk.new)
+        (StandsOrWasLeft (folder_of names.now) (D.state disk.old) (base_at (D.state disk.old) (folder_of names.now) log.now.end.told))) }
+    ensures outside { KeepsOutside (folder_of names.now) (D.state disk.old) (D.state disk.new) }
+    ensures cause { HasCause (D.failures disk.old) (D.failures disk.new) result }
+{
+    settle_log(alloc, disk, names, log)?;
+    if log.end.gate > 0 {
+        settle_files(disk, names)?;
+        return Ok(());
+    }
+    make_files(disk, names)?;
+    settle_files(disk, names)?;
+    Ok(())
+}

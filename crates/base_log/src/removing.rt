@@ -1,0 +1,62 @@
+//! Files that no longer count, removed.
+ghost use Rattle.std.specs.Prelude.{◌≡◌, ◌≢◌, ◌<◌, ℕ, List, None, OnOk};
+ghost use Rattle.disk_io.specs.Disk.{Honestly};
+ghost use Rattle.disk_io.specs.Runs.{LeavesOnly, HasCause};
+ghost use Rattle.base_log.specs.Names.{AreNames, IsBeside, folder_of, keys_of, messages_of};
+ghost use Rattle.base_log.specs.Standing.{base_at};
+ghost use Rattle.base_log.specs.AtRest.{IsAtRest};
+ghost use Rattle.base_log.specs.Moments.{StandsAlone, KeepsOutside, LeavesOutside};
+
+use crate::log::End;
+use crate::names::Names;
+use disk_io::{Disk, DiskError, sync_folder_of};
+
+// Removes a file that does not count, if it exists.
+pub(crate) fn remove_one<D: Disk>(
+    disk: &mut D,
+    folder: &[u8],
+    file: &[u8],
+    end: End,
+) -> Result<(), DiskError>
+    requires file { IsBeside folder.now end.told.number file.now }
+    requires settled { Honestly (D.state disk.old) (IsAtRest (D.state disk.old) folder.now end) }
+    ensures settled { Honestly (D.state disk.new) (OnOk result (IsAtRest (D.state disk.new) folder.now end)) }
+    ensures gone { Honestly (D.state disk.new) (OnOk result ((D.state disk.new).seen file.now ≡ None)) }
+    ensures beside { (m : List ℕ) → m ≢ file.now → (D.state disk.new).seen m ≡ (D.state disk.old).seen m }
+    ensures any_moment { Honestly (D.state disk.new) (LeavesOnly (D.state disk.old) (D.state disk.new)
+        (StandsAlone folder.now (D.state disk.old) (base_at (D.state disk.old) folder.now end.told))) }
+    ensures outside { KeepsOutside folder.now (D.state disk.old) (D.state disk.new) }
+    ensures leaves { LeavesOutside folder.now (D.state disk.old) (D.state disk.new) }
+    ensures cause { HasCause (D.failures disk.old) (D.failures disk.new) result }
+{
+    if !disk.exists(file)? {
+        return Ok(());
+    }
+    disk.remove(file)?;
+    sync_folder_of(disk, folder)
+}
+
+/// Removes the two files of a number that no longer counts, if they exist. A crash during that leaves the base as it
+/// is, and some of them.
+pub fn remove_files<D: Disk>(
+    disk: &mut D,
+    names: &Names,
+    end: End,
+    number: u8,
+) -> Result<(), DiskError>
+    requires names { AreNames names.now number }
+    requires other { number ≢ end.told.number }
+    requires settled { Honestly (D.state disk.old) (IsAtRest (D.state disk.old) (folder_of names.now) end) }
+    ensures settled { Honestly (D.state disk.new) (OnOk result (IsAtRest (D.state disk.new) (folder_of names.now) end)) }
+    ensures messages { Honestly (D.state disk.new) (OnOk result ((D.state disk.new).seen (messages_of (folder_of names.now) number) ≡ None)) }
+    ensures keys { Honestly (D.state disk.new) (OnOk result ((D.state disk.new).seen (keys_of (folder_of names.now) number) ≡ None)) }
+    ensures same { base_at (D.state disk.new) (folder_of names.now) end.told ≡ base_at (D.state disk.old) (folder_of names.now) end.told }
+    ensures any_moment { Honestly (D.state disk.new) (LeavesOnly (D.state disk.old) (D.state disk.new)
+        (StandsAlone (folder_of names.now) (D.state disk.old) (base_at (D.state disk.old) (folder_of names.now) end.told))) }
+    ensures outside { KeepsOutside (folder_of names.now) (D.state disk.old) (D.state disk.new) }
+    ensures leaves { LeavesOutside (folder_of names.now) (D.state disk.old) (D.state disk.new) }
+    ensures cause { HasCause (D.failures disk.old) (D.failures disk.new) result }
+{
+    remove_one(disk, &names.folder, &names.messages, end)?;
+    remove_one(disk, &names.folder, &names.keys, end)
+}

@@ -1,0 +1,90 @@
+//! Messages and keys written after those that count, before a commit. However many are written so, a crash leaves the
+//! base as it was.
+ghost use Rattle.std.specs.Prelude.{◌≡◌, ◌<◌, ◌+◌, ◌^◌, length, IfOk, OnOk};
+ghost use Rattle.disk_io.specs.Disk.{Honestly};
+ghost use Rattle.disk_io.specs.Runs.{LeavesOnly, HasCause};
+ghost use Rattle.disk_io.specs.Steps.{SameBeside};
+ghost use Rattle.base_log.specs.Names.{AreNames, folder_of, keys_of, messages_of};
+ghost use Rattle.base_log.specs.Standing.{base_at, and_messages, and_keys};
+ghost use Rattle.base_log.specs.AtRest.{IsAtRest, IsStaged};
+ghost use Rattle.base_log.specs.Moments.{StandsAlone, KeepsOutside, LeavesOutside};
+
+use crate::log::{End, Mark, Told};
+use crate::names::Names;
+use disk_io::{Disk, DiskError};
+
+/// The record that a commit would write of a base at rest to which nothing was added, with this cursor and this mark.
+/// More is staged from there.
+pub fn stage_nothing<D: Disk>(_disk: &D, _folder: &[u8], end: End, cursor: u64, mark: Mark) -> Told
+    requires { Honestly (D.state _disk.now) (IsAtRest (D.state _disk.now) _folder.now end) }
+    ensures staged { Honestly (D.state _disk.now) (IsStaged (D.state _disk.now) _folder.now end result) }
+    ensures told { result ≡ record end.told { cursor = cursor; mark = mark } }
+{
+    Told {
+        cursor,
+        mark,
+        ..end.told
+    }
+}
+
+/// Writes messages after the staged ones, without a sync.
+pub fn stage_messages<D: Disk>(
+    disk: &mut D,
+    names: &Names,
+    end: End,
+    told: Told,
+    bytes: &[u8],
+) -> Result<Told, DiskError>
+    requires names { AreNames names.now told.number }
+    requires staged { Honestly (D.state disk.old) (IsStaged (D.state disk.old) (folder_of names.now) end told) }
+    requires room { told.messages + length bytes.now < 2 ^ 64 }
+    ensures staged { Honestly (D.state disk.new) (IfOk result (λ more. IsStaged (D.state disk.new) (folder_of names.now) end more)) }
+    ensures told { IfOk result (λ more. more ≡ record told { messages = told.messages + length bytes.now }) }
+    ensures added { Honestly (D.state disk.new) (IfOk result (λ more. base_at (D.state disk.new) (folder_of names.now) more
+        ≡ and_messages (base_at (D.state disk.old) (folder_of names.now) told) bytes.now)) }
+    ensures same { Honestly (D.state disk.new) (OnOk result (base_at (D.state disk.new) (folder_of names.now) end.told
+        ≡ base_at (D.state disk.old) (folder_of names.now) end.told)) }
+    ensures beside { SameBeside (messages_of (folder_of names.now) told.number) (D.state disk.old).seen (D.state disk.new).seen }
+    ensures any_moment { Honestly (D.state disk.new) (LeavesOnly (D.state disk.old) (D.state disk.new)
+        (StandsAlone (folder_of names.now) (D.state disk.old) (base_at (D.state disk.old) (folder_of names.now) end.told))) }
+    ensures outside { KeepsOutside (folder_of names.now) (D.state disk.old) (D.state disk.new) }
+    ensures leaves { LeavesOutside (folder_of names.now) (D.state disk.old) (D.state disk.new) }
+    ensures cause { HasCause (D.failures disk.old) (D.failures disk.new) result }
+{
+    disk.write_at(&names.messages, told.messages, bytes)?;
+    Ok(Told {
+        messages: told.messages + bytes.len(),
+        ..told
+    })
+}
+
+/// Writes keys after the staged ones, without a sync.
+pub fn stage_keys<D: Disk>(
+    disk: &mut D,
+    names: &Names,
+    end: End,
+    told: Told,
+    bytes: &[u8],
+) -> Result<Told, DiskError>
+    requires names { AreNames names.now told.number }
+    requires staged { Honestly (D.state disk.old) (IsStaged (D.state disk.old) (folder_of names.now) end told) }
+    requires room { told.keys + length bytes.now < 2 ^ 64 }
+    ensures staged { Honestly (D.state disk.new) (IfOk result (λ more. IsStaged (D.state disk.new) (folder_of names.now) end more)) }
+    ensures told { IfOk result (λ more. more ≡ record told { keys = told.keys + length bytes.now }) }
+    ensures added { Honestly (D.state disk.new) (IfOk result (λ more. base_at (D.state disk.new) (folder_of names.now) more
+        ≡ and_keys (base_at (D.state disk.old) (folder_of names.now) told) bytes.now)) }
+    ensures same { Honestly (D.state disk.new) (OnOk result (base_at (D.state disk.new) (folder_of names.now) end.told
+        ≡ base_at (D.state disk.old) (folder_of names.now) end.told)) }
+    ensures beside { SameBeside (keys_of (folder_of names.now) told.number) (D.state disk.old).seen (D.state disk.new).seen }
+    ensures any_moment { Honestly (D.state disk.new) (LeavesOnly (D.state disk.old) (D.state disk.new)
+        (StandsAlone (folder_of names.now) (D.state disk.old) (base_at (D.state disk.old) (folder_of names.now) end.told))) }
+    ensures outside { KeepsOutside (folder_of names.now) (D.state disk.old) (D.state disk.new) }
+    ensures leaves { LeavesOutside (folder_of names.now) (D.state disk.old) (D.state disk.new) }
+    ensures cause { HasCause (D.failures disk.old) (D.failures disk.new) result }
+{
+    disk.write_at(&names.keys, told.keys, bytes)?;
+    Ok(Told {
+        keys: told.keys + bytes.len(),
+        ..told
+    })
+}

@@ -1,0 +1,7 @@
+pub mod Runs
+pub mod Causes
+pub mod Digests
+pub mod Found
+pub mod Indexed
+pub mod Placed
+pub mod Told

@@ -1,0 +1,172 @@
+-- Each message stands where its entry tells.
+use Rattle.std.proofs.Common.{◌≡◌, ◌<◌, ◌≤◌, ◌+◌, ◌*◌, ◌/◌, ◌^◌, nat_lt, ℕ, zero, suc, List, [], ◌∷◌, ◌++◌, length, map, take, drop, get_or, refl, sym, ◌∙◌, ap, subst, arith, append_assoc, length-append}
+use Rattle.std.proofs.Math.Seq.{drop-append_seam, take-append_seam, take-append-add}
+use Rattle.std.proofs.lemmas.Bool.{cond-false, cond-true, le-ltb, lt-ltb}
+use Rattle.std.proofs.lemmas.List.{append-nil, length-map, take_at}
+use Rattle.std.proofs.lemmas.Grind.{flat_map-append}
+use Rattle.std.proofs.lemmas.Nat.{from_le_bytes-to_le_bytes_8}
+use Rattle.std.specs.Int.{w64, from_le_bytes, to_le_bytes}
+use Rattle.std.specs.List.{AllByRecursion, flat_map}
+use Rattle.echo_filed.specs.Filed.{Filed}
+use Rattle.echo_filed.specs.Stored.{Stored, IsStored, message_in, stored_bytes}
+use Rattle.echo_filed.specs.declared.stored.Version.TheVariants.{Second}
+use Rattle.base_store.specs.Keys.{FolderStandsFor, HasBytesOf, MayStandAlone, StandsAt, StandWhereTold, digested, entry, keys_from, place_at, place_behind}
+
+-- the bytes of messages, one after another
+abbrev pub bytes_of : List Stored → List ℕ
+bytes_of all = flat_map (stored_bytes Second) all
+
+-- what stands before a message and behind it
+record Parts (all : List Stored) (i : ℕ) : Type 0 where
+  before : List Stored
+  s : Stored
+  later : List Stored
+  parts : all ≡ before ++ (s ∷ later)
+  count : length before ≡ i
+  size : IsStored Second s
+  alone : MayStandAlone s
+
+parts_at : (all : List Stored) (i : ℕ) → i < length all → AllByRecursion (IsStored Second) all → AllByRecursion MayStandAlone all → Parts all i
+parts_at [] i within sizes sound = absurd (omega arith)
+parts_at (s ∷ later) zero within sizes sound =
+    record { before = []; s = s; later = later; parts = refl; count = refl; size = sizes.0; alone = sound.0 }
+parts_at (x ∷ more) (suc i) within sizes sound =
+    let r = parts_at more i (omega arith) sizes.1 sound.1 in
+    record { before = x ∷ r.before; s = r.s; later = r.later; parts = ap (λ (l : List Stored). x ∷ l) r.parts; count = ap suc r.count; size = r.size; alone = r.alone }
+
+-- a message in the middle of a list
+middle : (before : List Stored) (s : Stored) (later : List Stored) (d : Filed) → get_or (map (message_in Second) (before ++ (s ∷ later))) (length before) d ≡ message_in Second s
+middle [] s later d = refl
+middle (x ∷ before) s later d = middle before s later d
+
+pub keys_long : (digest : List ℕ → ℕ) (place : ℕ) (all : List Stored) → length (keys_from digest place all) ≡ 16 * length all
+keys_long digest place [] = refl
+keys_long digest place (s ∷ later) =
+    let one = entry place (digest (digested (message_in Second s))) in
+    let rest = keys_from digest (place + length (stored_bytes Second s)) later in
+    let size : length one ≡ 16 = refl in
+    omega (arith, length-append one rest, size, keys_long digest (place + length (stored_bytes Second s)) later)
+
+pub keys_append : (digest : List ℕ → ℕ) (place : ℕ) (a b : List Stored) → keys_from digest place (a ++ b) ≡ keys_from digest place a ++ keys_from digest (place + length (bytes_of a)) b
+keys_append digest place [] b = let same : place ≡ place + 0 = omega arith in ap (λ (n : ℕ). keys_from digest n b) same
+keys_append digest place (s ∷ a) b =
+    let one = entry place (digest (digested (message_in Second s))) in
+    let next = place + length (stored_bytes Second s) in
+    let sum : next + length (bytes_of a) ≡ place + length (stored_bytes Second s ++ bytes_of a) = omega (arith, length-append (stored_bytes Second s) (bytes_of a)) in
+    ap (λ (l : List ℕ). one ++ l) (keys_append digest next a b ∙ ap (λ (n : ℕ). keys_from digest next a ++ keys_from digest n b) sum)
+    ∙ sym (append_assoc one (keys_from digest next a) (keys_from digest (place + length (stored_bytes Second s ++ bytes_of a)) b))
+
+-- the place in an entry
+entry_place : (place number : ℕ) (rest : List ℕ) → place < 2 ^ 64 → from_le_bytes w64 (take 8 (entry place number ++ rest)) ≡ place
+entry_place place number rest fits =
+    ap (λ (l : List ℕ). from_le_bytes w64 (take 8 l)) (append_assoc (to_le_bytes w64 place) (to_le_bytes w64 number) rest)
+    ∙ ap (λ (l : List ℕ). from_le_bytes w64 l) (take_at (to_le_bytes w64 place) (to_le_bytes w64 number ++ rest) 8 refl)
+    ∙ from_le_bytes-to_le_bytes_8 place fits
+
+-- the entry behind the first ones
+place_told : (digest : List ℕ → ℕ) (before : List Stored) (s : Stored) (later : List Stored) → length (bytes_of before) < 2 ^ 64
+    → place_at (keys_from digest 0 (before ++ (s ∷ later))) (length before) ≡ length (bytes_of before)
+place_told digest before s later fits =
+    let p = 0 + length (bytes_of before) in
+    let front = keys_from digest 0 before in
+    let zero_more : p ≡ length (bytes_of before) = omega arith in
+    let here : p < 2 ^ 64 = omega arith in
+    let long : 16 * length before ≡ length front = sym (keys_long digest 0 before) in
+    let number = digest (digested (message_in Second s)) in
+    let rest = keys_from digest (p + length (stored_bytes Second s)) later in
+    ap (λ (n : ℕ). from_le_bytes w64 (take 8 (drop n (keys_from digest 0 (before ++ (s ∷ later)))))) long
+    ∙ ap (λ (l : List ℕ). from_le_bytes w64 (take 8 (drop (length front) l))) (keys_append digest 0 before (s ∷ later))
+    ∙ ap (λ (l : List ℕ). from_le_bytes w64 (take 8 l)) (drop-append_seam front (entry p number ++ rest))
+    ∙ entry_place p number rest here
+    ∙ zero_more
+
+-- the bytes between
+cut_out : (front here rest : List ℕ) → drop (length front) (take (length front + length here) (front ++ (here ++ rest))) ≡ here
+cut_out front here rest =
+    ap (λ (l : List ℕ). drop (length front) l) (take-append-add front (here ++ rest) (length here) ∙ ap (λ (l : List ℕ). front ++ l) (take-append_seam here rest))
+    ∙ drop-append_seam front here
+
+-- so many bytes up to a message, and through it
+bytes_through : (before : List Stored) (s : Stored) → length (bytes_of (before ++ (s ∷ []))) ≡ length (bytes_of before) + length (stored_bytes Second s)
+bytes_through before s =
+    ap (λ (l : List ℕ). length l) (flat_map-append (stored_bytes Second) before (s ∷ []) ∙ ap (λ (l : List ℕ). bytes_of before ++ l) (append-nil (stored_bytes Second s)))
+    ∙ length-append (bytes_of before) (stored_bytes Second s)
+
+-- the place behind a message
+behind_told : (digest : List ℕ → ℕ) (before : List Stored) (s : Stored) (later : List Stored) → length (bytes_of (before ++ (s ∷ []))) < 2 ^ 64
+    → place_behind (bytes_of (before ++ (s ∷ later))) (keys_from digest 0 (before ++ (s ∷ later))) (length before) ≡ length (bytes_of (before ++ (s ∷ [])))
+behind_told digest before s [] fits =
+    let all = before ++ (s ∷ []) in
+    let keys = keys_from digest 0 all in
+    let last : length keys / 16 ≤ length before + 1 = omega (arith, keys_long digest 0 all, length-append before (s ∷ [])) in
+    cond-false (nat_lt (length before + 1) (length keys / 16)) (place_at keys (length before + 1)) (length (bytes_of all)) (le-ltb (length before + 1) (length keys / 16) last)
+behind_told digest before s (x ∷ more) fits =
+    let all = before ++ (s ∷ (x ∷ more)) in
+    let keys = keys_from digest 0 all in
+    let long : length keys ≡ 16 * length all = keys_long digest 0 all in
+    let count : length all ≡ length before + length (s ∷ (x ∷ more)) = length-append before (s ∷ (x ∷ more)) in
+    let not_last : length before + 1 < length keys / 16 = omega arith in
+    let next : length (before ++ (s ∷ [])) ≡ length before + 1 = length-append before (s ∷ []) in
+    let joined : (before ++ (s ∷ [])) ++ (x ∷ more) ≡ all = append_assoc before (s ∷ []) (x ∷ more) in
+    cond-true (nat_lt (length before + 1) (length keys / 16)) (place_at keys (length before + 1)) (length (bytes_of all)) (lt-ltb (length before + 1) (length keys / 16) not_last)
+    ∙ ap (λ (n : ℕ). place_at keys n) (sym next)
+    ∙ ap (λ (l : List Stored). place_at (keys_from digest 0 l) (length (before ++ (s ∷ [])))) (sym joined)
+    ∙ place_told digest (before ++ (s ∷ [])) x more fits
+
+-- the bytes of a message in the middle
+has_bytes : (digest : List ℕ → ℕ) (before : List Stored) (s : Stored) (later : List Stored) → length (bytes_of (before ++ (s ∷ later))) < 2 ^ 64
+    → HasBytesOf (bytes_of (before ++ (s ∷ later))) (keys_from digest 0 (before ++ (s ∷ later))) (length before) s
+has_bytes digest before s later fits =
+    let all = before ++ (s ∷ later) in
+    let front = bytes_of before in
+    let here = stored_bytes Second s in
+    let messages = bytes_of all in
+    let keys = keys_from digest 0 all in
+    let whole : messages ≡ front ++ (here ++ bytes_of later) = flat_map-append (stored_bytes Second) before (s ∷ later) in
+    let size : length messages ≡ length front + (length here + length (bytes_of later)) =
+    ap (λ (l : List ℕ). length l) whole ∙ length-append front (here ++ bytes_of later) ∙ ap (λ (n : ℕ). length front + n) (length-append here (bytes_of later)) in
+    let through = bytes_through before s in
+    let at : place_at keys (length before) ≡ length front = place_told digest before s later (omega arith) in
+    let end : place_behind messages keys (length before) ≡ length front + length here = behind_told digest before s later (omega arith) ∙ through in
+    record {
+      begins = omega arith;
+      ends = omega arith;
+      bytes =
+          ap (λ (n : ℕ). drop n (take (place_behind messages keys (length before)) messages)) at
+          ∙ ap (λ (n : ℕ). drop (length front) (take n messages)) end
+          ∙ ap (λ (l : List ℕ). drop (length front) (take (length front + length here) l)) whole
+          ∙ cut_out front here (bytes_of later);
+    }
+
+-- the message of a number
+stands_at : (digest : List ℕ → ℕ) (all : List Stored) (i : ℕ) → length (bytes_of all) < 2 ^ 64 → Parts all i
+    → StandsAt (map (message_in Second) all) (bytes_of all) (keys_from digest 0 all) i
+stands_at digest all i fits p =
+    let put_together : (p.before ++ (p.s ∷ p.later)) ≡ all = sym p.parts in
+    let fits_too : length (bytes_of ((p.before ++ (p.s ∷ p.later)))) < 2 ^ 64 = subst (λ (l : List Stored). length (bytes_of l) < 2 ^ 64) p.parts fits in
+    record {
+      s = p.s;
+      size = p.size;
+      alone = p.alone;
+      is = λ d. ap (λ (l : List Stored). get_or (map (message_in Second) l) i d) p.parts
+          ∙ ap (λ (n : ℕ). get_or (map (message_in Second) ((p.before ++ (p.s ∷ p.later)))) n d) (sym p.count)
+          ∙ middle p.before p.s p.later d;
+      bytes = subst (λ (n : ℕ). HasBytesOf (bytes_of all) (keys_from digest 0 all) n p.s) p.count
+          (subst (λ (l : List Stored). HasBytesOf (bytes_of l) (keys_from digest 0 l) (length p.before) p.s) put_together
+          (has_bytes digest p.before p.s p.later fits_too));
+    }
+
+pub stand_where_told : (digest : List ℕ → ℕ) (base : List Filed) (cursor : ℕ) (messages keys : List ℕ) → FolderStandsFor digest base cursor messages keys → StandWhereTold base messages keys
+stand_where_told digest base cursor messages keys stands =
+    let all = stands.all in
+    let mapped = map (message_in Second) all in
+    let fits : length (bytes_of all) < 2 ^ 64 = subst (λ (l : List ℕ). length l < 2 ^ 64) stands.stored stands.long in
+    let told : (i : ℕ) → i < length mapped → StandsAt mapped (bytes_of all) (keys_from digest 0 all) i =
+    λ i within. stands_at digest all i fits (parts_at all i (omega (arith, length-map all (message_in Second))) stands.sizes stands.sound) in
+    let here : StandWhereTold mapped (bytes_of all) (keys_from digest 0 all) = record {
+      many = omega (arith, keys_long digest 0 all, length-map all (message_in Second));
+      each = told;
+    } in
+    subst (λ (l : List Filed). StandWhereTold l messages keys) (sym stands.filed)
+    (subst (λ (l : List ℕ). StandWhereTold mapped l keys) (sym stands.stored)
+    (subst (λ (l : List ℕ). StandWhereTold mapped (bytes_of all) l) (sym stands.entries) here))

@@ -1,0 +1,31 @@
+-- An index of the keys of a base folder by the low bits of digests.
+use Rattle.std.specs.Prelude.{◌≡◌, ◌≢◌, ℕ, ◌+◌, ◌-◌, ◌/◌, ◌<◌, ◌≤◌, List, length, bit_and, slice_index}
+use Rattle.base_store.specs.Expected.{AreFound}
+use Rattle.base_store.specs.Keys.{digest_at}
+use Rattle.base_store.specs.declared.index.Index.{Index}
+
+-- the head of a digest, of this many
+abbrev pub head_of : ℕ → ℕ → ℕ
+head_of heads digest = bit_and digest (heads - 1)
+
+-- the last of the first n messages with a digest of this head, counted from 1, or 0 for none
+pub record IsLastUnder (keys : List ℕ) (heads head n last : ℕ) : Type 0 where
+  pub within : last ≤ n
+  pub has : (i : ℕ) → last ≡ i + 1 → head_of heads (digest_at keys i) ≡ head
+  pub none : (j : ℕ) → last ≤ j → j < n → head_of heads (digest_at keys j) ≢ head
+
+-- each head has the last message under it, and each message the last one before it under the same head
+pub record AreChains (keys heads before : List ℕ) : Type 0 where
+  pub within : length before ≤ length keys / 16
+  pub room : 0 < length before → 0 < length heads
+  pub last_of : (head : ℕ) → head < length heads → IsLastUnder keys (length heads) head (length before) (slice_index heads head)
+  pub last_before : (i : ℕ) → i < length before → IsLastUnder keys (length heads) (head_of (length heads) (digest_at keys i)) i (slice_index before i)
+
+-- how many messages it has
+abbrev pub count_of : Index → ℕ
+count_of index = length index.before.items
+
+-- it has this many of the first messages of the keys, and those among them that were expected
+pub record IsIndexOf (keys : List ℕ) (index : Index) : Type 0 where
+  pub chains : AreChains keys index.heads.items index.before.items
+  pub found : AreFound keys index.expected

@@ -1,0 +1,89 @@
+-- The keys of a base folder: for each message its place, and a digest of its key.
+use Rattle.std.specs.Prelude.{◌≡◌, ℕ, ◌+◌, ◌*◌, ◌/◌, ◌<◌, ◌≤◌, ◌^◌, nat_lt, false, List, [], ◌∷◌, ◌++◌, length, map, take, drop, if◌then◌else◌, Option, Some, None, slice_index_or}
+use Rattle.std.specs.Int.{w64, from_le_bytes, to_le_bytes}
+use Rattle.std.specs.List.{AllByRecursion, flat_map}
+use Rattle.echo_text.specs.Echo.{ended, msgid_of}
+use Rattle.echo_filed.specs.declared.key.Key.{Key}
+use Rattle.echo_filed.specs.declared.key.Key.TheVariants.{ByContent, ById}
+use Rattle.echo_filed.specs.Filed.{Filed}
+use Rattle.echo_filed.specs.Stored.{Stored, IsStored, has_tag, message_in, stored_bytes}
+use Rattle.echo_filed.specs.declared.stored.Version.TheVariants.{Second}
+use Rattle.base_file.specs.Base.{IsBase}
+use Rattle.base_file.specs.BaseFile.{is_damaged}
+
+-- the digested bytes: the id, which is the same in every area, or else the parts of the whole key
+abbrev pub digested_with : Filed → Option (List ℕ) → List ℕ
+digested_with m (Some id) = id
+digested_with m None = m.echo.tag ++ (m.date ++ (m.to_name ++ (m.from_name ++ (m.subject ++ flat_map ended m.echo.kept))))
+
+abbrev pub digested : Filed → List ℕ
+digested m = digested_with m (msgid_of m.echo.kept)
+
+-- the same, of a key
+abbrev pub digested_key : Key → List ℕ
+digested_key (ById tag id) = id
+digested_key (ByContent tag date to_name from_name subject kept) = tag ++ (date ++ (to_name ++ (from_name ++ (subject ++ flat_map ended kept))))
+
+-- sixteen bytes for a message: where it begins in the file of messages, and its digest, low byte first
+abbrev pub entry : ℕ → ℕ → List ℕ
+entry place digest = to_le_bytes w64 place ++ to_le_bytes w64 digest
+
+-- the entries of the messages that are stored from a place on
+abbrev pub keys_from : (List ℕ → ℕ) → ℕ → List Stored → List ℕ
+keys_from digest place [] = []
+keys_from digest place (s ∷ later) = entry place (digest (digested (message_in Second s))) ++ keys_from digest (place + length (stored_bytes Second s)) later
+
+-- the cursor of a base file with this message alone: it was scanned if it has tag and id instead of the text
+abbrev pub cursor_alone : Stored → ℕ
+cursor_alone s = if has_tag Second s.kind then 1 else 0
+
+-- a base file may have it alone
+abbrev pub MayStandAlone : Stored → Type 0
+MayStandAlone s = is_damaged Second (cursor_alone s) [] s ≡ false
+
+-- The two files of a folder with these messages, which are stored as in a base file. The digest is any function of eight bytes.
+pub record FolderStandsFor (digest : List ℕ → ℕ) (base : List Filed) (cursor : ℕ) (messages keys : List ℕ) : Type 0 where
+  pub all : List Stored
+  pub sizes : AllByRecursion (IsStored Second) all
+  pub sound : AllByRecursion MayStandAlone all
+  pub stored : messages ≡ flat_map (stored_bytes Second) all
+  pub filed : base ≡ map (message_in Second) all
+  pub entries : keys ≡ keys_from digest 0 all
+  pub long : length messages < 2 ^ 64
+  pub digests : (bytes : List ℕ) → digest bytes < 2 ^ 64
+  pub holds : IsBase base cursor
+
+-- where the message of this number begins
+abbrev pub place_at : List ℕ → ℕ → ℕ
+place_at keys i = from_le_bytes w64 (take 8 (drop (16 * i) keys))
+
+-- and its digest
+abbrev pub digest_at : List ℕ → ℕ → ℕ
+digest_at keys i = from_le_bytes w64 (take 8 (drop (16 * i + 8) keys))
+
+-- each message has its entry
+abbrev pub TellsEach : (List ℕ → ℕ) → List Filed → List ℕ → Type 0
+TellsEach digest base keys = (i : ℕ) (d : Filed) → i < length base → digest_at keys i ≡ digest (digested (slice_index_or base i d))
+
+-- the place where the next message begins, or the messages end
+abbrev pub place_behind : List ℕ → List ℕ → ℕ → ℕ
+place_behind messages keys i = if nat_lt (i + 1) (length keys / 16) then place_at keys (i + 1) else length messages
+
+-- the bytes of a message lie from the place in its entry to the next one's
+pub record HasBytesOf (messages keys : List ℕ) (i : ℕ) (s : Stored) : Type 0 where
+  pub begins : place_at keys i ≤ place_behind messages keys i
+  pub ends : place_behind messages keys i ≤ length messages
+  pub bytes : drop (place_at keys i) (take (place_behind messages keys i) messages) ≡ stored_bytes Second s
+
+-- the message of this number, in its stored form
+pub record StandsAt (base : List Filed) (messages keys : List ℕ) (i : ℕ) : Type 0 where
+  pub s : Stored
+  pub size : IsStored Second s
+  pub alone : MayStandAlone s
+  pub is : (d : Filed) → slice_index_or base i d ≡ message_in Second s
+  pub bytes : HasBytesOf messages keys i s
+
+-- each message is at the place in its entry
+pub record StandWhereTold (base : List Filed) (messages keys : List ℕ) : Type 0 where
+  pub many : length keys ≡ 16 * length base
+  pub each : (i : ℕ) → i < length base → StandsAt base messages keys i

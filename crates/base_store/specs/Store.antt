@@ -1,0 +1,146 @@
+-- The messages of a store, and how its calls change them.
+use Rattle.std.specs.Prelude.{◌≡◌, ◌≤◌, ◌⊎◌, ◌↔◌, ℕ, List, [], ◌∷◌, ◌++◌, length, map, take, drop, Option, None, Result, IsErrOf}
+use Rattle.disk_io.specs.Device.{Failed}
+use Rattle.disk_io.specs.Disk.{DiskState, Files, Honestly}
+use Rattle.disk_io.specs.Runs.{LeavesOnly, ChangesNothing}
+use Rattle.base_file.specs.Base.{Base}
+use Rattle.echo_filed.specs.Filed.{Filed}
+use Rattle.echo_filed.specs.Stubs.{stub_of}
+use Rattle.base_store.specs.declared.store_error.StoreError.{StoreError}
+use Rattle.base_store.specs.declared.store_error.StoreError.TheVariants as error
+use Rattle.disk_io.specs.declared.disk_error.DiskError.{DiskError}
+use Rattle.disk_io.specs.declared.disk_error.DiskError.TheVariants as disk_error
+
+-- a disk's fault, as a fault of a store
+abbrev pub store_cause : DiskError → StoreError
+store_cause disk_error.Memory = error.Memory
+store_cause disk_error.Device = error.Device
+
+-- a store between two calls
+pub record StoreState : Type 1 where
+  -- the disk that it is on, with the other files there
+  pub disk : DiskState
+  -- calls are allowed: none has failed in the middle of a change
+  pub is_ready : Type 0
+  -- it holds these messages under this cursor, committed or not
+  pub keeps : Base → Type 0
+  -- this base was committed last
+  pub committed : Base → Type 0
+  -- the message that was fetched last
+  pub at_hand : Option Filed
+  -- files that a crash left represent this base
+  pub stands : Base → Files → Type 0
+  -- the paths that belong to it
+  pub is_own : List ℕ → Type 0
+  -- a call that fails in the middle of a change takes it back
+  pub undoes : Type 0
+  -- a crash now leaves the base that was committed last
+  pub stays : Honestly disk (is_ready → (base : Base) → committed base → (c : Files) → disk.may_leave c → stands base c)
+  -- and it is the base that is seen
+  pub shown : Honestly disk (is_ready → (base : Base) → committed base → stands base disk.seen)
+
+-- one message more at the end
+abbrev pub with_message : Base → Filed → Base
+with_message base message = record { messages = base.messages ++ message ∷ []; cursor = base.cursor }
+
+-- the cursor at the end
+abbrev pub all_scanned : Base → Base
+all_scanned base = record { messages = base.messages; cursor = length base.messages }
+
+-- the scanned messages as a purge leaves them
+abbrev pub purged : Base → Base
+purged base = record { messages = map stub_of (take base.cursor base.messages) ++ drop base.cursor base.messages; cursor = base.cursor }
+
+-- files represent the same bases as before, the same paths belong to the store, and it undoes failed changes if it
+-- did before
+pub record IsSameStore (old new : StoreState) : Type 0 where
+  pub stands : (base : Base) (c : Files) → new.stands base c ↔ old.stands base c
+  pub own : (m : List ℕ) → new.is_own m ↔ old.is_own m
+  pub undoes : new.undoes ↔ old.undoes
+
+-- a look at the store: nothing has changed but the current message
+pub record LooksOn (old new : StoreState) : Type 0 where
+  pub ready : new.is_ready
+  pub keeps : (base : Base) → old.keeps base → new.keeps base
+  pub keeps_no_other : (base : Base) → new.keeps base → old.keeps base
+  pub committed : (base : Base) → old.committed base → new.committed base
+  pub quiet : ChangesNothing old.disk new.disk
+  pub same : IsSameStore old new
+
+-- other files that were on the disk are unchanged
+abbrev pub SameBesideStore : StoreState → Files → Type 0
+SameBesideStore old c = (m : List ℕ) → (old.is_own m → ⊥) → old.disk.is_named m → old.disk.is_flushed m → c m ≡ old.disk.seen m
+
+-- a crash left the base that was committed before, and no other file has changed
+pub record StandsBeside (old : StoreState) (base : Base) (c : Files) : Type 0 where
+  pub beside : SameBesideStore old c
+  pub stands : old.stands base c
+
+-- or the one that is being committed
+pub record StandsForEither (old : StoreState) (first next : Base) (c : Files) : Type 0 where
+  pub beside : SameBesideStore old c
+  pub stands : old.stands first c ⊎ old.stands next c
+
+-- other files that were seen and on the disk are so still
+pub record KeepsBeside (old new : StoreState) : Type 0 where
+  pub seen : (m : List ℕ) → (old.is_own m → ⊥) → new.disk.seen m ≡ old.disk.seen m
+  pub named : (m : List ℕ) → (old.is_own m → ⊥) → old.disk.is_named m → new.disk.is_named m
+  pub flushed : (m : List ℕ) → (old.is_own m → ⊥) → old.disk.is_flushed m → new.disk.is_flushed m
+  pub alone : (m : List ℕ) → (old.is_own m → ⊥) → old.disk.is_alone m → new.disk.is_alone m
+  pub honest : new.disk.is_honest → old.disk.is_honest
+
+-- until the next commit a crash leaves the base that was committed before
+pub record CommitsNothing (old new : StoreState) : Type 0 where
+  pub any_moment : Honestly new.disk ((base : Base) → old.committed base → LeavesOnly old.disk new.disk (StandsBeside old base))
+  pub beside : KeepsBeside old new
+  pub same : IsSameStore old new
+
+-- a crash leaves the base that was committed before, or the one that the store holds
+pub record MayCommit (old new : StoreState) : Type 0 where
+  pub any_moment : Honestly new.disk ((first next : Base) → old.committed first → old.keeps next → LeavesOnly old.disk new.disk (StandsForEither old first next))
+  pub beside : KeepsBeside old new
+  pub same : IsSameStore old new
+
+-- the store goes on, and the committed base is the same
+pub record GoesOn (old new : StoreState) : Type 0 where
+  pub ready : new.is_ready
+  pub committed : Honestly new.disk ((base : Base) → old.committed base → new.committed base)
+  pub honest : new.disk.is_honest → old.disk.is_honest
+
+-- the held base is committed
+pub record Commits (old new : StoreState) : Type 0 where
+  pub ready : new.is_ready
+  pub keeps : Honestly new.disk ((base : Base) → old.keeps base → new.keeps base)
+  pub committed : Honestly new.disk ((base : Base) → old.keeps base → new.committed base)
+  pub honest : new.disk.is_honest → old.disk.is_honest
+
+-- the committed base is the same, or the held base is now committed
+abbrev pub KeepsOrCommits : StoreState → StoreState → Type 0
+KeepsOrCommits old new = ((base : Base) → old.committed base → new.committed base) ⊎ ((base : Base) → old.keeps base → new.committed base)
+
+-- a store that undoes failed changes still holds its base
+abbrev pub Undoes : StoreState → StoreState → Type 0
+Undoes old new = Honestly new.disk (old.undoes → (base : Base) → old.keeps base → new.keeps base)
+
+-- A failure of the device is answered only where its count of failures rose. On an honest disk, damage is answered
+-- only of a store that holds no base.
+pub record HasStoreCause {T : Type 0} (old new : StoreState) (before now : ℕ) (result : Result T StoreError) : Type 0 where
+  pub later : before ≤ now
+  pub failed : IsErrOf result error.Device → Failed before now
+  pub damaged : Honestly new.disk (IsErrOf result error.Damaged → (base : Base) → old.keeps base → ⊥)
+
+-- of a store that is on no disk
+abbrev pub no_disk : DiskState
+no_disk = record {
+  seen = λ m. None;
+  may_leave = λ c. ⊥;
+  moment = 0;
+  left_since = λ t c. ⊥;
+  is_named = λ m. Unit {0};
+  is_flushed = λ m. Unit {0};
+  is_alone = λ m. Unit {0};
+  on_disk = λ path named flushed c left. absurd left;
+  counts_now = λ t c le left. left;
+  only_now = λ c left. left;
+  is_honest = Unit {0};
+}

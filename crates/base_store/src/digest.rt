@@ -1,0 +1,51 @@
+//! The digested bytes of a key, and their digest.
+ghost use Rattle.std.specs.Prelude.{◌≡◌, ◌<◌, ◌^◌, ℕ, List, IfOk};
+ghost use Rattle.base_store.specs.Keys.{digested_key};
+
+use echo_filed::Key;
+use std::alloc::{AllocError, Global};
+
+/// A digest of eight bytes by a key, the same for the same bytes. Two lists of bytes may have one digest.
+pub trait Digest: Drop {
+    ghost digest: { Self → List ℕ → ℕ };
+
+    // The digest by the key of these two halves.
+    ghost keyed: { ℕ → ℕ → List ℕ → ℕ };
+
+    /// The digest by the key of these two halves.
+    fn keyed(first: u64, second: u64) -> Self
+        ensures { digest result ≡ keyed first second };
+
+    /// The digest of the bytes.
+    fn of(&self, bytes: &[u8]) -> u64
+        ensures { result ≡ digest self.now bytes.now };
+
+    // Eight bytes have room for it.
+    ghost fits: { (first second : ℕ) (bytes : List ℕ) → keyed first second bytes < 2 ^ 64 };
+}
+
+/// The digested bytes of a message with this key: the id, whatever the area, or else the parts of
+/// the whole key.
+pub fn bytes_of_key(alloc: Global, key: &Key) -> Result<Vec<u8>, AllocError>
+    ensures { IfOk result (λ bytes. bytes.items ≡ digested_key key.now) }
+{
+    match key {
+        Key::ById { tag: _, msgid } => Vec::from_slice(alloc, msgid.as_slice()),
+        Key::ByContent {
+            tag,
+            date,
+            to_name,
+            from_name,
+            subject,
+            kept,
+        } => {
+            let mut bytes = Vec::from_slice(alloc, tag.as_slice())?;
+            bytes.extend_from_slice(date.as_slice())?;
+            bytes.extend_from_slice(to_name.as_slice())?;
+            bytes.extend_from_slice(from_name.as_slice())?;
+            bytes.extend_from_slice(subject.as_slice())?;
+            bytes.extend_from_slice(kept.lines().as_text())?;
+            Ok(bytes)
+        }
+    }
+}

@@ -1,0 +1,29 @@
+//! Laws about the definitions. Each law is the contract of a function that does nothing.
+ghost use Rattle.std.specs.Prelude.{◌≡◌, ◌++◌, ℕ, List};
+ghost use Rattle.echo_filed.specs.Filed.{Filed, key_of};
+ghost use Rattle.base_store.specs.Index.{IsIndexOf};
+ghost use Rattle.base_store.specs.declared.index.Index.{Index};
+ghost use Rattle.base_store.specs.Keys.{FolderStandsFor, StandWhereTold, TellsEach, digested, digested_key};
+
+/// In the keys of a base folder each message has an entry at its number, with the digest of its key.
+pub fn each_message_has_its_entry()
+    ensures { (digest : List ℕ → ℕ) (base : List Filed) (cursor : ℕ) (messages keys : List ℕ)
+        → FolderStandsFor digest base cursor messages keys → TellsEach digest base keys }
+{}
+
+/// The digested bytes of a message follow from its key, so messages with one key have one digest.
+pub fn equal_keys_have_one_digest()
+    ensures { (m : Filed) → digested m ≡ digested_key (key_of m) }
+{}
+
+/// In a base folder each message begins at the place in its entry, and ends where the next one
+/// begins.
+pub fn each_message_stands_where_told()
+    ensures { (digest : List ℕ → ℕ) (base : List Filed) (cursor : ℕ) (messages keys : List ℕ)
+        → FolderStandsFor digest base cursor messages keys → StandWhereTold base messages keys }
+{}
+
+/// An index stays an index when keys are appended.
+pub fn an_index_stays_one()
+    ensures { (keys more : List ℕ) (index : Index) → IsIndexOf keys index → IsIndexOf (keys ++ more) index }
+{}

@@ -1,0 +1,167 @@
+//! The files of the system for a command that replaces a base file. The staging file gets the mode and owner of the
+//! base file. It replaces no file except one that a stopped run left, and it is removed if the command fails.
+
+use cmd_input::BASE_START;
+use disk_system::{Access, OutputFault, access_of, check_left, give_access, make_new};
+use std::alloc::Allocator;
+use std::cell::Cell;
+use std::fs::{File, Metadata, OpenOptions};
+use std::io::ErrorKind;
+use std::rt::Files;
+use std::{fs, io};
+
+/// The end of a staging path.
+const BESIDE: &str = "~.new";
+
+/// The files of the system.
+#[derive(Drop)]
+pub struct BaseFiles<'r> {
+    rt: &'r HostRuntime,
+    // The staging file of the base file, until it replaces that.
+    made: Cell<Option<Made>>,
+}
+
+/// A file that was made, which stays open.
+#[derive(Drop)]
+struct Made {
+    path: String,
+    file: File,
+}
+
+impl<'r> BaseFiles<'r> {
+    pub fn new(rt: &'r HostRuntime) -> BaseFiles<'r> {
+        BaseFiles {
+            rt,
+            made: Cell::new(None),
+        }
+    }
+
+    /// Removes the staging file, unless it replaced the base file.
+    pub fn tidy(&self) {
+        if let Some(made) = self.made.take() {
+            let _ = fs::remove_file(self.rt, made.path.as_str());
+        }
+    }
+
+    // The mode and owner of the file that will be replaced, if there is one. A symbolic link is not replaced: if it
+    // leads to a file, that file's path is returned.
+    fn access_at(&self, target: &str) -> io::Result<Option<Access>> {
+        if is_link(self.rt, target) {
+            return Err(ErrorKind::Other.into());
+        }
+        access_of(self.rt, target).map_err(system_error)
+    }
+
+    // Makes the staging file with the mode of another, and with its owner if that is allowed.
+    fn make(&self, path: &str, target: &str) -> io::Result<File> {
+        let access = self.access_at(target)?;
+        let made = Made {
+            path: String::from_str(self.rt.alloc(), path)?,
+            file: make_new(self.rt, path)?,
+        };
+        let given = match access {
+            Some(access) => give_access(&made.file, access),
+            None => Ok(()),
+        };
+        let file = made.file.try_clone();
+        self.made.set(Some(made));
+        given?;
+        file
+    }
+
+    // The new file with this path, open at its beginning until it is written.
+    fn made_at(&self, path: &str) -> Option<io::Result<File>> {
+        let made = self.made.take()?;
+        let file = if made.path.as_str() == path {
+            Some(made.file.try_clone())
+        } else {
+            None
+        };
+        self.made.set(Some(made));
+        file
+    }
+}
+
+// Whether a symbolic link has the path.
+fn is_link(rt: &HostRuntime, path: &str) -> bool {
+    match fs::symlink_metadata(rt, path) {
+        Ok(found) => found.is_symlink(),
+        Err(_) => false,
+    }
+}
+
+/// The path that the staging file with this path replaces.
+pub fn target_beside(path: &str) -> Option<&str> {
+    let front = path.strip_suffix(BESIDE)?;
+    let (target, _) = front.rsplit_once(".~")?;
+    Some(target)
+}
+
+/// A fault as an error of the system.
+pub fn system_error(fault: OutputFault) -> io::Error {
+    match fault {
+        OutputFault::Memory => ErrorKind::OutOfMemory.into(),
+        OutputFault::Device => ErrorKind::Other.into(),
+    }
+}
+
+impl Files for BaseFiles<'_> {
+    type File = File;
+
+    type Dir = <HostRuntime as Files>::Dir;
+
+    fn open_file(&self, how: &OpenOptions, path: &str) -> io::Result<File> {
+        if let Some(file) = self.made_at(path) {
+            return file;
+        }
+        match target_beside(path) {
+            Some(target) if how.asks_create_new() => self.make(path, target),
+            _ => self.rt.open_file(how, path),
+        }
+    }
+
+    fn open_dir(&self, path: &str) -> io::Result<<HostRuntime as Files>::Dir> {
+        self.rt.open_dir(path)
+    }
+
+    fn metadata(&self, path: &str) -> io::Result<Metadata> {
+        self.rt.metadata(path)
+    }
+
+    fn symlink_metadata(&self, path: &str) -> io::Result<Metadata> {
+        self.rt.symlink_metadata(path)
+    }
+
+    fn copy(&self, from: &str, to: &str) -> io::Result<u64> {
+        self.rt.copy(from, to)
+    }
+
+    // The new file replaces the old one.
+    fn rename(&self, from: &str, to: &str) -> io::Result<()> {
+        self.rt.rename(from, to)?;
+        self.made.set(None);
+        Ok(())
+    }
+
+    // A file at a staging path stays, unless a stopped run left it and its base file may be replaced.
+    fn remove_file(&self, path: &str) -> io::Result<()> {
+        if let Some(target) = target_beside(path) {
+            self.rt.symlink_metadata(path)?;
+            let _ = self.access_at(target)?;
+            check_left(self.rt.alloc(), self.rt, path, BASE_START).map_err(system_error)?;
+        }
+        self.rt.remove_file(path)
+    }
+
+    fn create_dir(&self, path: &str) -> io::Result<()> {
+        self.rt.create_dir(path)
+    }
+
+    fn remove_dir(&self, path: &str) -> io::Result<()> {
+        self.rt.remove_dir(path)
+    }
+
+    fn remove_dir_all<B: Allocator>(&self, alloc: B, path: &str) -> io::Result<()> {
+        self.rt.remove_dir_all(alloc, path)
+    }
+}

@@ -1,0 +1,152 @@
+//! Lists the packets that earlier scans left in staging files. The number in a name counts the messages scanned
+//! before. So it shows whether that scan moved the cursor.
+ghost use Rattle.std.specs.Prelude.{◌≡◌, IfOk};
+ghost use Rattle.station_scan.specs.Listing.{AreListed};
+
+use disk_io::DiskError;
+use echo_addr::Items;
+use station_scan::{LeftPacket, Listing};
+use std::alloc::{AllocError, Global};
+use std::fs::DirEntry;
+use std::io::ErrorKind;
+use std::{fs, io, str};
+
+/// What was reported of a folder, and how often it could not be read.
+#[derive(Drop)]
+pub struct LeftFiles<'r> {
+    rt: &'r HostRuntime,
+    folder: Items<u8>,
+    own: Items<u8>,
+    told: Items<LeftPacket>,
+    failures: u64,
+}
+
+impl<'r> LeftFiles<'r> {
+    pub fn new(rt: &'r HostRuntime) -> LeftFiles<'r> {
+        LeftFiles {
+            rt,
+            folder: Items::new(Vec::new(rt.alloc())),
+            own: Items::new(Vec::new(rt.alloc())),
+            told: Items::new(Vec::new(rt.alloc())),
+            failures: 0,
+        }
+    }
+}
+
+// A copy of one packet.
+fn copy_of(alloc: Global, left: &LeftPacket) -> Result<LeftPacket, AllocError>
+    ensures { IfOk result (λ copy. copy ≡ left.now) }
+{
+    Ok(LeftPacket {
+        name: Items::new(Vec::from_slice(alloc, left.name.as_slice())?),
+        before: left.before,
+    })
+}
+
+// A copy of each packet.
+fn copies_of(alloc: Global, found: &[LeftPacket]) -> Result<Vec<LeftPacket>, AllocError>
+    ensures { IfOk result (λ copies. copies.items ≡ found.now) }
+{
+    let mut copies = Vec::with_capacity(alloc, found.len())?;
+    'found: for left in found {
+        let copy = copy_of(alloc, left)?;
+        copies.push(copy)?;
+    }
+    Ok(copies)
+}
+
+// The report is true if these files are as it says.
+impl Listing for LeftFiles<'_> {
+    ghost is_true = { λ listing files. AreListed listing.folder listing.own files listing.told };
+
+    ghost failures = { λ listing. listing.failures };
+
+    fn left_beside(
+        &mut self,
+        alloc: Global,
+        folder: &[u8],
+        own: &[u8],
+    ) -> Result<Vec<LeftPacket>, DiskError> {
+        match packets_beside(self.rt, folder, own) {
+            Ok(found) => {
+                self.folder = Items::new(Vec::from_slice(alloc, folder)?);
+                self.own = Items::new(Vec::from_slice(alloc, own)?);
+                self.told = Items::new(copies_of(alloc, &found)?);
+                Ok(found)
+            }
+            Err(DiskError::Memory) => Err(DiskError::Memory),
+            Err(DiskError::Device) => {
+                self.failures = self.failures.saturating_add(1);
+                Err(DiskError::Device)
+            }
+        }
+    }
+}
+
+// The packets of the system of this own name in staging files of the folder, as their names say. A missing folder has
+// none.
+fn packets_beside(
+    rt: &HostRuntime,
+    folder: &[u8],
+    own: &[u8],
+) -> Result<Vec<LeftPacket>, DiskError> {
+    let (Ok(folder), Ok(own)) = (str::from_utf8(folder), str::from_utf8(own)) else {
+        return Err(DiskError::Device);
+    };
+    let ending = format!(in rt.alloc(); ".pkt.~{own}~.new")?;
+    let mut found = Vec::new(rt.alloc());
+    let listing = match fs::read_dir(rt, folder) {
+        Ok(listing) => listing,
+        Err(error) if error.kind() == ErrorKind::NotFound => return Ok(found),
+        Err(error) => return Err(unlisted(&error)),
+    };
+    for entry in listing {
+        push_entry(rt, entry, ending.as_str(), &mut found)?;
+    }
+    Ok(found)
+}
+
+// Adds the packet at an entry of the folder, if it is one.
+fn push_entry(
+    rt: &HostRuntime,
+    entry: io::Result<DirEntry>,
+    ending: &str,
+    found: &mut Vec<LeftPacket>,
+) -> Result<(), DiskError> {
+    match entry {
+        Ok(entry) => {
+            if let Some((front, before)) = packet_beside(entry.file_name(), ending) {
+                found.push(left_packet(rt, front, before)?)?;
+            }
+            Ok(())
+        }
+        // A name that is no text is not ours.
+        Err(error) if error.kind() == ErrorKind::InvalidFilename => Ok(()),
+        Err(error) => Err(unlisted(&error)),
+    }
+}
+
+// A packet with this front of its name. No scan moves a cursor past the greatest number of four bytes.
+fn left_packet(rt: &HostRuntime, front: &str, before: u64) -> Result<LeftPacket, AllocError> {
+    let mut name = Vec::from_slice(rt.alloc(), front.as_bytes())?;
+    name.extend_from_slice(b".pkt")?;
+    Ok(LeftPacket {
+        name: Items::new(name),
+        before: u32::try_from(before).unwrap_or(u32::MAX),
+    })
+}
+
+fn unlisted(error: &io::Error) -> DiskError {
+    match error.kind() {
+        ErrorKind::OutOfMemory => DiskError::Memory,
+        _ => DiskError::Device,
+    }
+}
+
+// The part before `.pkt` in the name of a staged packet, and the number at its end.
+fn packet_beside<'n>(name: &'n str, ending: &str) -> Option<(&'n str, u64)> {
+    let front = name.strip_suffix(ending)?;
+    let (_, number) = front.rsplit_once('.')?;
+    let before = number.parse::<u64>().ok()?;
+    Some((front, before))
+}

@@ -1,0 +1,96 @@
+//! The work of the program on an open base folder, before a command.
+ghost use Rattle.std.specs.Prelude.{◌≡◌, Some};
+
+use crate::expecting::expected_keys;
+use base_folder_store::FolderStore;
+use base_store::{SipDigest, Store};
+use cmd_input::{Tossing, flush_name};
+use cmd_status::Fault;
+use disk_io::Disk;
+use echo_filed::Key;
+use station::BeforeCommand;
+use std::fs;
+use std::os::unix::fs::MetadataExt;
+
+/// Before packets are tossed into a folder, it learns which messages they have. The name of a folder without messages
+/// is synced.
+#[derive(Drop)]
+pub struct Opened<'a, 'b, 'r> {
+    rt: &'r HostRuntime,
+    base: &'a str,
+    toss: Option<Tossing<'b>>,
+    // The folder of packets, which must be another one.
+    outbound: Option<&'a str>,
+    met: Option<Fault<'a>>,
+}
+
+impl<'a, 'b, 'r> Opened<'a, 'b, 'r> {
+    /// For the folder of this name, with the packets that are tossed into it, if there are any.
+    pub fn new(
+        rt: &'r HostRuntime,
+        base: &'a str,
+        toss: Option<Tossing<'b>>,
+    ) -> Opened<'a, 'b, 'r> {
+        Opened {
+            rt,
+            base,
+            toss,
+            outbound: None,
+            met: None,
+        }
+    }
+
+    /// The same for a command that writes packets into this folder.
+    pub fn apart_from(self, outbound: &'a str) -> Opened<'a, 'b, 'r> {
+        Opened {
+            outbound: Some(outbound),
+            ..self
+        }
+    }
+
+    // Whether the folder can be used: its name is synced if it has no messages, and packets do not go into it.
+    fn settle(&self, messages: usize) -> Result<(), Fault<'a>> {
+        if let Some(outbound) = self.outbound {
+            if are_one_folder(self.rt, self.base, outbound) {
+                return Err(Fault::CannotUse(outbound));
+            }
+        }
+        flush_name(self.rt, self.base, messages)
+    }
+
+    // The keys of the messages in the packets, if a folder with so many messages needs them.
+    fn keys(&self, messages: usize) -> Vec<Key> {
+        if let Some(by) = self.toss {
+            if let Ok(keys) = expected_keys(self.rt, by.names, by.limits, messages) {
+                return keys;
+            }
+        }
+        Vec::new(self.rt.alloc())
+    }
+}
+
+// Whether two paths lead to one folder.
+fn are_one_folder(rt: &HostRuntime, one: &str, other: &str) -> bool {
+    match (fs::metadata(rt, one), fs::metadata(rt, other)) {
+        (Ok(one), Ok(other)) => (one.dev(), one.ino()) == (other.dev(), other.ino()),
+        _ => false,
+    }
+}
+
+impl<'a, D: Disk> BeforeCommand<'a, FolderStore<D, SipDigest>> for Opened<'a, '_, '_> {
+    ghost stops = { λ opened fault. opened.met ≡ Some fault };
+
+    ghost lets = { λ opened. Unit {0} };
+
+    fn prepare(&mut self, store: &mut FolderStore<D, SipDigest>) -> Result<(), Fault<'a>> {
+        let keys = self.keys(store.len());
+        store.expect(&keys);
+        match self.settle(store.len()) {
+            Ok(()) => Ok(()),
+            Err(fault) => {
+                self.met = Some(fault);
+                Err(fault)
+            }
+        }
+    }
+}

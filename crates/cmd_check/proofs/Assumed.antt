@@ -1,0 +1,155 @@
+-- Link files of assumed systems, behind others.
+use Rattle.std.proofs.Common.{◌≡◌, ℕ, ◌+◌, ◌<◌, ◌++◌, ◌∙◌, ◌∷◌, ◌⊎◌, [], ap, append-nil, append_assoc, Bool, Err, false, get_or, inl, inr, length, List, None, Ok, Option, refl, Result, subst, sym, take, true}
+use Rattle.std.specs.Prelude.{Contains, ◌↔◌}
+use Rattle.std.specs.List.{flat_map}
+use Rattle.std.proofs.lemmas.List.{take_more}
+use Rattle.echo_addr.specs.declared.address.Address.{Address}
+use Rattle.echo_links.specs.declared.fault.LinkFault.{LinkFault}
+use Rattle.echo_links.specs.declared.fault.LinkFault.TheVariants as link
+use Rattle.echo_links.specs.LinkLines.{LinksOf}
+use Rattle.echo_links.specs.Links.{LinkFile, upper}
+use Rattle.echo_net.specs.Faults.{IsCarried}
+use Rattle.cmd_status.specs.Devices.{Output}
+use Rattle.cmd_status.specs.declared.fault.Fault.{Fault}
+use Rattle.cmd_status.specs.declared.status.Status.{Status}
+use Rattle.cmd_status.specs.declared.status.Status.TheVariants.{Good}
+use Rattle.cmd_status.specs.Ended.{IsOutOfMemory}
+use Rattle.cmd_status.specs.Inputs.{AreLinkFiles, IsFirstFaultGiven, IsLinkFault}
+use Rattle.cmd_status.proofs.Giving.{read_more}
+use Rattle.cmd_check.specs.Assuming.{AddsAssumed, AddsEach, AreAssumed, AreEachAssumed, IsAssumed, assumed_line}
+use Rattle.cmd_check.specs.Checking.{IsChecked, RunsAreOrderly}
+use Rattle.cmd_check.specs.CheckingAssumed.{CheckAssumingAnswers, IsAssumedFault, IsCheckedAssuming, IsCheckedWith, IsPromisedAssuming, ReadsMore}
+use Rattle.cmd_check.proofs.Checks.{one_reading}
+use Rattle.model_run.specs.Tidy.{Tidy}
+
+pub not_so : (b : Bool) → b ≡ false → b ≡ true → ⊥
+not_so true is h = cc
+not_so false is h = cc
+
+-- what stands behind nothing
+pub behind_none : {X : Type 0} (none all more : List X) → none ≡ [] → all ≡ none ++ more → all ≡ more
+behind_none none all more nothing whole = whole ∙ ap (λ n. n ++ more) nothing
+
+-- what a sorted list holds, the list holds
+pub held_again : {X : Type 0} (before after all : List X) → before ≡ all → ((x : X) → Contains after x ↔ Contains before x) → (x : X) → Contains after x ↔ Contains all x
+held_again {X} before after all is same x = (
+  λ h. subst (λ (xs : List X). Contains xs x) is ((same x).0 h),
+  λ h. (same x).1 (subst (λ (xs : List X). Contains xs x) (sym is) h),
+)
+
+module _ (files : List LinkFile) (tag : List ℕ) where
+  one_more : (assumed : List Address) (texts : List (List ℕ)) (a : Address) (text : List ℕ) → AreEachAssumed files tag assumed texts → IsAssumed files tag a text
+      → AreEachAssumed files tag (assumed ++ a ∷ []) (texts ++ text ∷ [])
+  one_more [] [] a text are is = (is, tt)
+  one_more [] (t ∷ ts) a text are is = absurd are
+  one_more (b ∷ bs) [] a text are is = absurd are
+  one_more (b ∷ bs) (t ∷ ts) a text are is = (are.0, one_more bs ts a text are.1 is)
+
+  -- no system so far
+  pub each_none : (old : List (List ℕ)) → AddsEach files tag [] old old
+  each_none old = record { texts = []; are = tt; whole = sym (append-nil old) }
+
+  -- the next system too
+  pub each_more : (assumed : List Address) (k : ℕ) (a : Address) (text : List ℕ) (old mid new : List (List ℕ)) → k < length assumed → a ≡ get_or assumed k a
+      → AddsEach files tag (take k assumed) old mid → IsAssumed files tag a text → new ≡ mid ++ text ∷ [] → AddsEach files tag (take (k + 1) assumed) old new
+  each_more assumed k a text old mid new inside is before done pushed = record {
+    texts = before.texts ++ text ∷ [];
+    are = subst (λ (t : List Address). AreEachAssumed files tag t (before.texts ++ text ∷ []))
+        (sym (take_more assumed k a inside ∙ ap (λ x. take k assumed ++ x ∷ []) (sym is)))
+        (one_more (take k assumed) before.texts a text before.are done);
+    whole = pushed ∙ ap (λ l. l ++ text ∷ []) before.whole ∙ append_assoc old before.texts (text ∷ []);
+  }
+
+  -- where some file has the area
+  pub assumed_added : (assumed : List Address) (old new : List (List ℕ)) → IsCarried files tag → AddsEach files tag assumed old new → AddsAssumed files tag assumed old new
+  assumed_added assumed old new carried each = record {
+    texts = each.texts;
+    are = record { carried = λ c. each.are; nowhere = λ n. absurd (n carried) };
+    whole = each.whole;
+  }
+
+  -- and where none has it
+  pub nothing_added : (assumed : List Address) (old : List (List ℕ)) → (IsCarried files tag → ⊥) → AddsAssumed files tag assumed old old
+  nothing_added assumed old nowhere = record {
+    texts = [];
+    are = record { carried = λ c. absurd (nowhere c); nowhere = λ n. refl };
+    whole = sym (append-nil old);
+  }
+
+-- no further file so far
+pub read_none : (old : List LinkFile) → ReadsMore [] old old
+read_none old = record { files = []; are = tt; whole = sym (append-nil old) }
+
+-- the next file too
+pub text_read : (texts : List (List ℕ)) (k : ℕ) (text : List ℕ) (file : LinkFile) (old mid new : List LinkFile) → k < length texts → text ≡ get_or texts k text
+    → ReadsMore (take k texts) old mid → (let read : Result LinkFile LinkFault = Ok file in read ≡ Err link.Memory) ⊎ LinksOf text (Ok file)
+    → new ≡ mid ++ file ∷ [] → ReadsMore (take (k + 1) texts) old new
+text_read texts k text file old mid new inside is before read pushed = record {
+  files = before.files ++ file ∷ [];
+  are = read_more texts k text before.files file inside is before.are read;
+  whole = pushed ∙ ap (λ l. l ++ file ∷ []) before.whole ∙ append_assoc old before.files (file ∷ []);
+}
+
+-- files that are read behind others
+pub both_read : (inputs texts : List (List ℕ)) (links others : List LinkFile) → AreLinkFiles inputs links → AreLinkFiles texts others
+    → AreLinkFiles (inputs ++ texts) (links ++ others)
+both_read [] texts [] others are more = more
+both_read [] texts (l ∷ ls) others are more = absurd are
+both_read (b ∷ bs) texts [] others are more = absurd are
+both_read (b ∷ bs) texts (l ∷ ls) others are more = (are.0, both_read bs texts ls others are.1 more)
+
+-- the files behind those that are known
+others_of : (inputs texts : List (List ℕ)) (links all : List LinkFile) → AreLinkFiles inputs links → AreLinkFiles (inputs ++ texts) all
+    → (others : List LinkFile) × (all ≡ links ++ others) × AreLinkFiles texts others
+others_of [] texts [] all are both = (all, refl, both)
+others_of [] texts (l ∷ ls) all are both = absurd are
+others_of (b ∷ bs) texts [] all are both = absurd are
+others_of (b ∷ bs) texts (l ∷ ls) [] are both = absurd both
+others_of (b ∷ bs) texts (l ∷ ls) (x ∷ all) are both =
+    let (others, same, rest) = others_of bs texts ls all are.1 both.1 in
+    (others, ap (λ f. f ∷ all) (both.0.1 ∙ sym are.0.1) ∙ ap (λ t. l ∷ t) same, rest)
+
+-- what was printed of the files with those of the assumed systems
+pub was_assumed : (nodelist : Option (List ℕ)) (tag t : List ℕ) (inputs texts : List (List ℕ)) (links : List LinkFile) (assumed : List Address) (lines : List ℕ) (status : Status)
+    → AreLinkFiles inputs links → t ≡ upper tag → AreAssumed links t assumed texts → IsCheckedWith nodelist tag (inputs ++ texts) assumed lines status
+    → IsCheckedAssuming nodelist tag inputs assumed lines status
+was_assumed nodelist tag t inputs texts links assumed lines status are raised assuming checked = record {
+  files = links;
+  are_files = are;
+  texts = texts;
+  are_assumed = subst (λ (u : List ℕ). AreAssumed links u assumed texts) raised assuming;
+  checked = checked;
+}
+
+-- a fault of the files of the assumed systems
+pub text_refused : (nodelist : Option (List ℕ)) (tag t : List ℕ) (inputs shown texts : List (List ℕ)) (links : List LinkFile) (assumed : List Address) (fault : Fault)
+    → AreLinkFiles inputs links → t ≡ upper tag → AreAssumed links t assumed texts → shown ≡ texts → IsOutOfMemory fault ⊎ IsLinkFault shown fault
+    → IsOutOfMemory fault ⊎ (IsFirstFaultGiven nodelist inputs None fault ⊎ IsAssumedFault tag inputs assumed fault)
+text_refused nodelist tag t inputs shown texts links assumed fault are raised assuming same (inl memory) = inl memory
+text_refused nodelist tag t inputs shown texts links assumed fault are raised assuming same (inr refused) = inr (inr (record {
+  files = links;
+  are_files = are;
+  texts = texts;
+  are_assumed = subst (λ (u : List ℕ). AreAssumed links u assumed texts) raised assuming;
+  fault_is = subst (λ (x : List (List ℕ)). IsLinkFault x fault) same refused;
+}))
+
+-- a 0 is so of each run
+pub headline_assuming : (nodelist : Option (List ℕ)) (tag : List ℕ) (inputs : List (List ℕ)) (assumed : List Address) (stopped : Option Fault) (old new : Output)
+    (answer : Result Status Fault) → CheckAssumingAnswers nodelist tag inputs assumed stopped old new answer → answer ≡ Ok Good
+    → (links : List LinkFile) → AreLinkFiles inputs links → IsPromisedAssuming links (upper tag) assumed
+headline_assuming nodelist tag inputs assumed stopped old new (Ok found) so good links are =
+    let found_is = so.right.0 in
+    let is_good : found ≡ Good = cc good in
+    let checked = found_is.checked.checked in
+    let same : found_is.files ≡ links = one_reading inputs found_is.files links found_is.are_files are in
+    let (others, whole, read) = others_of inputs found_is.texts links checked.files are checked.are_files in
+    record {
+      texts = found_is.texts;
+      are_assumed = subst (λ (f : List LinkFile). AreAssumed f (upper tag) assumed found_is.texts) same found_is.are_assumed;
+      others = others;
+      are_others = read;
+      tidy = subst (λ (f : List LinkFile). Tidy f (upper tag)) whole (checked.tidy.0 is_good);
+      orderly = subst (λ (f : List LinkFile). RunsAreOrderly f (upper tag)) whole (checked.orderly is_good);
+    }
+headline_assuming nodelist tag inputs assumed stopped old new (Err f) so good links are = absurd (cc good)

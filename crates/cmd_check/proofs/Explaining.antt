@@ -1,0 +1,41 @@
+-- What was found by the bytes of link files, as what is found on these files.
+use Rattle.std.proofs.Common.{◌≡◌, ℕ, List, [], ◌∷◌, Option, refl, sym, ap, ◌∙◌}
+use Rattle.echo_links.specs.Links.{LinkFile, upper}
+use Rattle.echo_links.specs.LinkLines.{file_of}
+use Rattle.echo_net.specs.declared.verdict.NetFault.{NetFault}
+use Rattle.echo_net.specs.declared.verdict.Verdict.{Verdict}
+use Rattle.echo_net.specs.declared.verdict.Verdict.TheVariants.{Yes, No}
+use Rattle.echo_net.specs.Faults.{IfNo, IsFirstFault}
+use Rattle.model_why.specs.declared.shown.Shown.{Shown}
+use Rattle.model_why.specs.Exact.{AlwaysHarms, LeadsNowhere}
+use Rattle.model_why.specs.Found.{FindsHarm, FindsSome}
+use Rattle.model_why.specs.Sources.{files_of}
+use Rattle.cmd_status.specs.Inputs.{AreLinkFiles}
+use Rattle.cmd_check.specs.Checking.{IsCheckVerdict}
+use Rattle.cmd_check.proofs.Checks.{of_same}
+use Rattle.cmd_check.specs.Explained.{IsExplained, IsFoundFirst}
+
+-- what link files that were read say is what their bytes say
+pub given_files : (inputs : List (List ℕ)) (files : List LinkFile) → AreLinkFiles inputs files → files_of inputs ≡ files
+given_files [] [] are = refl
+given_files (bytes ∷ inputs) [] are = absurd are
+given_files [] (file ∷ files) are = absurd are
+given_files (bytes ∷ inputs) (file ∷ files) are =
+    ap (λ (fs : List LinkFile). file_of bytes ∷ fs) (given_files inputs files are.1) ∙ ap (λ (f : LinkFile). f ∷ files) (sym are.0.1)
+
+-- what follows from the fault of a no, where it is the one that is named
+of_no : (v : Verdict) (First Of : NetFault → Type 0) → IfNo v First → IfNo v (λ fault. First fault → Of fault) → IfNo v Of
+of_no (Yes systems links) First Of is more = tt
+of_no (No fault) First Of is more = more is
+
+-- what was found, with what the verdict says
+pub was_explained : (tag t : List ℕ) (inputs : List (List ℕ)) (files : List LinkFile) (verdict : Verdict) (found : Option Shown) →
+    AreLinkFiles inputs files → t ≡ upper tag → IsCheckVerdict files (upper tag) verdict → IsFoundFirst (files_of inputs) t verdict found →
+    IsExplained files (upper tag) verdict found
+was_explained tag t inputs files verdict found are raised judged first =
+    let here = of_same (λ f u. IsFoundFirst f u verdict found) (files_of inputs) files t (upper tag) (given_files inputs files are) raised first in
+    record {
+      shown = here.shown;
+      exact = of_no verdict (IsFirstFault files (upper tag)) (λ fault. (AlwaysHarms fault → FindsHarm found)) judged.first here.exact;
+      nowhere = of_no verdict (IsFirstFault files (upper tag)) (λ fault. (LeadsNowhere files fault → FindsSome found)) judged.first here.nowhere;
+    }

@@ -1,0 +1,11 @@
+pub mod AllAreas
+pub mod AreaTags
+pub mod Checks
+pub mod Pictures
+pub mod Printing
+pub mod Explaining
+pub mod Reasons
+pub mod WorldLines
+pub mod Replays
+pub mod PicturesWhy
+pub mod Assumed

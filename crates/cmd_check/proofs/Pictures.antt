@@ -1,0 +1,34 @@
+-- What `picture` answers, from what its parts do.
+use Rattle.std.proofs.Common.{◌≡◌, ℕ, List, [], refl, sym, ap, ◌∙◌}
+use Rattle.echo_links.specs.Links.{LinkFile, upper}
+use Rattle.echo_net.specs.declared.drawing.Drawing.{Drawing}
+use Rattle.echo_net.specs.declared.verdict.Verdict.{Verdict}
+use Rattle.echo_net.specs.Drawn.{IsDrawing}
+use Rattle.cmd_status.specs.declared.status.Status.{Status}
+use Rattle.cmd_check.specs.Checking.{IsCheckVerdict, verdict_status}
+use Rattle.cmd_status.specs.Inputs.{AreLinkFiles}
+use Rattle.cmd_check.specs.Picturing.{IsPictured}
+use Rattle.cmd_print.specs.Pictured.{picture_lines}
+use Rattle.cmd_check.proofs.Checks.{good_is_yes, of_same, yes_is_good}
+
+-- the lines that draw the area of link files that were read
+pub was_pictured : (tag t : List ℕ) (inputs : List (List ℕ)) (files : List LinkFile) (verdict : Verdict) (drawing : Drawing) (lines : List ℕ) (status : Status)
+    → AreLinkFiles inputs files → t ≡ upper tag → IsCheckVerdict files t verdict → IsDrawing files t verdict drawing
+    → lines ≡ picture_lines t verdict drawing [] → status ≡ verdict_status verdict → IsPictured tag inputs lines status
+was_pictured tag t inputs files verdict drawing lines status are raised judged drawn whole ended =
+    let same : files ≡ files = refl in
+    let judged_upper : IsCheckVerdict files (upper tag) verdict = of_same (λ f u. IsCheckVerdict f u verdict) files files t (upper tag) same raised judged in
+    record {
+      files = files;
+      are_files = are;
+      verdict = verdict;
+      is_verdict = judged_upper;
+      drawing = drawing;
+      is_drawing = of_same (λ f u. IsDrawing f u verdict drawing) files files t (upper tag) same raised drawn;
+      printed = whole ∙ ap (λ (u : List ℕ). picture_lines u verdict drawing []) raised;
+      status_is = ended;
+      tidy = (
+        λ good. judged_upper.tidy.0 (good_is_yes verdict (sym ended ∙ good)),
+        λ tidy. ended ∙ yes_is_good verdict (judged_upper.tidy.1 tidy),
+      );
+    }

@@ -1,0 +1,73 @@
+-- What `why` answers, from what its parts do.
+use Rattle.std.specs.Prelude.{codes, Contains, ◌↔◌}
+use Rattle.std.specs.List.{flat_map}
+use Rattle.std.specs.List.Sorted.{IsStrictlySortedBy}
+use Rattle.std.specs.Ordering.{nat_cmp}
+use Rattle.std.proofs.Common.{◌≡◌, ◌++◌, ℕ, List, [], Option, refl, sym, ap, subst, append_assoc, ◌∙◌}
+use Rattle.echo_links.specs.Links.{LinkFile, upper}
+use Rattle.echo_net.specs.declared.verdict.Verdict.{Verdict}
+use Rattle.model_why.specs.declared.shown.Shown.{Shown}
+use Rattle.model_why.specs.Sources.{files_of}
+use Rattle.cmd_status.specs.declared.status.Status.{Status}
+use Rattle.cmd_check.specs.Checking.{IsCheckVerdict, verdict_status}
+use Rattle.cmd_status.specs.Inputs.{AreLinkFiles}
+use Rattle.cmd_check.specs.Explained.{IsFoundFirst}
+use Rattle.cmd_check.specs.Reasoning.{IsReasoned}
+use Rattle.cmd_print.specs.Checked.{verdict_line}
+use Rattle.cmd_print.specs.Pushed.{Pushes}
+use Rattle.cmd_status.proofs.Lines.{alone}
+use Rattle.cmd_check.specs.Whys.{AreNamed, AreWhyLines, found_lines, named_in, who_line}
+use Rattle.cmd_check.proofs.Assumed.{held_again}
+use Rattle.cmd_check.proofs.Checks.{good_is_yes, of_same, yes_is_good}
+use Rattle.cmd_check.proofs.Explaining.{was_explained}
+
+-- lines that were added to none
+pub were_pushed : (P : List ℕ → Type 0) (none lines : List ℕ) → none ≡ [] → Pushes P none lines → P lines
+were_pushed P none lines nothing pushed = subst P (sym (alone none lines pushed.lines nothing pushed.whole)) pushed.are
+
+-- the systems that a script names were put in order
+pub were_named : (verdict : Verdict) (found : Option Shown) (before after : List ℕ) → before ≡ named_in verdict found → IsStrictlySortedBy nat_cmp after
+    → ((x : ℕ) → Contains after x ↔ Contains before x) → AreNamed verdict found after
+were_named verdict found before after is ascending same =
+    record { ascending = ascending; members = held_again before after (named_in verdict found) is same }
+
+-- the lines of the verdict, of the systems and of the run were added
+pub why_pushed : (files : List LinkFile) (paths : List (List ℕ)) (tag : List ℕ) (verdict : Verdict) (found : Option Shown) (systems old noted known new : List ℕ)
+    → AreNamed verdict found systems → noted ≡ old ++ (codes "; " ++ verdict_line tag verdict) → known ≡ noted ++ flat_map (who_line files paths) systems
+    → new ≡ known ++ found_lines tag verdict found → Pushes (AreWhyLines files paths tag verdict found) old new
+why_pushed files paths tag verdict found systems old noted known new named first second third =
+    let note = codes "; " in
+    let judged = verdict_line tag verdict in
+    let who = flat_map (who_line files paths) systems in
+    let run = found_lines tag verdict found in
+    record {
+      lines = note ++ (judged ++ (who ++ run));
+      are = record { systems = systems; are_named = named; whole = refl };
+      whole = third
+          ∙ ap (λ l. l ++ run) (second ∙ ap (λ l. l ++ who) first)
+          ∙ append_assoc (old ++ (note ++ judged)) who run
+          ∙ append_assoc old (note ++ judged) (who ++ run)
+          ∙ ap (λ l. old ++ l) (append_assoc note judged (who ++ run));
+    }
+
+-- a run that goes wrong on link files that were read is printed
+pub was_reasoned : (tag t : List ℕ) (inputs paths : List (List ℕ)) (files : List LinkFile) (verdict : Verdict) (found : Option Shown) (lines : List ℕ) (status : Status)
+    → AreLinkFiles inputs files → t ≡ upper tag → IsCheckVerdict files t verdict → IsFoundFirst (files_of inputs) t verdict found
+    → AreWhyLines files paths t verdict found lines → status ≡ verdict_status verdict → IsReasoned tag inputs paths lines status
+was_reasoned tag t inputs paths files verdict found lines status are raised judged first whole ended =
+    let same : files ≡ files = refl in
+    let judged_upper : IsCheckVerdict files (upper tag) verdict = of_same (λ f u. IsCheckVerdict f u verdict) files files t (upper tag) same raised judged in
+    record {
+      files = files;
+      are_files = are;
+      verdict = verdict;
+      is_verdict = judged_upper;
+      found = found;
+      explained = was_explained tag t inputs files verdict found are raised judged_upper first;
+      printed = subst (λ (u : List ℕ). AreWhyLines files paths u verdict found lines) raised whole;
+      status_is = ended;
+      tidy = (
+        λ good. judged_upper.tidy.0 (good_is_yes verdict (sym ended ∙ good)),
+        λ tidy. ended ∙ yes_is_good verdict (judged_upper.tidy.1 tidy),
+      );
+    }

@@ -1,0 +1,17 @@
+use Rattle.std.proofs.Common.{List, get_or, sym}
+use Rattle.std.proofs.lemmas.List.{get_or_default}
+use Rattle.echo_addr.specs.declared.address.Address.{Address}
+use Rattle.echo_links.specs.LinkLines.{no_address}
+use Rattle.cmd_check.proofs.Assumed.{each_more, each_none}
+use Rattle.cmd_check.proofs.assuming.push_each.Goals as goal
+
+pub assumed-init : goal.assumed-init
+assumed-init c = each_none c.args.files.now c.args.tag.now c.args.texts.now.items
+
+pub assumed-preserved : goal.assumed-preserved
+assumed-preserved c =
+    let assumed : List Address = c.args.assumed.now in
+    let k = c.assumed.address-index in
+    let a : Address = get_or assumed k no_address in
+    each_more c.args.files.now c.args.tag.now assumed k a _ c.args.texts.now.items c.assumed.texts.items c.push.new.self.items c.assumed-test.true
+    (sym (get_or_default assumed k a no_address c.assumed-test.true)) c.assumed.invariant c.in_ok-assumed_file.ensures c.in_ok-push.ensures.items

@@ -1,0 +1,9 @@
+use Rattle.std.specs.Option.{option_copied}
+use Rattle.cmd_check.proofs.AllAreas.{area_checked}
+use Rattle.cmd_check.proofs.checking_all.push_area.Goals as goal
+
+pub returns : goal.returns
+returns c =
+    let found = c.in_ok-verdict.ensures in
+    area_checked c.args.links.now (option_copied c.args.list) c.args.tag.now c.in_ok-verdict.verdict c.is_yes.result c.args.lines.now.items c.push_check.new.lines.items
+    (record { tidy = found.tidy; counted = found.counted; first = found.first }) found.orderly c.is_yes.ensures c.in_ok-push_check.ensures

@@ -1,0 +1,53 @@
+-- What `check` answers.
+use Rattle.std.specs.Prelude.{◌≡◌, ℕ, ◌↔◌, List, Option, None, Result}
+use Rattle.cmd_status.specs.Devices.{Output}
+use Rattle.echo_links.specs.Links.{LinkFile, upper}
+use Rattle.echo_nodelist.specs.declared.line.Line.{Line}
+use Rattle.model_run.specs.Event.{RunEvent}
+use Rattle.model_run.specs.Orderly.{Orderly}
+use Rattle.model_run.specs.Run.{run_of}
+use Rattle.model_run.specs.Tidy.{Tidy}
+use Rattle.echo_net.specs.declared.verdict.Verdict.{Verdict}
+use Rattle.echo_net.specs.declared.verdict.Verdict.TheVariants.{Yes, No}
+use Rattle.echo_net.specs.Faults.{IfNo, IfYes, IsFirstFault, IsYes}
+use Rattle.echo_net.specs.Nets.{carrier_count, linked_pairs}
+use Rattle.cmd_status.specs.declared.fault.Fault.{Fault}
+use Rattle.cmd_status.specs.declared.status.Status.{Status}
+use Rattle.cmd_status.specs.declared.status.Status.TheVariants.{Good, Differs}
+use Rattle.cmd_status.specs.Ended.{Answers}
+use Rattle.cmd_status.specs.Inputs.{AreLinkFiles, IsFirstFaultGiven, IsNodelistGiven}
+use Rattle.cmd_print.specs.Checked.{CheckShown}
+
+-- 1 for a no
+abbrev pub verdict_status : Verdict → Status
+verdict_status (Yes systems links) = Good
+verdict_status (No fault) = Differs
+
+-- the verdict on an area: yes exactly where it is tidy, with its numbers of carriers and of linked pairs; a no
+-- names the first thing that is wrong
+pub record IsCheckVerdict (files : List LinkFile) (tag : List ℕ) (verdict : Verdict) : Type 0 where
+  pub tidy : IsYes verdict ↔ Tidy files tag
+  pub counted : IfYes verdict (λ systems links. (systems ≡ carrier_count files tag) × (links ≡ linked_pairs files tag))
+  pub first : IfNo verdict (IsFirstFault files tag)
+
+-- every run on these files is orderly in the area
+abbrev pub RunsAreOrderly : List LinkFile → List ℕ → Type 0
+RunsAreOrderly files tag = (events : List RunEvent) → Orderly (run_of files events) tag
+
+-- The link files and the nodelist have no fault; these are the lines of the verdict on the area of the tag in upper case. The status is 0 exactly where the area is tidy, and then every run is orderly.
+pub record IsChecked (nodelist : Option (List ℕ)) (tag : List ℕ) (inputs : List (List ℕ)) (lines : List ℕ) (status : Status) : Type 0 where
+  pub files : List LinkFile
+  pub are_files : AreLinkFiles inputs files
+  pub list : Option (List Line)
+  pub is_list : IsNodelistGiven nodelist list
+  pub verdict : Verdict
+  pub is_verdict : IsCheckVerdict files (upper tag) verdict
+  pub printed : CheckShown files (upper tag) list verdict lines
+  pub status_is : status ≡ verdict_status verdict
+  pub tidy : (status ≡ Good) ↔ Tidy files (upper tag)
+  pub orderly : status ≡ Good → RunsAreOrderly files (upper tag)
+
+-- what is answered where an area is to be checked
+abbrev pub CheckAnswers : Option (List ℕ) → List ℕ → List (List ℕ) → Option Fault → Output → Output → Result Status Fault → Type 0
+CheckAnswers nodelist tag inputs stopped old new answer =
+    Answers (λ lines status. IsChecked nodelist tag inputs lines status × (stopped ≡ None)) (IsFirstFaultGiven nodelist inputs stopped) old new answer

@@ -1,0 +1,20 @@
+-- What is found where an area is to be shown going wrong.
+use Rattle.std.specs.Prelude.{ℕ, List, Option, IfSome}
+use Rattle.echo_links.specs.Links.{LinkFile}
+use Rattle.echo_net.specs.declared.verdict.Verdict.{Verdict}
+use Rattle.echo_net.specs.Faults.{IfNo, IsFirstFault}
+use Rattle.model_why.specs.declared.shown.Shown.{Shown}
+use Rattle.model_why.specs.Exact.{AlwaysHarms, LeadsNowhere}
+use Rattle.model_why.specs.Found.{FindsHarm, FindsSome, IsShown}
+
+-- It is a run on these files that has its harm. Where the fault of a no always does harm, one is found that breaks the promise; where it is a link to an address that no file has, one of any kind.
+pub record IsExplained (files : List LinkFile) (tag : List ℕ) (verdict : Verdict) (found : Option Shown) : Type 0 where
+  pub shown : IfSome found (IsShown files tag)
+  pub exact : IfNo verdict (λ fault. AlwaysHarms fault → FindsHarm found)
+  pub nowhere : IfNo verdict (λ fault. LeadsNowhere files fault → FindsSome found)
+
+-- A run is found where it is promised, if the fault is the first.
+pub record IsFoundFirst (files : List LinkFile) (tag : List ℕ) (verdict : Verdict) (found : Option Shown) : Type 0 where
+  pub shown : IfSome found (IsShown files tag)
+  pub exact : IfNo verdict (λ fault. IsFirstFault files tag fault → AlwaysHarms fault → FindsHarm found)
+  pub nowhere : IfNo verdict (λ fault. IsFirstFault files tag fault → LeadsNowhere files fault → FindsSome found)

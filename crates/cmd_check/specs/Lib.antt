@@ -1,0 +1,12 @@
+pub mod AreaTags
+pub mod Checking
+pub mod CheckingAll
+pub mod Assuming
+pub mod CheckingAssumed
+pub mod Picturing
+pub mod Whys
+pub mod Explained
+pub mod Reasoning
+pub mod Replayed
+pub mod Replaying
+pub mod PicturingWhy

@@ -1,0 +1,38 @@
+-- What `picture` answers.
+use Rattle.std.specs.Prelude.{◌≡◌, ℕ, ◌↔◌, List, [], Option, None, Result}
+use Rattle.cmd_status.specs.Devices.{Output}
+use Rattle.echo_links.specs.Links.{LinkFile, upper}
+use Rattle.model_run.specs.Tidy.{Tidy}
+use Rattle.echo_net.specs.declared.drawing.Crossing.{Crossing}
+use Rattle.echo_net.specs.declared.drawing.Drawing.{Drawing}
+use Rattle.echo_net.specs.declared.verdict.Verdict.{Verdict}
+use Rattle.echo_net.specs.Drawn.{IsDrawing}
+use Rattle.cmd_status.specs.declared.fault.Fault.{Fault}
+use Rattle.cmd_status.specs.declared.status.Status.{Status}
+use Rattle.cmd_status.specs.declared.status.Status.TheVariants.{Good}
+use Rattle.cmd_check.specs.Checking.{IsCheckVerdict, verdict_status}
+use Rattle.cmd_status.specs.Ended.{Answers}
+use Rattle.cmd_status.specs.Inputs.{AreLinkFiles, IsFirstFaultGiven}
+use Rattle.cmd_print.specs.Pictured.{picture_lines}
+
+-- the link files have no fault, and these lines draw the area of the tag in upper case, with what the verdict on it names marked; the status is that of `check`
+pub record IsPictured (tag : List ℕ) (inputs : List (List ℕ)) (lines : List ℕ) (status : Status) : Type 0 where
+  pub files : List LinkFile
+  pub are_files : AreLinkFiles inputs files
+  pub verdict : Verdict
+  pub is_verdict : IsCheckVerdict files (upper tag) verdict
+  pub drawing : Drawing
+  pub is_drawing : IsDrawing files (upper tag) verdict drawing
+  pub printed : lines ≡ picture_lines (upper tag) verdict drawing []
+  pub status_is : status ≡ verdict_status verdict
+  pub tidy : (status ≡ Good) ↔ Tidy files (upper tag)
+
+-- what is answered where an area that is drawn is to be printed
+abbrev pub PrintsPicture : List ℕ → Verdict → Drawing → List Crossing → Output → Output → Result Status Fault → Type 0
+PrintsPicture tag verdict drawing crossings old new answer =
+    Answers (λ lines status. (lines ≡ picture_lines tag verdict drawing crossings) × (status ≡ verdict_status verdict)) (λ fault. ⊥) old new answer
+
+-- what is answered where an area is to be drawn
+abbrev pub PictureAnswers : List ℕ → List (List ℕ) → Option Fault → Output → Output → Result Status Fault → Type 0
+PictureAnswers tag inputs stopped old new answer =
+    Answers (λ lines status. IsPictured tag inputs lines status × (stopped ≡ None)) (IsFirstFaultGiven None inputs stopped) old new answer

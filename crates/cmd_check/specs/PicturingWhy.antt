@@ -1,0 +1,44 @@
+-- What `picture --why` answers.
+use Rattle.std.specs.Prelude.{◌≡◌, ℕ, ◌↔◌, List, Option, None, Result}
+use Rattle.cmd_status.specs.Devices.{Output}
+use Rattle.echo_links.specs.Links.{LinkFile, upper}
+use Rattle.model_run.specs.Tidy.{Tidy}
+use Rattle.echo_net.specs.declared.drawing.Crossing.{Crossing}
+use Rattle.echo_net.specs.declared.drawing.Drawing.{Drawing}
+use Rattle.echo_net.specs.declared.verdict.Verdict.{Verdict}
+use Rattle.echo_net.specs.Drawn.{IsDrawing}
+use Rattle.model_why.specs.declared.shown.Shown.{Shown}
+use Rattle.model_why.specs.Carrying.{found_crossings}
+use Rattle.model_why.specs.Sources.{files_of}
+use Rattle.cmd_status.specs.declared.fault.Fault.{Fault}
+use Rattle.cmd_status.specs.declared.status.Status.{Status}
+use Rattle.cmd_status.specs.declared.status.Status.TheVariants.{Good}
+use Rattle.cmd_status.specs.Ended.{Answers}
+use Rattle.cmd_status.specs.Inputs.{AreLinkFiles, IsFirstFaultGiven}
+use Rattle.cmd_print.specs.Pictured.{picture_lines}
+use Rattle.cmd_check.specs.Explained.{IsExplained, IsFoundFirst}
+use Rattle.cmd_check.specs.Checking.{IsCheckVerdict, verdict_status}
+
+-- The link files have no fault; these lines draw the area of the tag in upper case, with what the verdict on it names marked. Where a run is shown that goes wrong, the links by which its message comes to the system that the harm names are labelled. The status is that of `check`.
+pub record IsPicturedWhy (tag : List ℕ) (inputs : List (List ℕ)) (lines : List ℕ) (status : Status) : Type 0 where
+  pub files : List LinkFile
+  pub are_files : AreLinkFiles inputs files
+  pub verdict : Verdict
+  pub is_verdict : IsCheckVerdict files (upper tag) verdict
+  pub drawing : Drawing
+  pub is_drawing : IsDrawing files (upper tag) verdict drawing
+  pub found : Option Shown
+  pub explained : IsExplained files (upper tag) verdict found
+  pub printed : lines ≡ picture_lines (upper tag) verdict drawing (found_crossings files (upper tag) found)
+  pub status_is : status ≡ verdict_status verdict
+  pub tidy : (status ≡ Good) ↔ Tidy files (upper tag)
+
+-- the links that are labelled are those of a run that was found
+abbrev pub AreCrossings : List (List ℕ) → List ℕ → Verdict → List Crossing → Type 0
+AreCrossings inputs tag verdict crossings =
+    (found : Option Shown) × IsFoundFirst (files_of inputs) tag verdict found × (crossings ≡ found_crossings (files_of inputs) tag found)
+
+-- what is answered where an area is to be drawn going wrong
+abbrev pub PictureWhyAnswers : List ℕ → List (List ℕ) → Option Fault → Output → Output → Result Status Fault → Type 0
+PictureWhyAnswers tag inputs stopped old new answer =
+    Answers (λ lines status. IsPicturedWhy tag inputs lines status × (stopped ≡ None)) (IsFirstFaultGiven None inputs stopped) old new answer

@@ -1,0 +1,37 @@
+-- What `why` answers.
+use Rattle.std.specs.Prelude.{◌≡◌, ℕ, ◌↔◌, List, Option, None, Result}
+use Rattle.cmd_status.specs.Devices.{Output}
+use Rattle.echo_links.specs.Links.{LinkFile, upper}
+use Rattle.model_run.specs.Tidy.{Tidy}
+use Rattle.echo_net.specs.declared.verdict.Verdict.{Verdict}
+use Rattle.model_why.specs.declared.shown.Shown.{Shown}
+use Rattle.cmd_status.specs.declared.fault.Fault.{Fault}
+use Rattle.cmd_status.specs.declared.status.Status.{Status}
+use Rattle.cmd_status.specs.declared.status.Status.TheVariants.{Good}
+use Rattle.cmd_status.specs.Ended.{Answers}
+use Rattle.cmd_status.specs.Inputs.{AreLinkFiles, IsFirstFaultGiven}
+use Rattle.cmd_check.specs.Explained.{IsExplained}
+use Rattle.cmd_check.specs.Whys.{AreWhyLines}
+use Rattle.cmd_check.specs.Checking.{IsCheckVerdict, verdict_status}
+
+-- The link files have no fault; these lines are the verdict on the area of the tag in upper case, and what is shown beside a no is a run on these files that has the harm, one that breaks the promise where the fault always does. Each system that the run names is named by its address and the path of its file. The status is that of `check`.
+pub record IsReasoned (tag : List ℕ) (inputs paths : List (List ℕ)) (lines : List ℕ) (status : Status) : Type 0 where
+  pub files : List LinkFile
+  pub are_files : AreLinkFiles inputs files
+  pub verdict : Verdict
+  pub is_verdict : IsCheckVerdict files (upper tag) verdict
+  pub found : Option Shown
+  pub explained : IsExplained files (upper tag) verdict found
+  pub printed : AreWhyLines files paths (upper tag) verdict found lines
+  pub status_is : status ≡ verdict_status verdict
+  pub tidy : (status ≡ Good) ↔ Tidy files (upper tag)
+
+-- what is answered where a verdict and what was found are to be printed
+abbrev pub PrintsWhy : List LinkFile → List (List ℕ) → List ℕ → Verdict → Option Shown → Output → Output → Result Status Fault → Type 0
+PrintsWhy files paths tag verdict found old new answer =
+    Answers (λ lines status. AreWhyLines files paths tag verdict found lines × (status ≡ verdict_status verdict)) (λ fault. ⊥) old new answer
+
+-- what is answered where an area is to be shown going wrong
+abbrev pub WhyAnswers : List ℕ → List (List ℕ) → List (List ℕ) → Option Fault → Output → Output → Result Status Fault → Type 0
+WhyAnswers tag inputs paths stopped old new answer =
+    Answers (λ lines status. IsReasoned tag inputs paths lines status × (stopped ≡ None)) (IsFirstFaultGiven None inputs stopped) old new answer

@@ -1,0 +1,79 @@
+//! What `why` answers.
+ghost use Rattle.std.specs.Prelude.{◌≡◌, ℕ, List, None, option_copied};
+ghost use Rattle.echo_links.specs.Links.{upper};
+ghost use Rattle.cmd_status.specs.Devices.{output_of};
+ghost use Rattle.cmd_status.specs.Inputs.{AreLinkFiles};
+ghost use Rattle.cmd_check.specs.Reasoning.{PrintsWhy, WhyAnswers};
+
+use crate::status_of;
+use crate::why_text::push_why;
+use cmd_status::{Fault, Status, link_files, print_rest};
+use disk_io::Sink;
+use echo_addr::Items;
+use echo_links::LinkFile;
+use echo_net::Verdict;
+use model_why::{Shown, explain};
+use std::alloc::Global;
+use std::hash::RandomState;
+
+/// `why TAG LINKS...`: prints what `check` finds of the area of the tag, its letters made upper case, as a
+/// note, and then, where that is no and one is found, the events of a run on the net of these link files that
+/// goes wrong, as a script for `replay`, and what goes wrong. Before the events a note for each system that they
+/// name has its address and the path of its file; a file behind the last path has none. By V3, V5, V7 and V8 one is found that breaks the
+/// promise, and by V4 one of any kind where no file has the address. It has the status that `check` has. Of a
+/// faulty file nothing is printed; the first fault is answered. `stopped` is why no further file was read, and
+/// comes last. Look-ups go by the hasher.
+pub fn why<'a, W: Sink>(
+    alloc: Global,
+    tag: &[u8],
+    files: &[Items<u8>],
+    paths: &[Items<u8>],
+    stopped: Option<Fault<'a>>,
+    hasher: RandomState,
+    out: &mut W,
+) -> Result<Status, Fault<'a>>
+    ensures { WhyAnswers tag.now files.now paths.now stopped.entry (output_of W.contents W.failures W.holds out.old) (output_of W.contents W.failures W.holds out.new) result }
+{
+    let links = link_files(alloc, files)?;
+    if let Some(fault) = stopped {
+        return Err(fault);
+    }
+    let tag = tag.to_ascii_uppercase(alloc)?;
+    why_read(alloc, &tag, files, &links, paths, hasher, out)
+}
+
+// The same of link files that are read, and of the tag in upper case.
+fn why_read<'a, W: Sink>(
+    alloc: Global,
+    tag: &[u8],
+    files: &[Items<u8>],
+    links: &[LinkFile],
+    paths: &[Items<u8>],
+    hasher: RandomState,
+    out: &mut W,
+) -> Result<Status, Fault<'a>>
+    ensures { (given : List ℕ) → AreLinkFiles files.now links.now → tag.now ≡ upper given
+        → WhyAnswers given files.now paths.now None (output_of W.contents W.failures W.holds out.old) (output_of W.contents W.failures W.holds out.new) result }
+{
+    let verdict = echo_net::check(alloc, links, tag)?;
+    let found = explain(alloc, files, tag, &verdict, hasher)?;
+    print_why(alloc, links, paths, tag, &verdict, found.as_ref(), out)
+}
+
+// Prints the verdict and what is shown beside it. The status is that of the verdict.
+fn print_why<'a, W: Sink>(
+    alloc: Global,
+    links: &[LinkFile],
+    paths: &[Items<u8>],
+    tag: &[u8],
+    verdict: &Verdict,
+    found: Option<&Shown>,
+    out: &mut W,
+) -> Result<Status, Fault<'a>>
+    ensures { PrintsWhy links.now paths.now tag.now verdict.now (option_copied found.entry) (output_of W.contents W.failures W.holds out.old) (output_of W.contents W.failures W.holds out.new) result }
+{
+    let mut lines = Vec::new(alloc);
+    push_why(alloc, &mut lines, links, paths, tag, verdict, found)?;
+    print_rest(&mut lines, out)?;
+    Ok(status_of(verdict))
+}

@@ -1,0 +1,67 @@
+//! `convert`: the base file or the base folder of the messages that another base has.
+
+use crate::folders::{base_bytes, fill_folder, is_empty, is_folder};
+use crate::{folder_of, locked_folder, output_fault};
+use base_file::{Base, BaseFault};
+use cmd_status::{Fault, Status, print_rest};
+use disk_io::{Sink, Watched};
+use disk_system::{NewFile, create_file, flush_folder};
+use std::collections::hash_map::RandomState;
+
+/// The bytes that show that a file is a base.
+pub const BASE_START: &[u8] = b"ECHOBAS";
+
+/// What stands in the name of the file beside a base that is made, where else the address of a system does.
+const OWN: &str = "base";
+
+/// `convert FROM TO`: FROM is read first; TO is a folder that is there and empty, or nothing is there.
+pub fn run_convert<'a, W: Sink>(
+    rt: &HostRuntime,
+    from: &'a str,
+    to: &'a str,
+    out: &mut W,
+) -> Result<Status, Fault<'a>> {
+    let hasher = RandomState::new(rt).map_err(|_| Fault::Base(BaseFault::Read))?;
+    let bytes = base_bytes(rt, from)?;
+    let base = Base::load(rt.alloc(), &mut bytes.as_slice(), hasher)?;
+    if is_folder(rt, to) {
+        fill_empty(rt, &base, to)?;
+    } else {
+        save_file(rt, &base, to)?;
+    }
+    let (count, waiting) = (base.len(), base.len() - base.cursor());
+    let line = format!(in rt.alloc(); "converted {count} messages, {waiting} waiting\n")?;
+    print_rest(&mut line.into_bytes(), out)?;
+    Ok(Status::Good)
+}
+
+// Fills an empty folder, under its lock, so that no other run fills it or changes it meanwhile.
+fn fill_empty<'a>(
+    rt: &HostRuntime,
+    base: &Base<RandomState>,
+    to: &'a str,
+) -> Result<(), Fault<'a>> {
+    let locked = locked_folder(rt, to)?;
+    let filled = if is_empty(rt, to)? {
+        fill_folder(rt, to, base)
+    } else {
+        Err(Fault::CannotUse(to))
+    };
+    let _ = locked.unlock();
+    filled
+}
+
+// Makes a base file, where nothing is there.
+fn save_file<'a>(rt: &HostRuntime, base: &Base<RandomState>, to: &'a str) -> Result<(), Fault<'a>> {
+    let mut file = Watched::new(Vec::new(rt.alloc()));
+    base.save(&mut file)?;
+    let bytes = file.into_inner();
+    let new = NewFile {
+        path: to,
+        own: OWN,
+        bytes: &bytes,
+        known_by: BASE_START.len(),
+    };
+    create_file(rt.alloc(), rt, new).map_err(|fault| output_fault(fault, to))?;
+    flush_folder(rt, folder_of(to)).map_err(|fault| output_fault(fault, to))
+}

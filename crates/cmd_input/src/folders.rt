@@ -1,0 +1,124 @@
+//! Base folders: which BASE is one, and its files.
+use crate::{folder_fault, folder_path, output_fault, read_file};
+use base_file::{Base, BaseFault};
+use base_folder::{Seen, Unread, fill, log_end, look};
+use base_store::SipDigest;
+use cmd_status::Fault;
+use disk_system::{RealDisk, Unknown, flush_path};
+use std::collections::hash_map::RandomState;
+use std::hash::{BuildHasher, Hasher};
+use std::{fs, io};
+
+/// Whether the path is that of a folder.
+pub fn is_folder(rt: &HostRuntime, path: &str) -> bool {
+    match fs::metadata(rt, path) {
+        Ok(found) => found.is_dir(),
+        Err(_) => false,
+    }
+}
+
+/// Fills the base folder with this path, which is empty, with the messages of a base.
+pub fn fill_folder<'a>(
+    rt: &HostRuntime,
+    to: &'a str,
+    base: &Base<RandomState>,
+) -> Result<(), Fault<'a>> {
+    flush_name(rt, to, 0)?;
+    let strange = is_strange(rt, to)?;
+    let path = folder_path(rt, to)?;
+    fill_at(rt, to, path.as_str(), strange, base)
+}
+
+// Fills it at the path that its files have before their names.
+fn fill_at<'a>(
+    rt: &HostRuntime,
+    to: &'a str,
+    path: &str,
+    strange: bool,
+    base: &Base<RandomState>,
+) -> Result<(), Fault<'a>> {
+    let key = drawn_key(rt)?;
+    let mut disk = RealDisk::new(rt, Unknown);
+    match fill::<_, SipDigest, _>(rt.alloc(), &mut disk, path.as_bytes(), strange, key, base) {
+        Ok(()) => Ok(()),
+        Err(why) => Err(why.fault(to)),
+    }
+}
+
+/// Flushes the folder in which a base folder of so many messages stands: one without any may have been made just now.
+pub fn flush_name<'a>(rt: &HostRuntime, base: &'a str, messages: usize) -> Result<(), Fault<'a>> {
+    if messages > 0 {
+        return Ok(());
+    }
+    let name = base.trim_end_matches('/');
+    flush_path(rt.alloc(), rt, name).map_err(|fault| output_fault(fault, base))
+}
+
+/// What the base folder with this path holds, of its messages those from this number on. Nothing of it is changed.
+pub fn look_into<'a>(rt: &HostRuntime, base: &'a str, first: u64) -> Result<Seen, Fault<'a>> {
+    let strange = is_strange(rt, base)?;
+    let path = folder_path(rt, base)?;
+    let mut disk = RealDisk::new(rt, Unknown);
+    look(rt.alloc(), &mut disk, path.as_bytes(), strange, first).map_err(|why| why.fault(base))
+}
+
+/// The bytes of a base file, or of the base file of the same messages where the base is a folder.
+pub fn base_bytes<'a>(rt: &HostRuntime, base: &'a str) -> Result<Vec<u8>, Fault<'a>> {
+    if !is_folder(rt, base) {
+        return read_file(rt, base, usize::MAX);
+    }
+    Ok(look_into(rt, base, 0)?.as_file::<SipDigest>(rt.alloc())?)
+}
+
+/// Whether nothing was ever committed in the folder, and it has no other files than those of a base folder.
+pub fn is_empty<'a>(rt: &HostRuntime, base: &'a str) -> Result<bool, Fault<'a>> {
+    let strange = is_strange(rt, base)?;
+    let path = folder_path(rt, base)?;
+    let mut disk = RealDisk::new(rt, Unknown);
+    match log_end(rt.alloc(), &mut disk, path.as_bytes(), strange) {
+        Ok(end) => Ok(end.gate == 0),
+        Err(Unread::Wrong(_)) => Ok(false),
+        Err(why) => Err(why.fault(base)),
+    }
+}
+
+/// A key for digests, as two halves. A seed that cannot be had is a failed read.
+pub fn drawn_key<'a>(rt: &HostRuntime) -> Result<(u64, u64), Fault<'a>> {
+    let state = RandomState::new(rt).map_err(|_| Fault::Base(BaseFault::Read))?;
+    Ok((half_of(&state, 1), half_of(&state, 2)))
+}
+
+// A half of a key.
+fn half_of(state: &RandomState, number: u8) -> u64 {
+    let mut hasher = state.build_hasher();
+    hasher.write(&[number]);
+    hasher.finish()
+}
+
+/// Whether the folder has other files than those of a base folder.
+pub fn is_strange<'a>(rt: &HostRuntime, base: &'a str) -> Result<bool, Fault<'a>> {
+    let names = fs::read_dir(rt, base).map_err(|error| folder_fault(&error, base))?;
+    for entry in names {
+        match entry {
+            Ok(entry) => {
+                if !is_own(entry.file_name()) {
+                    return Ok(true);
+                }
+            }
+            // A name that is no text is none of a base folder.
+            Err(error) if error.kind() == io::ErrorKind::InvalidFilename => return Ok(true),
+            Err(error) => return Err(folder_fault(&error, base)),
+        }
+    }
+    Ok(false)
+}
+
+// Whether a file of a base folder has the name.
+fn is_own(name: &str) -> bool {
+    match name.rsplit_once('.') {
+        Some(("messages" | "keys", digit)) => digit.len() == 1
+            && digit.as_bytes()[0].is_ascii_digit(),
+        Some(_) => false,
+        None => name == "log",
+    }
+}

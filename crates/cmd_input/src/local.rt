@@ -1,0 +1,68 @@
+//! The time zone of the system: that of `TZ`, or else of `/etc/localtime`, or else UTC.
+
+use cmd_status::Fault;
+use jiff_core::{Error, Offset, Timestamp};
+use jiff_tz::{SystemTimeZone, TimeZoneDatabase, Tzif};
+use std::env;
+use std::io::ErrorKind;
+
+/// What a fault calls the time zone.
+const ZONE: &str = "time zone";
+
+/// The folder of the files of time zones.
+const ZONES: &str = "/usr/share/zoneinfo";
+
+/// How many bytes such a file may have.
+const MAX_ZONE: usize = 1_048_576;
+
+/// How many seconds a clock in the time zone of the system is ahead of UTC, so many seconds after 1970 began.
+pub(crate) fn seconds_ahead<'a>(rt: &HostRuntime, seconds: u64) -> Result<i32, Fault<'a>> {
+    let nanoseconds = i128::from(seconds) * 1_000_000_000;
+    let at = Timestamp::from_nanosecond(nanoseconds).map_err(|_| Fault::BadStamp)?;
+    let offset = match SystemTimeZone::read(rt) {
+        Ok(zone) => offset_in(rt, &zone, at)?,
+        Err(error) if is_none_set(rt, &error) => Offset::UTC,
+        Err(error) => return Err(zone_fault(&error)),
+    };
+    Ok(offset.seconds)
+}
+
+// The offset of a zone. A name without a file beside it is that of a file in the folder.
+fn offset_in<'a>(
+    rt: &HostRuntime,
+    zone: &SystemTimeZone,
+    at: Timestamp,
+) -> Result<Offset, Fault<'a>> {
+    let known = TimeZoneDatabase::new(rt.alloc());
+    match (zone.time_zone(&known), zone) {
+        (Ok(found), _) => Ok(found.to_offset(at)),
+        (Err(Error::TimeZoneNotFound), SystemTimeZone::Name { name, .. }) => {
+            offset_named(rt, name.as_str(), at)
+        }
+        (Err(error), _) => Err(zone_fault(&error)),
+    }
+}
+
+// The offset of the zone with this name.
+fn offset_named<'a>(rt: &HostRuntime, name: &str, at: Timestamp) -> Result<Offset, Fault<'a>> {
+    let path = format!(in rt.alloc(); "{ZONES}/{name}")?;
+    let bytes = disk_system::read_file(rt.alloc(), rt, path.as_str(), MAX_ZONE).map_err(
+        |_| Fault::CannotUse(ZONE),
+    )?;
+    match Tzif::parse(rt.alloc(), None, &bytes) {
+        Ok(table) => Ok(table.to_offset(at)),
+        Err(error) => Err(zone_fault(&error)),
+    }
+}
+
+// Whether no zone was named, and the file of the system's is not there.
+fn is_none_set(rt: &HostRuntime, error: &Error) -> bool {
+    matches!(error, Error::Io(ErrorKind::NotFound)) && env::var(rt, "TZ").is_err()
+}
+
+fn zone_fault<'a>(error: &Error) -> Fault<'a> {
+    match error {
+        Error::OutOfMemory => Fault::OutOfMemory,
+        _ => Fault::CannotUse(ZONE),
+    }
+}

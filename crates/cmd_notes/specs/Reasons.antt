@@ -1,0 +1,144 @@
+-- The notes that say in words why a command stopped, or what it made.
+use Rattle.std.specs.Prelude.{ℕ, List, ◌++◌, codes, decimal}
+use Rattle.echo_addr.specs.Address.{address_text}
+use Rattle.echo_charset.specs.Words.{printed_word}
+use Rattle.echo_links.specs.declared.fault.LinkFault.{LinkFault}
+use Rattle.echo_links.specs.declared.fault.LinkFault.TheVariants as fault
+use Rattle.echo_packet.specs.declared.fault.Field.{Field}
+use Rattle.echo_packet.specs.declared.fault.Field.TheVariants as field
+use Rattle.echo_packet.specs.declared.fault.PacketFault.{PacketFault}
+use Rattle.echo_packet.specs.declared.fault.PacketFault.TheVariants as packet
+use Rattle.cmd_notes.specs.declared.reasons.FaultyPacket.{FaultyPacket}
+use Rattle.cmd_notes.specs.declared.reasons.LongField.{LongField}
+use Rattle.cmd_notes.specs.declared.reasons.Misdelivered.{Misdelivered}
+use Rattle.cmd_notes.specs.declared.reasons.PacketPlace.{PacketPlace}
+use Rattle.cmd_notes.specs.declared.reasons.PathState.{PathState}
+use Rattle.cmd_notes.specs.declared.reasons.Reason.{Reason}
+use Rattle.cmd_notes.specs.declared.reasons.Reason.TheVariants as reason
+use Rattle.cmd_notes.specs.declared.reasons.State.{State}
+use Rattle.cmd_notes.specs.declared.reasons.State.TheVariants as state
+use Rattle.cmd_notes.specs.declared.reasons.WordForm.{WordForm}
+use Rattle.cmd_notes.specs.declared.reasons.WordForm.TheVariants as form
+use Rattle.cmd_notes.specs.declared.reasons.WrongLine.{WrongLine}
+use Rattle.cmd_notes.specs.declared.reasons.WrongWord.{WrongWord}
+use Rattle.cmd_show.specs.LinksShown.{fault_number}
+
+-- what is wrong with a word in a line of a link file
+abbrev pub complaint : LinkFault → List ℕ
+complaint (fault.UnknownWord number) = codes "unknown word"
+complaint (fault.BadAddress number) = codes "bad address"
+complaint (fault.NoSystem number) = codes "no line"
+complaint (fault.RepeatedSystem number) = codes "second line"
+complaint (fault.RepeatedArea number) = codes "second line of area"
+complaint (fault.RepeatedLink number) = codes "second link"
+complaint (fault.BadTag number) = codes "bad tag"
+complaint (fault.NameTooLong number) = codes "long name"
+complaint fault.Memory = codes "no memory for"
+
+-- what a line may have there
+abbrev pub expectation : LinkFault → List ℕ
+expectation (fault.UnknownWord number) = codes "expected SYSTEM, NAME or AREA"
+expectation (fault.BadAddress number) = codes "expected zone:net/node"
+expectation (fault.NoSystem number) = codes "expected SYSTEM and the own address"
+expectation (fault.RepeatedSystem number) = codes "one is allowed"
+expectation (fault.RepeatedArea number) = codes "one is allowed"
+expectation (fault.RepeatedLink number) = codes "one is allowed"
+expectation (fault.BadTag number) = codes "expected 1 to 60 bytes from ! to ~"
+expectation (fault.NameTooLong number) = codes "40 bytes are allowed"
+expectation fault.Memory = codes "more is needed"
+
+-- a word in quotes, between what is wrong with it and what is expected
+abbrev pub word_reason : LinkFault → List ℕ → List ℕ
+word_reason fault word = complaint fault ++ (codes " '" ++ (printed_word word ++ (codes "', " ++ expectation fault)))
+
+-- a line of a link file: path, number, and the wrong word
+abbrev pub line_reason : WrongLine → List ℕ
+line_reason line =
+    printed_word line.path.now ++ (codes ":" ++ (decimal (fault_number line.fault) ++ (codes ": " ++ word_reason line.fault line.word.now)))
+
+-- what is found at a path
+abbrev pub state_words : State → List ℕ
+state_words state.NoFile = codes "no such file"
+state_words state.NoFolder = codes "no such folder"
+state_words state.Denied = codes "permission denied"
+state_words state.IsFolder = codes "is a folder"
+state_words state.NotFolder = codes "is not a folder"
+state_words state.Exists = codes "exists already"
+state_words state.NewBase = codes "new base"
+state_words state.NoSystem = codes "no line SYSTEM with the own address"
+
+abbrev pub path_reason : PathState → List ℕ
+path_reason found = printed_word found.path.now ++ (codes ": " ++ state_words found.state)
+
+-- which packet of a toss it is: its number from 1, how many there are, and its path
+abbrev pub packet_words : PacketPlace → List ℕ
+packet_words place =
+    codes "packet " ++ (decimal place.number ++ (codes " of " ++ (decimal place.packets ++ (codes ", " ++ (printed_word place.path.now ++ codes ": it ")))))
+
+-- a packet for another system
+abbrev pub misdelivered_reason : Misdelivered → List ℕ
+misdelivered_reason wrong =
+    packet_words wrong.packet ++ (codes "is for " ++ (address_text wrong.to ++ (codes ", this is " ++ address_text wrong.own)))
+
+-- what is wrong with a packet
+abbrev pub packet_complaint : PacketFault → List ℕ
+packet_complaint (packet.Truncated at) = codes "is cut off"
+packet_complaint (packet.NotType2 at) = codes "is not of type 2"
+packet_complaint (packet.NotMessage at) = codes "has bytes that are no message"
+packet_complaint (packet.FieldTooLong at) = codes "has a name or subject that is too long"
+packet_complaint (packet.TextTooLong at) = codes "has a text that is too long"
+packet_complaint (packet.Read at) = codes "cannot be read"
+packet_complaint packet.Memory = codes "needs more memory"
+packet_complaint packet.Stopped = codes "was given up"
+packet_complaint (packet.Write bytes) = codes "cannot be written"
+packet_complaint (packet.TooManyMessages at) = codes "has too many messages"
+packet_complaint (packet.BadField which) = codes "has a field with a zero byte or too many bytes"
+
+abbrev pub faulty_packet_reason : FaultyPacket → List ℕ
+faulty_packet_reason faulty = packet_words faulty.packet ++ packet_complaint faulty.fault
+
+-- a field by the option that gives it
+abbrev pub field_name : Field → List ℕ
+field_name field.ToName = codes "to"
+field_name field.FromName = codes "from"
+field_name field.Subject = codes "subject"
+field_name field.Text = codes "text"
+
+-- a field with too many bytes
+abbrev pub long_reason : LongField → List ℕ
+long_reason long =
+    field_name long.field ++ (codes " is " ++ (decimal long.length ++ (codes " bytes long, " ++ (decimal long.most ++ codes " are allowed"))))
+
+-- what a word of the command line is to be, and what it may look like
+abbrev pub form_complaint : WordForm → List ℕ
+form_complaint form.Stamp = codes "bad stamp '"
+form_complaint form.Serial = codes "bad serial '"
+form_complaint form.Number = codes "bad number '"
+form_complaint form.Limit = codes "bad number '"
+form_complaint form.NodeAddress = codes "bad address '"
+
+abbrev pub form_expectation : WordForm → List ℕ
+form_expectation form.Stamp = codes "', expected YYYY-MM-DDThh:mm:ss or now"
+form_expectation form.Serial = codes "', expected eight hexadecimal digits or auto"
+form_expectation form.Number = codes "', expected decimal digits"
+form_expectation form.Limit = codes "', expected a number up to 16777216"
+form_expectation form.NodeAddress = codes "', expected zone:net/node"
+
+-- a word of another form, in quotes
+abbrev pub form_reason : WrongWord → List ℕ
+form_reason wrong = form_complaint wrong.form ++ (printed_word wrong.word.now ++ form_expectation wrong.form)
+
+-- a reason in words
+abbrev pub reason_text : Reason → List ℕ
+reason_text (reason.Line line) = line_reason line
+reason_text (reason.Path found) = path_reason found
+reason_text (reason.NotForUs wrong) = misdelivered_reason wrong
+reason_text (reason.Packet faulty) = faulty_packet_reason faulty
+reason_text (reason.TooLong long) = long_reason long
+reason_text (reason.Word wrong) = form_reason wrong
+reason_text (reason.NoArea tag links) = codes "no area " ++ (printed_word tag.now ++ (codes " in " ++ printed_word links.now))
+reason_text (reason.NoMessage number count) = codes "no message " ++ (decimal number ++ (codes ", the base has " ++ decimal count))
+
+-- the line of a note
+abbrev pub reason_line : Reason → List ℕ
+reason_line why = codes "echonet: note: " ++ (reason_text why ++ codes "\n")

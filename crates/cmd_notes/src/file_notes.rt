@@ -1,0 +1,113 @@
+//! Notes on files that cannot be used, and on link files.
+
+use crate::notes::{Met, tell};
+use crate::reasons::{PathState, Reason, State, WrongLine};
+use crate::states::{Usage, state_at};
+use cmd_input::{MAX_TEXT_FILE, folder_path, names_of, read_file};
+use cmd_show::{FaultyLine, Judged, judge};
+use cmd_status::Fault;
+use cmd_words::Paths;
+use disk_io::Sink;
+use echo_links::LinkFault;
+use std::fs;
+
+/// A path that cannot be used.
+pub(crate) fn explain_path<E: Sink>(met: Met<'_>, path: &str, usage: Usage, errors: &mut E) {
+    if met.is(Fault::CannotUse(path)) {
+        if let Some(found) = state_at(met.rt, path, usage) {
+            tell(met.rt, Reason::Path(found), errors);
+        }
+    }
+}
+
+/// The link file and the base of a system.
+pub(crate) fn explain_files<E: Sink>(met: Met<'_>, links: &str, base: &str, errors: &mut E) {
+    let _ = explain_links(met, links, errors);
+    explain_path(met, base, Usage::Changed, errors);
+}
+
+/// A link file. The answer is whether it has a line that is explained.
+pub(crate) fn explain_links<E: Sink>(met: Met<'_>, path: &str, errors: &mut E) -> bool {
+    explain_path(met, path, Usage::File, errors);
+    if !met.is_of_links() {
+        return false;
+    }
+    let Ok(bytes) = read_file(met.rt, path, MAX_TEXT_FILE) else {
+        return false;
+    };
+    match judge(met.rt.alloc(), &bytes) {
+        Ok(Judged::Faulty(lines)) => {
+            if let Some(line) = lines.as_slice().first() {
+                explain_line(met, path, line, errors);
+            }
+            true
+        }
+        _ => false,
+    }
+}
+
+// The first faulty line of a link file.
+fn explain_line<E: Sink>(met: Met<'_>, path: &str, line: &FaultyLine, errors: &mut E) {
+    if !met.is(Fault::Link(line.fault)) {
+        return;
+    }
+    let why = match line.fault {
+        LinkFault::NoSystem { .. } => Reason::Path(PathState {
+            path,
+            state: State::NoSystem,
+        }),
+        fault => Reason::Line(WrongLine {
+            path,
+            fault,
+            word: line.word.as_slice(),
+        }),
+    };
+    tell(met.rt, why, errors);
+}
+
+/// Files that are used one by one.
+pub(crate) fn explain_paths<E: Sink>(met: Met<'_>, paths: &Paths<'_>, errors: &mut E) {
+    let found = names_of(met.rt, paths);
+    for name in &found.names {
+        if let Ok(path) = name.path() {
+            explain_path(met, path, Usage::File, errors);
+        }
+    }
+}
+
+/// The link files of a net, up to the first faulty one.
+pub(crate) fn explain_net<E: Sink>(met: Met<'_>, links: &Paths<'_>, errors: &mut E) {
+    let found = names_of(met.rt, links);
+    for name in &found.names {
+        if let Ok(path) = name.path() {
+            if explain_links(met, path, errors) {
+                return;
+            }
+        }
+    }
+}
+
+/// A packet of a scan whose name is taken.
+pub(crate) fn explain_outbound<E: Sink>(met: Met<'_>, folder: &str, errors: &mut E) {
+    let Ok(slashed) = folder_path(met.rt, folder) else {
+        return;
+    };
+    let Ok(entries) = fs::read_dir(met.rt, folder) else {
+        return;
+    };
+    for entry in entries {
+        if let Ok(entry) = entry {
+            explain_entry(met, slashed.as_str(), entry.file_name(), errors);
+        }
+    }
+}
+
+// A file in the folder of packets.
+fn explain_entry<E: Sink>(met: Met<'_>, slashed: &str, name: &str, errors: &mut E) {
+    if !name.ends_with(".pkt") {
+        return;
+    }
+    if let Ok(path) = format!(in met.rt.alloc(); "{slashed}{name}") {
+        explain_path(met, path.as_str(), Usage::New, errors);
+    }
+}

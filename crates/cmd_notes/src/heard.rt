@@ -1,0 +1,41 @@
+//! A writer that keeps what was written.
+
+use std::alloc::Global;
+use std::io;
+use std::io::Write;
+
+/// Standard error, of which the fault lines are kept, since notes come after them.
+#[derive(Drop)]
+pub struct Heard<W> {
+    to: W,
+    kept: Vec<u8>,
+}
+
+impl<W> Heard<W> {
+    pub fn new(alloc: Global, to: W) -> Heard<W> {
+        Heard {
+            to,
+            kept: Vec::new(alloc),
+        }
+    }
+
+    /// What was written, and kept as far as there was memory.
+    pub fn into_kept(self) -> Vec<u8>
+    where
+        W: Drop,
+    {
+        self.kept
+    }
+}
+
+impl<W: Write> Write for Heard<W> {
+    fn write(&mut self, buf: &[u8]) -> io::Result<usize> {
+        let count = self.to.write(buf)?;
+        let _ = self.kept.extend_from_slice(&buf[..count]);
+        Ok(count)
+    }
+
+    fn flush(&mut self) -> io::Result<()> {
+        self.to.flush()
+    }
+}

@@ -1,0 +1,245 @@
+//! Notes on the faults that a command printed. The program looks at the files of the command again. A reason counts if
+//! its fault has the line that was printed; so a file that changed meanwhile gets no note.
+
+use crate::file_notes::{
+    explain_files, explain_links, explain_net, explain_outbound, explain_path, explain_paths,
+};
+use crate::packets::explain_packets;
+use crate::reasons::{PathState, Reason, State, WordForm, push_note};
+use crate::states::Usage;
+use crate::word_notes::{
+    explain_area, explain_fields, explain_index, explain_moment, explain_word,
+};
+use cmd_input::{MAX_TEXT_FILE, names_of, read_file};
+use cmd_status::{Fault, print_rest};
+use cmd_words::{
+    Asked, CheckWords, ExportWords, PostStoredWords, PostWords, ReplyWords, TossWords, Words,
+};
+use disk_io::Sink;
+use echo_stored::read_stored;
+use std::fs;
+use std::io::IsTerminal;
+
+/// A command whose faults are explained, and the base that it makes, if there is none before it.
+#[derive(Clone, Copy)]
+pub struct Noted<'a> {
+    rt: &'a HostRuntime,
+    words: &'a Words<'a>,
+    new_base: Option<&'a str>,
+}
+
+/// A printed fault line without its end.
+#[derive(Clone, Copy)]
+pub(crate) struct Met<'a> {
+    pub(crate) rt: &'a HostRuntime,
+    line: &'a [u8],
+}
+
+impl Met<'_> {
+    /// Whether it is the line of this fault.
+    pub(crate) fn is(&self, fault: Fault<'_>) -> bool {
+        match format!(in self.rt.alloc(); "echonet: {fault}") {
+            Ok(line) => line.as_bytes() == self.line,
+            Err(_) => false,
+        }
+    }
+
+    /// Whether it is that of a fault of a link file.
+    pub(crate) fn is_of_links(&self) -> bool {
+        self.line.starts_with(b"echonet: L")
+    }
+
+    // Whether it is that of a fault of a packet.
+    fn is_of_packet(&self) -> bool {
+        self.line.starts_with(b"echonet: P") || self.line.starts_with(b"echonet: C1 ")
+    }
+}
+
+/// Prints a note.
+pub(crate) fn tell<E: Sink>(rt: &HostRuntime, why: Reason<'_>, errors: &mut E) {
+    let mut line = Vec::new(rt.alloc());
+    if push_note(&mut line, why).is_ok() {
+        let _ = print_rest(&mut line, errors);
+    }
+}
+
+fn tell_state<E: Sink>(rt: &HostRuntime, path: &str, state: State, errors: &mut E) {
+    tell(rt, Reason::Path(PathState { path, state }), errors);
+}
+
+impl<'a> Noted<'a> {
+    /// The command that these words ask for, before it runs. None where no note is wanted: `--explain` is missing, and
+    /// standard error is no terminal.
+    pub fn of(rt: &'a HostRuntime, asked: &'a Asked<'a>) -> Option<Noted<'a>> {
+        if !asked.explain && !rt.stderr().is_terminal() {
+            return None;
+        }
+        let base = match &asked.words {
+            Words::Toss(words) => Some(words.base),
+            Words::Scan { base, .. } => Some(*base),
+            _ => None,
+        };
+        Some(Noted {
+            rt,
+            words: &asked.words,
+            new_base: missing(rt, base),
+        })
+    }
+
+    /// Prints a note on each of these fault lines whose reason is known, and on what the command made.
+    pub fn tell<E: Sink>(&self, printed: &[u8], errors: &mut E) {
+        for line in printed.split(|byte| *byte == b'\n') {
+            if !line.is_empty() {
+                let met = Met { rt: self.rt, line };
+                explain(met, self.words, errors);
+            }
+        }
+        if let Some(path) = self.new_base {
+            if is_there(self.rt, path) {
+                tell_state(self.rt, path, State::NewBase, errors);
+            }
+        }
+        if printed.is_empty() {
+            self.tell_no_folder(errors);
+        }
+    }
+
+    // Says that a scan found no folder: one without packets needs none.
+    fn tell_no_folder<E: Sink>(&self, errors: &mut E) {
+        if let Words::Scan { folder, .. } = self.words {
+            if !is_there(self.rt, *folder) {
+                tell_state(self.rt, *folder, State::NoFolder, errors);
+            }
+        }
+    }
+}
+
+/// Whether something has the path.
+pub(crate) fn is_there(rt: &HostRuntime, path: &str) -> bool {
+    matches!(fs::exists(rt, path), Ok(true))
+}
+
+// The path, if nothing is there.
+fn missing<'a>(rt: &HostRuntime, path: Option<&'a str>) -> Option<&'a str> {
+    match path {
+        Some(path) if !is_there(rt, path) => Some(path),
+        _ => None,
+    }
+}
+
+fn explain<E: Sink>(met: Met<'_>, words: &Words<'_>, errors: &mut E) {
+    match words {
+        Words::Show { packet, .. } => explain_path(met, *packet, Usage::File, errors),
+        Words::Nodelist { find, file } => {
+            explain_word(met, Fault::BadAddress, WordForm::NodeAddress, *find, errors);
+            explain_path(met, *file, Usage::File, errors);
+        }
+        Words::Check(words) => explain_check(met, words, errors),
+        Words::Links { links, .. } => explain_paths(met, links, errors),
+        Words::Why { links, .. } | Words::Picture { links, .. } => explain_net(met, links, errors),
+        Words::Replay { script, links } => {
+            explain_path(met, *script, Usage::File, errors);
+            explain_net(met, links, errors);
+        }
+        Words::List(words) => {
+            explain_word(met, Fault::BadNumber, WordForm::Number, words.from, errors);
+            explain_path(met, words.base, Usage::Base, errors);
+        }
+        Words::Export(words) => explain_export(met, words, errors),
+        Words::Convert { from, to } => {
+            explain_path(met, *from, Usage::Base, errors);
+            explain_path(met, *to, Usage::New, errors);
+        }
+        _ => explain_station(met, words, errors),
+    }
+}
+
+// The same of a command that changes a base.
+fn explain_station<E: Sink>(met: Met<'_>, words: &Words<'_>, errors: &mut E) {
+    match words {
+        Words::Post(words) => explain_post(met, words, errors),
+        Words::PostMail(words) => {
+            explain_moment(met, words.at, Some(words.serial), errors);
+            explain_files(met, words.links, words.base, errors);
+        }
+        Words::PostStored(words) => explain_stored(met, words, errors),
+        Words::Reply(words) => explain_reply(met, words, errors),
+        Words::Toss(words) => explain_toss(met, words, errors),
+        Words::Scan {
+            at,
+            links,
+            base,
+            folder,
+        } => {
+            explain_moment(met, *at, None, errors);
+            explain_files(met, *links, *base, errors);
+            explain_path(met, *folder, Usage::Folder, errors);
+            explain_outbound(met, *folder, errors);
+        }
+        Words::Purge { links, base } => explain_files(met, *links, *base, errors),
+        _ => {}
+    }
+}
+
+fn explain_check<E: Sink>(met: Met<'_>, words: &CheckWords<'_>, errors: &mut E) {
+    if let Some(list) = words.nodelist {
+        explain_path(met, list, Usage::File, errors);
+    }
+    explain_net(met, &words.links, errors);
+}
+
+fn explain_export<E: Sink>(met: Met<'_>, words: &ExportWords<'_>, errors: &mut E) {
+    explain_word(met, Fault::BadNumber, WordForm::Number, words.from, errors);
+    explain_path(met, words.base, Usage::Base, errors);
+    if let Some(folder) = words.msg {
+        explain_path(met, folder, Usage::Folder, errors);
+    }
+}
+
+fn explain_post<E: Sink>(met: Met<'_>, words: &PostWords<'_>, errors: &mut E) {
+    explain_moment(met, words.at, Some(words.serial), errors);
+    explain_files(met, words.links, words.base, errors);
+    explain_area(met, words.area, words.links, errors);
+    let (to, from) = (words.to.len(), words.from.len());
+    explain_fields(met, to, from, words.subject.len(), errors);
+}
+
+fn explain_stored<E: Sink>(met: Met<'_>, words: &PostStoredWords<'_>, errors: &mut E) {
+    explain_moment(met, words.at, Some(words.serial), errors);
+    explain_path(met, words.message, Usage::File, errors);
+    explain_files(met, words.links, words.base, errors);
+    explain_area(met, words.area, words.links, errors);
+    let Ok(bytes) = read_file(met.rt, words.message, MAX_TEXT_FILE) else {
+        return;
+    };
+    if let Ok(draft) = read_stored(met.rt.alloc(), &bytes) {
+        let (to, from) = (draft.to_name.len(), draft.from_name.len());
+        explain_fields(met, to, from, draft.subject.len(), errors);
+    }
+}
+
+fn explain_reply<E: Sink>(met: Met<'_>, words: &ReplyWords<'_>, errors: &mut E) {
+    explain_moment(met, words.at, Some(words.serial), errors);
+    explain_files(met, words.links, words.base, errors);
+    explain_fields(met, 0, words.from.len(), 0, errors);
+    explain_index(met, words, errors);
+}
+
+fn explain_toss<E: Sink>(met: Met<'_>, words: &TossWords<'_>, errors: &mut E) {
+    explain_word(
+        met,
+        Fault::BadNumber,
+        WordForm::Limit,
+        words.text_limit,
+        errors,
+    );
+    if explain_links(met, words.links, errors) {
+        return;
+    }
+    explain_path(met, words.base, Usage::Changed, errors);
+    explain_paths(met, &words.packets, errors);
+    if met.is_of_packet() {
+        let found = names_of(met.rt, &words.packets);
+        explain_packets(met, words, &found.names, errors);
+    }
+}

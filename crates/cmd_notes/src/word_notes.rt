@@ -1,0 +1,102 @@
+//! Notes on words of the command line, and on the fields of a message.
+
+use crate::notes::{Met, is_there, tell};
+use crate::reasons::{LongField, Reason, WordForm, WrongWord};
+use base_file::Base;
+use cmd_input::base_bytes;
+use cmd_status::{Fault, number_of};
+use cmd_words::ReplyWords;
+use disk_io::Sink;
+use echo_packet::{Field, MAX_NAME, MAX_SUBJECT};
+use model_steps::PostFault;
+use std::collections::hash_map::RandomState;
+
+/// A word of another form.
+pub(crate) fn explain_word<E: Sink>(
+    met: Met<'_>,
+    fault: Fault<'_>,
+    form: WordForm,
+    word: Option<&str>,
+    errors: &mut E,
+) {
+    if let Some(word) = word {
+        if met.is(fault) {
+            tell(met.rt, Reason::Word(WrongWord { form, word }), errors);
+        }
+    }
+}
+
+/// The words for the moment and for the serial.
+pub(crate) fn explain_moment<E: Sink>(
+    met: Met<'_>,
+    at: &str,
+    serial: Option<&str>,
+    errors: &mut E,
+) {
+    explain_word(met, Fault::BadStamp, WordForm::Stamp, Some(at), errors);
+    explain_word(met, Fault::BadSerial, WordForm::Serial, serial, errors);
+}
+
+/// An area that the link file lacks.
+pub(crate) fn explain_area<E: Sink>(met: Met<'_>, tag: &str, links: &str, errors: &mut E) {
+    if met.is(Fault::Post(PostFault::NoArea)) {
+        tell(met.rt, Reason::NoArea(tag, links), errors);
+    }
+}
+
+/// Names and a subject of so many bytes, of which the first that is too long is named.
+pub(crate) fn explain_fields<E: Sink>(
+    met: Met<'_>,
+    to: usize,
+    from: usize,
+    subject: usize,
+    errors: &mut E,
+) {
+    if !met.is(Fault::Post(PostFault::FieldTooLong)) {
+        return;
+    }
+    let (field, length, most) = if to > MAX_NAME {
+        (Field::ToName, to, MAX_NAME)
+    } else if from > MAX_NAME {
+        (Field::FromName, from, MAX_NAME)
+    } else if subject > MAX_SUBJECT {
+        (Field::Subject, subject, MAX_SUBJECT)
+    } else {
+        return;
+    };
+    let long = LongField {
+        field,
+        length,
+        most,
+    };
+    tell(met.rt, Reason::TooLong(long), errors);
+}
+
+/// The number of a message that is answered.
+pub(crate) fn explain_index<E: Sink>(met: Met<'_>, words: &ReplyWords<'_>, errors: &mut E) {
+    if !met.is(Fault::BadNumber) {
+        return;
+    }
+    match number_of(words.index) {
+        Ok(number) => match count_of(met.rt, words.base) {
+            Some(count) if number >= count => {
+                tell(met.rt, Reason::NoMessage(number, count), errors)
+            }
+            _ => {}
+        },
+        Err(fault) => {
+            explain_word(met, fault, WordForm::Number, Some(words.index), errors);
+        }
+    }
+}
+
+// How many messages a base has.
+fn count_of(rt: &HostRuntime, path: &str) -> Option<u64> {
+    if !is_there(rt, path) {
+        return Some(0);
+    }
+    let hasher = RandomState::new(rt).ok()?;
+    let bytes = base_bytes(rt, path).ok()?;
+    let base = Base::load(rt.alloc(), &mut bytes.as_slice(), hasher).ok()?;
+    Some(base.len() as u64)
+}

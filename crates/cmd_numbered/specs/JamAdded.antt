@@ -1,0 +1,84 @@
+-- What is added to a JAM base: which messages of a base, under which numbers, and their bytes in its files.
+use Rattle.std.specs.Prelude.{◌≡◌, ℕ, zero, suc, ◌+◌, ◌⊎◌, ◌&&◌, nat_lt, max, Bool, false, List, [], ◌∷◌, ◌++◌, length, if◌then◌else◌, slice_get, Option, Some, None, Result, Ok, Err}
+use Rattle.echo_filed.specs.Filed.{Filed}
+use Rattle.echo_links.specs.Links.{upper}
+use Rattle.echo_jam.specs.Fields.{body_of, cuts_of}
+use Rattle.echo_jam.specs.JamMessage.{entry_of, header_of}
+use Rattle.echo_jam.specs.Same.{is_same}
+use Rattle.cmd_status.specs.declared.fault.Fault.{Fault}
+use Rattle.cmd_status.specs.Ended.{IsOutOfMemory}
+use Rattle.cmd_status.specs.Inputs.{IsBaseFault, IsBaseGiven}
+use Rattle.cmd_numbered.specs.declared.adding.Adding.{Adding}
+use Rattle.cmd_numbered.specs.declared.adding.JamEnd.{JamEnd}
+use Rattle.cmd_numbered.specs.declared.adding.JamExport.{JamExport}
+use Rattle.cmd_numbered.specs.Numbered.{is_exported}
+
+-- what is added to headers, texts and index; the numbers that its messages have in their base; how many subfields are cut
+pub record Added : Type 0 where
+  pub headers : List ℕ
+  pub texts : List ℕ
+  pub index : List ℕ
+  pub messages : List ℕ
+  pub cuts : ℕ
+
+abbrev pub added_in : Adding → Added
+added_in a = record {
+  headers = a.jam.headers.items;
+  texts = a.jam.texts.items;
+  index = a.jam.index.items;
+  messages = a.messages.items;
+  cuts = a.jam.cuts;
+}
+
+abbrev pub nothing_added : Added
+nothing_added = record { headers = []; texts = []; index = []; messages = []; cuts = 0 }
+
+-- one message more, scanned or not, behind where the base ends and what was added before
+abbrev pub with_message : Bool → JamEnd → ℕ → Filed → Added → Added
+with_message scanned end i m a = record {
+  headers = a.headers ++ header_of scanned m (end.number + length a.messages) (end.texts + length a.texts);
+  texts = a.texts ++ body_of m;
+  index = a.index ++ entry_of m (end.headers + length a.headers);
+  messages = a.messages ++ i ∷ [];
+  cuts = a.cuts + cuts_of m;
+}
+
+-- the message of this number more, if it is exported; those before the cursor were scanned
+abbrev pub added_at : List ℕ → ℕ → ℕ → JamEnd → ℕ → Option Filed → Added → Added
+added_at area first cursor end i None a = a
+added_at area first cursor end i (Some m) a = if is_exported area first cursor i m then with_message (nat_lt i cursor) end i m a else a
+
+-- the first so many messages
+abbrev pub added_of : List ℕ → ℕ → ℕ → JamEnd → List Filed → ℕ → Added
+added_of area first cursor end base zero = nothing_added
+added_of area first cursor end base (suc n) =
+    added_at area first cursor end n (slice_get base n) (added_of area first cursor end base n)
+
+-- whether the last message of the JAM base, whose header stands there, is the message of this number, exported before
+abbrev pub is_last_jam : List ℕ → ℕ → ℕ → List ℕ → Option ℕ → List ℕ → ℕ → Option Filed → Bool
+is_last_jam area first cursor headers None text i m = false
+is_last_jam area first cursor headers (Some place) text i None = false
+is_last_jam area first cursor headers (Some place) text i (Some m) = is_exported area first cursor i m && is_same headers place text m
+
+-- the number behind that of the last message among the first so many that it is; `first` where it is none of them
+abbrev pub resumed_jam : List ℕ → ℕ → ℕ → List ℕ → Option ℕ → List ℕ → List Filed → ℕ → ℕ
+resumed_jam area first cursor headers last text base zero = first
+resumed_jam area first cursor headers last text base (suc n) =
+    if is_last_jam area first cursor headers last text n (slice_get base n) then n + 1
+    else resumed_jam area first cursor headers last text base n
+
+-- The base file has no fault, and this is what its messages add: those of the area from the number `first` on, or from
+-- behind the one that is the last of the JAM base. The area is asked for in letters of either case.
+pub record IsJamExport (area : List ℕ) (first : ℕ) (headers : List ℕ) (last : Option ℕ) (text : List ℕ) (end : JamEnd) (base : List ℕ) (exported : JamExport) : Type 0 where
+  pub messages : List Filed
+  pub cursor : ℕ
+  pub given : IsBaseGiven (Some base) messages cursor
+  pub from : ℕ
+  pub from_is : from ≡ resumed_jam (upper area) first cursor headers last text messages (length messages)
+  pub added_is : added_in exported.adding ≡ added_of (upper area) from cursor end messages (length messages)
+  pub end_is : exported.end ≡ max from (length messages)
+
+-- what is answered where the messages of a base are to be added to a JAM base
+abbrev pub JamAnswers : List ℕ → ℕ → List ℕ → Option ℕ → List ℕ → JamEnd → List ℕ → Result JamExport Fault → Type 0
+JamAnswers area first headers last text end base (Ok exported) = IsJamExport area first headers last text end base exported
+JamAnswers area first headers last text end base (Err fault) = IsOutOfMemory fault ⊎ IsBaseFault (Some base) fault

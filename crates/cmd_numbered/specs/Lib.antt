@@ -1,0 +1,5 @@
+pub mod Names
+pub mod Numbered
+pub mod Told
+pub mod JamAdded
+pub mod Resending

@@ -1,0 +1,79 @@
+-- Messages of a base as numbered files of a folder: which of them, their bytes, and under which numbers.
+use Rattle.std.specs.Prelude.{◌≡◌, ℕ, zero, suc, ◌+◌, ◌⊎◌, ◌&&◌, ◌||◌, not, nat_le, nat_lt, max, Bool, false, List, [], ◌∷◌, ◌++◌, length, take, drop, if◌then◌else◌, slice_get, bytes_eq, Option, Some, None, is_some, Result, Ok, Err}
+use Rattle.echo_filed.specs.Filed.{Filed}
+use Rattle.echo_filed.specs.Stubs.{is_stub}
+use Rattle.echo_links.specs.Links.{upper}
+use Rattle.echo_text.specs.Echo.{msgid_of}
+use Rattle.cmd_status.specs.declared.fault.Fault.{Fault}
+use Rattle.cmd_status.specs.Ended.{IsOutOfMemory}
+use Rattle.cmd_status.specs.Inputs.{IsBaseFault, IsBaseGiven}
+use Rattle.echo_stored.specs.StoredMessage.{stored_bytes}
+use Rattle.cmd_numbered.specs.declared.numbering.Exported.{Exported}
+use Rattle.cmd_numbered.specs.declared.numbering.MessageFile.{MessageFile}
+use Rattle.cmd_numbered.specs.Names.{name_of}
+
+-- whether nothing is left of a message's text but its id
+abbrev pub is_purged : Filed → Bool
+is_purged m = is_some (msgid_of m.echo.kept) && is_stub m
+
+-- whether the message of this number is exported: one of the area, from the number `first` on, of which no purge took the text
+abbrev pub is_exported : List ℕ → ℕ → ℕ → ℕ → Filed → Bool
+is_exported area first cursor i m = nat_le first i && (bytes_eq m.echo.tag area && (nat_le cursor i || not (is_purged m)))
+
+-- what stands before the numbers of a stored message, and behind them; readers change the numbers alone
+abbrev pub before_numbers : List ℕ → List ℕ
+before_numbers bytes = take 164 bytes
+
+abbrev pub behind_numbers : List ℕ → List ℕ
+behind_numbers bytes = drop 190 bytes
+
+-- whether two stored messages are the same but for their numbers
+abbrev pub is_same_stored : List ℕ → List ℕ → Bool
+is_same_stored one other = bytes_eq (before_numbers one) (before_numbers other) && bytes_eq (behind_numbers one) (behind_numbers other)
+
+-- whether the last file of the folder is the message of this number, exported before
+abbrev pub is_last : List ℕ → ℕ → ℕ → Option (List ℕ) → ℕ → Option Filed → Bool
+is_last area first cursor None i m = false
+is_last area first cursor (Some last) i None = false
+is_last area first cursor (Some last) i (Some m) = is_exported area first cursor i m && is_same_stored last (stored_bytes (nat_lt i cursor) m)
+
+-- the number behind that of the last message among the first so many that the last file is; `first` where it is none of them
+abbrev pub resumed : List ℕ → ℕ → ℕ → Option (List ℕ) → List Filed → ℕ → ℕ
+resumed area first cursor last base zero = first
+resumed area first cursor last base (suc n) = if is_last area first cursor last n (slice_get base n) then n + 1 else resumed area first cursor last base n
+
+-- the file with this number, of the message of this number; those before the cursor were scanned
+abbrev pub file_of : ℕ → ℕ → ℕ → Filed → MessageFile
+file_of cursor number i m = record { name = name_of number; message = i; bytes = stored_bytes (nat_lt i cursor) m }
+
+-- the file of the message of this number, if it is exported
+abbrev pub file_at : List ℕ → ℕ → ℕ → ℕ → ℕ → Option Filed → List MessageFile
+file_at area first cursor number i None = []
+file_at area first cursor number i (Some m) = if is_exported area first cursor i m then file_of cursor number i m ∷ [] else []
+
+-- the files of the first so many messages, numbered from `number` on
+abbrev pub files_of : List ℕ → ℕ → ℕ → ℕ → List Filed → ℕ → List MessageFile
+files_of area first cursor number base zero = []
+files_of area first cursor number base (suc n) =
+    files_of area first cursor number base n
+    ++ file_at area first cursor (number + length (files_of area first cursor number base n)) n (slice_get base n)
+
+-- the number of the first file behind the greatest that is there; never 1, where tossers of the field keep how far they came
+abbrev pub first_number : ℕ → ℕ
+first_number greatest = max greatest 1 + 1
+
+-- The base file has no fault, and these are the files of its messages: those of the area from the number `first` on, or
+-- from behind the one that is the last file of the folder. The area is asked for in letters of either case.
+pub record IsExport (area : List ℕ) (first greatest : ℕ) (last : Option (List ℕ)) (base : List ℕ) (exported : Exported) : Type 0 where
+  pub messages : List Filed
+  pub cursor : ℕ
+  pub given : IsBaseGiven (Some base) messages cursor
+  pub from : ℕ
+  pub from_is : from ≡ resumed (upper area) first cursor last messages (length messages)
+  pub files_are : exported.files ≡ files_of (upper area) from cursor (first_number greatest) messages (length messages)
+  pub end_is : exported.end ≡ max from (length messages)
+
+-- what is answered where the messages of a base are to become files
+abbrev pub ExportAnswers : List ℕ → ℕ → ℕ → Option (List ℕ) → List ℕ → Result Exported Fault → Type 0
+ExportAnswers area first greatest last base (Ok exported) = IsExport area first greatest last base exported
+ExportAnswers area first greatest last base (Err fault) = IsOutOfMemory fault ⊎ IsBaseFault (Some base) fault

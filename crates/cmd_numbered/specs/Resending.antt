@@ -1,0 +1,29 @@
+-- A packet that is made again of a base file.
+use Rattle.std.specs.Prelude.{◌≡◌, ℕ, ◌⊎◌, true, false, List, Some, Result, Ok, Err}
+use Rattle.echo_addr.specs.declared.address.Address.{Address}
+use Rattle.echo_filed.specs.Filed.{Filed}
+use Rattle.echo_links.specs.Links.{LinkFile, upper}
+use Rattle.model_steps.specs.declared.fault.ScanFault.TheVariants.{BadStamp}
+use Rattle.model_steps.specs.declared.packet.Packet.{Packet}
+use Rattle.model_steps.specs.declared.stamp.Stamp.{Stamp}
+use Rattle.model_steps.specs.Resending.{resent_packet}
+use Rattle.model_steps.specs.Stamps.{is_stamp}
+use Rattle.cmd_status.specs.declared.fault.Fault.{Fault}
+use Rattle.cmd_status.specs.declared.fault.Fault.TheVariants.{Scan}
+use Rattle.cmd_status.specs.Ended.{IsOutOfMemory}
+use Rattle.cmd_status.specs.Inputs.{IsBaseFault, IsBaseGiven}
+
+-- The base file has no fault, and this is the packet that is made again of its messages. The area is asked for in letters of
+-- either case.
+pub record IsMadeAgain (file : LinkFile) (stamp : Stamp) (area : List ℕ) (to : Address) (first : ℕ) (base : List ℕ) (packet : Packet) : Type 0 where
+  pub messages : List Filed
+  pub cursor : ℕ
+  pub given : IsBaseGiven (Some base) messages cursor
+  pub moment : is_stamp stamp ≡ true
+  pub packet_is : packet ≡ resent_packet file stamp (upper area) to first messages cursor
+
+-- what is answered where a packet is to be made again
+abbrev pub ResendAnswers : LinkFile → Stamp → List ℕ → Address → ℕ → List ℕ → Result Packet Fault → Type 0
+ResendAnswers file stamp area to first base (Ok packet) = IsMadeAgain file stamp area to first base packet
+ResendAnswers file stamp area to first base (Err fault) =
+    IsOutOfMemory fault ⊎ (IsBaseFault (Some base) fault ⊎ ((fault ≡ Scan BadStamp) × (is_stamp stamp ≡ false)))

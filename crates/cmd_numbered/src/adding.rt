@@ -1,0 +1,218 @@
+//! Which messages are added to a JAM base, and what that adds.
+ghost use Rattle.std.specs.Prelude.{List, ℕ, Some, ◌≡◌, ◌⊎◌, ◌+◌, ◌&&◌, IfOk, OnOk, length, option_copied};
+ghost use Rattle.cmd_status.specs.Inputs.{IsBaseGiven};
+ghost use Rattle.cmd_numbered.specs.JamAdded.{JamAnswers, added_at, added_in, added_of, is_last_jam, nothing_added, resumed_jam, with_message};
+
+use crate::numbering::{base_read, is_exported};
+use base_file::Base;
+use cmd_status::Fault;
+use echo_filed::Filed;
+use echo_jam::{Jam, is_same, push_jam};
+use std::alloc::{AllocError, Global};
+use std::hash::BuildHasher;
+
+/// The end of a JAM base: the number of its next message, and the length of its headers and texts.
+#[derive(Clone, Copy, Debug)]
+pub struct JamEnd {
+    pub number: u32,
+    pub headers: u32,
+    pub texts: u32,
+}
+
+/// A JAM base to which messages are added: its headers, the place of the last one among them and the text of that
+/// message, and its end.
+#[derive(Clone, Copy)]
+pub struct JamBase<'a> {
+    pub headers: &'a [u8],
+    pub last: Option<u32>,
+    pub text: &'a [u8],
+    pub end: JamEnd,
+}
+
+/// What is to be added to the files of a JAM base, and the numbers that its messages have in their base.
+#[derive(Debug, Drop)]
+pub struct Adding {
+    pub jam: Jam,
+    pub messages: Vec<usize>,
+}
+
+/// The same, and the number of the message behind all that were looked at.
+#[derive(Debug, Drop)]
+pub struct JamExport {
+    pub adding: Adding,
+    pub end: u64,
+}
+
+/// `export --jam PATH --area TAG [--from I] BASE`: what the messages of the area add to a JAM base, from the number
+/// `first` on, or from behind the one that is its last: a run that was stopped goes on there.
+pub fn export_jam<'a, S: BuildHasher + Drop>(
+    alloc: Global,
+    area: &[u8],
+    first: u64,
+    jam: JamBase<'_>,
+    base: &[u8],
+    hasher: S,
+) -> Result<JamExport, Fault<'a>>
+    ensures { JamAnswers area.now first jam.entry.headers.now jam.entry.last jam.entry.text.now jam.entry.end base.now result }
+{
+    let base = base_read(alloc, base, hasher)?;
+    export_read_jam(alloc, area, first, jam, &base)
+}
+
+// The same of a base that is read.
+fn export_read_jam<'a, S: BuildHasher>(
+    alloc: Global,
+    area: &[u8],
+    first: u64,
+    jam: JamBase<'_>,
+    base: &Base<S>,
+) -> Result<JamExport, Fault<'a>>
+    ensures { (bytes : List ℕ) → IsBaseGiven (Some bytes) base.now.messages base.now.cursor
+        → JamAnswers area.now first jam.entry.headers.now jam.entry.last jam.entry.text.now jam.entry.end bytes result }
+{
+    let area = area.to_ascii_uppercase(alloc)?;
+    let from = resumed_jam(alloc, &area, first, jam, base)?;
+    let adding = added_of(alloc, &area, from, jam.end, base)?;
+    let end = from.max(base.len() as u64);
+    Ok(JamExport { adding, end })
+}
+
+// The number behind the last message that the last one of the JAM base is, else `first`.
+fn resumed_jam<S: BuildHasher>(
+    alloc: Global,
+    area: &[u8],
+    first: u64,
+    jam: JamBase<'_>,
+    base: &Base<S>,
+) -> Result<u64, AllocError>
+    ensures { IfOk result (λ from. from ≡ resumed_jam area.now first base.now.cursor jam.entry.headers.now jam.entry.last jam.entry.text.now base.now.messages (length base.now.messages)) }
+{
+    let cursor = base.cursor();
+    let mut from = first;
+    'messages: for i in 0..base.len() {
+        if is_last_jam(alloc, area, first, cursor, jam, i, base.message(i))? {
+            from = i as u64 + 1;
+        }
+    }
+    Ok(from)
+}
+
+// Whether the last message of the JAM base is the one of this number.
+fn is_last_jam(
+    alloc: Global,
+    area: &[u8],
+    first: u64,
+    cursor: usize,
+    jam: JamBase<'_>,
+    i: usize,
+    message: Option<&Filed>,
+) -> Result<bool, AllocError>
+    ensures { IfOk result (λ is. is ≡ is_last_jam area.now first cursor jam.entry.headers.now jam.entry.last jam.entry.text.now i (option_copied message.entry)) }
+{
+    let Some(place) = jam.last else {
+        return Ok(false);
+    };
+    let Some(message) = message else {
+        return Ok(false);
+    };
+    if !is_exported(area, first, cursor, i, message) {
+        return Ok(false);
+    }
+    is_same(alloc, jam.headers, place, jam.text, message)
+}
+
+// What the messages add.
+fn added_of<S: BuildHasher>(
+    alloc: Global,
+    area: &[u8],
+    first: u64,
+    end: JamEnd,
+    base: &Base<S>,
+) -> Result<Adding, AllocError>
+    ensures { IfOk result (λ adding. added_in adding ≡ added_of area.now first base.now.cursor end base.now.messages (length base.now.messages)) }
+{
+    let cursor = base.cursor();
+    let mut adding = nothing_added(alloc);
+    'messages: for i in 0..base.len() {
+        add_if_exported(
+            alloc,
+            &mut adding,
+            area,
+            first,
+            cursor,
+            end,
+            i,
+            base.message(i),
+        )?;
+    }
+    Ok(adding)
+}
+
+fn nothing_added(alloc: Global) -> Adding
+    ensures { added_in result ≡ nothing_added }
+{
+    Adding {
+        jam: Jam {
+            headers: Vec::new(alloc),
+            texts: Vec::new(alloc),
+            index: Vec::new(alloc),
+            cuts: 0,
+        },
+        messages: Vec::new(alloc),
+    }
+}
+
+// Adds the message of this number, if it is exported.
+fn add_if_exported(
+    alloc: Global,
+    adding: &mut Adding,
+    area: &[u8],
+    first: u64,
+    cursor: usize,
+    end: JamEnd,
+    i: usize,
+    message: Option<&Filed>,
+) -> Result<(), AllocError>
+    ensures { OnOk result (added_in adding.new ≡ added_at area.now first cursor end i (option_copied message.entry) (added_in adding.old)) }
+{
+    let Some(message) = message else {
+        return Ok(());
+    };
+    if !is_exported(area, first, cursor, i, message) {
+        return Ok(());
+    }
+    add_message(alloc, adding, end, i, message, i < cursor)
+}
+
+// Adds a message, which was scanned or waits.
+fn add_message(
+    alloc: Global,
+    adding: &mut Adding,
+    end: JamEnd,
+    i: usize,
+    message: &Filed,
+    scanned: bool,
+) -> Result<(), AllocError>
+    ensures { OnOk result (added_in adding.new ≡ with_message scanned end i message.now (added_in adding.old)) }
+{
+    let number = number_behind(end.number, adding.messages.len())?;
+    push_jam(
+        alloc,
+        &mut adding.jam,
+        message,
+        scanned,
+        number,
+        end.headers,
+        end.texts,
+    )?;
+    adding.messages.push(i)?;
+    Ok(())
+}
+
+// The number behind so many messages. More than four bytes count is refused as out of memory.
+fn number_behind(first: u32, count: usize) -> Result<u32, AllocError>
+    ensures { IfOk result (λ number. number ≡ first + count) }
+{
+    let count = u32::try_from(count).map_err(|_| AllocError)?;
+    first.checked_add(count).ok_or(AllocError)
+}

@@ -1,0 +1,12 @@
+use Rattle.std.proofs.Common.{ap, codes, length, sym, ◌++◌, ◌∙◌}
+use Rattle.std.specs.List.{flat_map}
+use Rattle.std.proofs.lemmas.Bool.{eqb-true}
+use Rattle.std.proofs.lemmas.List.{append-nil}
+use Rattle.echo_text.proofs.TextLines.{no_lines}
+use Rattle.echo_charset.specs.Escaped.{escaped_line}
+use Rattle.cmd_print.proofs.base_text.push_lines.Goals as goal
+
+pub returns : goal.returns
+returns c =
+    let none = no_lines c.pieces.rest.now (eqb-true (length c.pieces.rest.now) 0 (sym c.is_empty.ensures ∙ c.pieces-test.false)) in
+    sym (append-nil c.pieces.lines.items) ∙ ap (λ ls. c.pieces.lines.items ++ flat_map (λ line. escaped_line (codes "line") line) ls) (sym none) ∙ c.pieces.invariant

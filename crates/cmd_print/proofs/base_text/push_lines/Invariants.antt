@@ -1,0 +1,13 @@
+use Rattle.std.proofs.Common.{◌≡◌, ◌++◌, codes, length}
+use Rattle.std.specs.List.{flat_map}
+use Rattle.echo_text.specs.Lines.{lines}
+use Rattle.echo_charset.specs.Escaped.{escaped_line}
+use Rattle.cmd_print.proofs.base_text.push_lines.Given as goal
+
+abbrev pub invariant-pieces : goal.invariant-pieces
+invariant-pieces l =
+    l.lines.items ++ flat_map (λ line. escaped_line (codes "line") line) (lines l.rest)
+    ≡ l.initial.lines.items ++ flat_map (λ line. escaped_line (codes "line") line) (lines l.text)
+
+abbrev pub decreases-pieces : goal.decreases-pieces
+decreases-pieces l = length l.rest

@@ -1,0 +1,7 @@
+use Rattle.std.proofs.Common.{◌≡◌, ◌++◌, take}
+use Rattle.std.specs.List.{flat_map}
+use Rattle.cmd_print.specs.Pictured.{system_line}
+use Rattle.cmd_print.proofs.picture_text.push_systems.Given as goal
+
+abbrev pub invariant-systems : goal.invariant-systems
+invariant-systems l = l.lines.items ≡ l.initial.lines.items ++ flat_map system_line (take l.system-index l.systems)

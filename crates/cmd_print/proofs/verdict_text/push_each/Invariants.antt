@@ -1,0 +1,8 @@
+-- The lines of the systems so far are there.
+use Rattle.std.proofs.Common.{◌≡◌, ◌++◌, take}
+use Rattle.std.specs.List.{flat_map}
+use Rattle.cmd_print.specs.Checked.{absence_line}
+use Rattle.cmd_print.proofs.verdict_text.push_each.Given as goal
+
+abbrev pub invariant-absent : goal.invariant-absent
+invariant-absent l = l.lines.items ≡ l.initial.lines.items ++ flat_map absence_line (take l.one-index l.absent)

@@ -1,0 +1,61 @@
+//! What a text says as echomail, as it is printed.
+ghost use Rattle.std.specs.Prelude.{◌≡◌, ◌++◌, length, option_copied, codes, OnOk};
+ghost use Rattle.cmd_print.specs.Said.{area_line, counts_line, echo_lines, found_line, found_lines};
+
+use echo_charset::{push_escaped, written};
+use echo_text::EchoView;
+use std::alloc::AllocError;
+use std::io::Write;
+
+/// Adds the lines of what an echomail text says, of whose SEEN-BY and PATH lines so many tokens are no
+/// entries: its tag, ids, tear and origin line, and the numbers of entries.
+pub fn push_echo(lines: &mut Vec<u8>, echo: &EchoView, dropped: usize) -> Result<(), AllocError>
+    ensures { OnOk result (lines.new.items ≡ lines.old.items ++ echo_lines echo.now dropped) }
+{
+    push_area(lines, echo.tag.as_slice())?;
+    push_found_lines(lines, echo)?;
+    push_counts(lines, echo.seen.len(), echo.path.len(), dropped)
+}
+
+// Adds the line of the tag.
+fn push_area(lines: &mut Vec<u8>, tag: &[u8]) -> Result<(), AllocError>
+    ensures { OnOk result (lines.new.items ≡ lines.old.items ++ area_line tag.now) }
+{
+    lines.extend_from_slice(b"area ")?;
+    lines.extend_from_slice(tag)?;
+    lines.push(b'\n')?;
+    Ok(())
+}
+
+// Adds the lines of the ids, the tear and the origin line.
+fn push_found_lines(lines: &mut Vec<u8>, echo: &EchoView) -> Result<(), AllocError>
+    ensures { OnOk result (lines.new.items ≡ lines.old.items ++ found_lines echo.now.kept) }
+{
+    push_found(lines, b"msgid", echo.msgid())?;
+    push_found(lines, b"reply", echo.reply())?;
+    push_found(lines, b"tear", echo.tear())?;
+    push_found(lines, b"origin", echo.origin())?;
+    Ok(())
+}
+
+// Adds the line of what was found, if anything was.
+fn push_found(lines: &mut Vec<u8>, word: &[u8], found: Option<&[u8]>) -> Result<(), AllocError>
+    ensures { OnOk result (lines.new.items ≡ lines.old.items ++ found_line word.now (option_copied found.entry)) }
+{
+    match found {
+        Some(bytes) => push_escaped(lines, word, bytes),
+        None => Ok(()),
+    }
+}
+
+// Adds the line of how many entries there are.
+fn push_counts(
+    lines: &mut Vec<u8>,
+    seen: usize,
+    path: usize,
+    dropped: usize,
+) -> Result<(), AllocError>
+    ensures { OnOk result (lines.new.items ≡ lines.old.items ++ counts_line seen path dropped) }
+{
+    written(writeln!(lines, "seen {seen} path {path} dropped {dropped}"))
+}

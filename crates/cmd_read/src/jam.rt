@@ -1,0 +1,252 @@
+//! `export --jam`: messages of a base added to the four files of a JAM base. The file of headers is locked from before
+//! anything is read until the last write, so that two runs at once add each message once.
+//!
+//! What is added is written in this order, each flushed before the next: texts, headers, index, and then the counts and
+//! what earlier headers name as replies. A reader sees just what the index names. So wherever a run is stopped, there
+//! stands a base with the first of its messages, and what is left behind the last of them is seen by nobody; only the
+//! number of active messages may be too small, until the next run, and earlier headers may not name the last replies.
+
+use crate::locked::{begun_again, locked_headers};
+use crate::named::{bytes_of, jam_fault, open_file, open_or_make, write_at};
+use base_file::BaseFault;
+use cmd_input::base_bytes;
+use cmd_numbered::{JamBase, JamEnd, JamExport, export_jam, tell_added, tell_cuts};
+use cmd_status::{Fault, Status, ended, number_of};
+use cmd_words::ExportWords;
+use disk_io::Sink;
+use echo_jam::{Last, Standing, counts_after, link_replies, standing_in};
+use std::alloc::AllocError;
+use std::collections::hash_map::RandomState;
+use std::fs::File;
+use std::io;
+use std::os::unix::fs::FileExt;
+
+/// The offset of the counts in the headers.
+const COUNTS_AT: u64 = 8;
+
+/// Where a header names the first reply of its message, and the next one to the same message.
+const REPLIES_AT: usize = 28;
+
+// The files of a JAM base, the one with headers under its lock, and their contents.
+#[derive(Drop)]
+struct JamFiles {
+    headers: File,
+    texts: File,
+    index: File,
+    found: Vec<u8>,
+    entries: Vec<u8>,
+    index_end: u64,
+    index_len: u64,
+    standing: Standing,
+    end: JamEnd,
+    text: Vec<u8>,
+}
+
+/// `export --jam PATH --area TAG [--from I] BASE`: the number is judged first, then that the base can be read, then the
+/// JAM base, which is locked before the base is read, and what the base holds last.
+pub fn run_export_jam<W: Sink, E: Sink>(
+    rt: &HostRuntime,
+    words: &ExportWords<'_>,
+    path: &str,
+    out: &mut W,
+    errors: &mut E,
+) -> Status {
+    let (files, exported) = match jam_given(rt, words, path) {
+        Ok(given) => given,
+        Err(fault) => return fault.report(errors),
+    };
+    let (made, stopped) = match write_jam(rt, &files, &exported) {
+        Ok(()) => (exported.adding.messages.len(), None),
+        Err(fault) => (entries_made(&files, &exported), Some(fault)),
+    };
+    let told = match tell_added(rt.alloc(), &exported, made, out) {
+        Ok(()) => Ok(Status::Good),
+        Err(fault) => Err(fault),
+    };
+    let _ = files.headers.unlock();
+    match stopped {
+        Some(error) => jam_fault(&error, path).report(errors),
+        None => {
+            tell_cuts(rt.alloc(), exported.adding.jam.cuts, errors);
+            ended(told, errors)
+        }
+    }
+}
+
+// The JAM base, and the additions to it. If no seed for the hasher is available, that is a failed read.
+fn jam_given<'a>(
+    rt: &HostRuntime,
+    words: &ExportWords<'a>,
+    path: &'a str,
+) -> Result<(JamFiles, JamExport), Fault<'a>> {
+    let first = match words.from {
+        Some(word) => number_of(word)?,
+        None => 0,
+    };
+    let hasher = RandomState::new(rt).map_err(|_| Fault::Base(BaseFault::Read))?;
+    let headers = locked_headers(rt, path, words.base);
+    let base = base_bytes(rt, words.base)?;
+    let files = jam_files(rt, path, headers?)?;
+    let jam = JamBase {
+        headers: files.found.as_slice(),
+        last: files.standing.last.map(|last| last.place),
+        text: files.text.as_slice(),
+        end: files.end,
+    };
+    let area = words.area.unwrap_or("").as_bytes();
+    let exported = export_jam(rt.alloc(), area, first, jam, &base, hasher)?;
+    Ok((files, exported))
+}
+
+// The files of the JAM base, and their contents.
+fn jam_files<'a>(rt: &HostRuntime, path: &'a str, headers: File) -> Result<JamFiles, Fault<'a>> {
+    let found = bytes_of(rt, path, &headers)?;
+    let found = begun_again(rt, path, &headers, found)?;
+    let texts = open_file(rt, path, ".jdt").map_err(|error| jam_fault(&error, path))?;
+    let index = open_file(rt, path, ".jdx").map_err(|error| jam_fault(&error, path))?;
+    open_or_make(rt, path, ".jlr").map_err(|error| jam_fault(&error, path))?;
+    files_read(rt, path, headers, found, texts, index)
+}
+
+// The contents of the files.
+fn files_read<'a>(
+    rt: &HostRuntime,
+    path: &'a str,
+    headers: File,
+    found: Vec<u8>,
+    texts: File,
+    index: File,
+) -> Result<JamFiles, Fault<'a>> {
+    let entries = bytes_of(rt, path, &index)?;
+    let texts_end = match texts.metadata() {
+        Ok(found) => found.len(),
+        Err(error) => return Err(jam_fault(&error, path)),
+    };
+    let standing = match standing_in(found.as_slice(), entries.as_slice(), texts_end) {
+        Some(standing) => standing,
+        None => return Err(Fault::CannotUse(path)),
+    };
+    let text = last_text(rt, &texts, texts_end, standing.last).map_err(|error| jam_fault(
+        &error, path,
+    ))?;
+    let end = JamEnd {
+        number: standing.next,
+        headers: u32::try_from(found.len()).map_err(|_| Fault::CannotUse(path))?,
+        texts: u32::try_from(texts_end).map_err(|_| Fault::CannotUse(path))?,
+    };
+    let index_end = u64::from(standing.entries) * 8;
+    Ok(JamFiles {
+        headers,
+        texts,
+        index,
+        found,
+        index_end,
+        index_len: entries.len() as u64,
+        entries,
+        standing,
+        end,
+        text,
+    })
+}
+
+// The text of the last message, where it has one.
+fn last_text(
+    rt: &HostRuntime,
+    texts: &File,
+    texts_end: u64,
+    last: Option<Last>,
+) -> io::Result<Vec<u8>> {
+    let mut text = Vec::new(rt.alloc());
+    if let Some(last) = last {
+        if u64::from(last.text) + u64::from(last.size) <= texts_end {
+            text.resize(last.size as usize, 0)?;
+            texts.read_exact_at(text.as_mut_slice(), u64::from(last.text))?;
+        }
+    }
+    Ok(text)
+}
+
+// Writes what is added. Where nothing is, the count of active messages is right and the index ends with no entry of
+// zeros, no byte changes.
+fn write_jam(rt: &HostRuntime, files: &JamFiles, exported: &JamExport) -> io::Result<()> {
+    let standing = files.standing;
+    let added = exported.adding.messages.len();
+    let has_zeros = files.index_len.saturating_sub(files.index_end) >= 8;
+    if added == 0 && standing.active == standing.counted && !has_zeros {
+        return Ok(());
+    }
+    let jam = &exported.adding.jam;
+    let counts = counts_after(rt.alloc(), standing, added)?;
+    let headers = linked_headers(rt, files, exported)?;
+    write_at(
+        &files.texts,
+        jam.texts.as_slice(),
+        u64::from(files.end.texts),
+    )?;
+    let new = headers.get(files.found.len()..).unwrap_or(&[]);
+    write_at(&files.headers, new, u64::from(files.end.headers))?;
+    if has_zeros {
+        files.index.set_len(files.index_end)?;
+        files.index.sync_all()?;
+    }
+    write_at(&files.index, jam.index.as_slice(), files.index_end)?;
+    write_replies(files, headers.as_slice())?;
+    write_at(&files.headers, counts.as_slice(), COUNTS_AT)
+}
+
+// The headers with those that are added, each message linked to the one that it replies to.
+fn linked_headers(
+    rt: &HostRuntime,
+    files: &JamFiles,
+    exported: &JamExport,
+) -> Result<Vec<u8>, AllocError> {
+    let jam = &exported.adding.jam;
+    let mut headers = Vec::from_slice(rt.alloc(), files.found.as_slice())?;
+    headers.extend_from_slice(jam.headers.as_slice())?;
+    let from = files.standing.entries as usize;
+    let written = files.entries.get(..from * 8).unwrap_or(&[]);
+    let mut index = Vec::from_slice(rt.alloc(), written)?;
+    index.extend_from_slice(jam.index.as_slice())?;
+    let entries = index.len() / 8;
+    if from <= entries {
+        link_replies(
+            headers.as_mut_slice(),
+            index.as_slice(),
+            from,
+            entries - from,
+        );
+    }
+    Ok(headers)
+}
+
+// Writes the reply links of earlier messages that changed.
+fn write_replies(files: &JamFiles, linked: &[u8]) -> io::Result<()> {
+    for entry in files.entries.as_slice().chunks_exact(8) {
+        let begin = place_in(entry) as usize + REPLIES_AT;
+        let old = files.found.get(begin..begin + 8).unwrap_or(&[]);
+        let new = linked.get(begin..begin + 8).unwrap_or(&[]);
+        if old != new {
+            files.headers.write_all_at(new, begin as u64)?;
+        }
+    }
+    Ok(())
+}
+
+// The place of the header of an entry of the index.
+fn place_in(entry: &[u8]) -> u32 {
+    match entry {
+        [_, _, _, _, a, b, c, d] => u32::from_le_bytes([*a, *b, *c, *d]),
+        _ => u32::MAX,
+    }
+}
+
+// How many of the messages are in the base after a write failed: as many as the index has whole entries of.
+fn entries_made(files: &JamFiles, exported: &JamExport) -> usize {
+    match files.index.metadata() {
+        Ok(found) => {
+            let entries = found.len().saturating_sub(files.index_end) / 8;
+            exported.adding.messages.len().min(entries as usize)
+        }
+        Err(_) => 0,
+    }
+}

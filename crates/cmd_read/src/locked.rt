@@ -1,0 +1,125 @@
+//! A JAM base under its lock: `flock` on the file of headers. A base that is not there is begun before, under the lock of
+//! its folder.
+
+use crate::making::{Making, make_file, remove_left};
+use crate::named::{check_file, jam_fault, open_file, open_or_make, with_end, write_at};
+use cmd_input::{base_bytes, created_now, folder_of, lock_file, locked_folder, output_fault};
+use cmd_status::Fault;
+use disk_system::flush_folder;
+use echo_jam::new_fixed;
+use std::fs::File;
+use std::{fs, io};
+
+/// How many bytes show that a file is one of headers: `JAM` and 00.
+const HEADERS_KNOWN_BY: usize = 4;
+
+/// How long the fixed header is.
+const FIXED: usize = 1024;
+
+/// The headers of the JAM base with this path, open and locked. Where there are none it is begun, once the base whose
+/// messages it is to have can be read.
+pub(crate) fn locked_headers<'a>(
+    rt: &HostRuntime,
+    path: &'a str,
+    base: &'a str,
+) -> Result<File, Fault<'a>> {
+    let headers = with_end(rt, path, ".jhr")?;
+    let beside = with_end(rt, headers.as_str(), ".~jam~.new")?;
+    if !is_there(rt, path, headers.as_str())? {
+        base_bytes(rt, base)?;
+        begin_alone(rt, path, headers.as_str(), beside.as_str())?;
+    } else if is_there(rt, path, beside.as_str())? {
+        // What cannot be tidied up is no fault of the base.
+        let _ = begin_alone(rt, path, headers.as_str(), beside.as_str());
+    }
+    let headers = open_file(rt, path, ".jhr").map_err(|error| jam_fault(&error, path))?;
+    lock_file(rt, &headers, path).map_err(|_| Fault::CannotUse(path))?;
+    check_file(rt, path, ".jhr", &headers).map_err(|error| jam_fault(&error, path))?;
+    Ok(headers)
+}
+
+// Whether something has the path of one of the files.
+fn is_there<'a>(rt: &HostRuntime, path: &'a str, file: &str) -> Result<bool, Fault<'a>> {
+    fs::exists(rt, file).map_err(|error| jam_fault(&error, path))
+}
+
+// Begins a JAM base where there still is none, under the lock of its folder, and removes what a stopped run left there.
+fn begin_alone<'a>(
+    rt: &HostRuntime,
+    path: &'a str,
+    headers: &str,
+    beside: &str,
+) -> Result<(), Fault<'a>> {
+    let locked = match locked_folder(rt, folder_of(path)) {
+        Ok(locked) => locked,
+        Err(Fault::OutOfMemory) => return Err(Fault::OutOfMemory),
+        Err(_) => return Err(Fault::CannotUse(path)),
+    };
+    remove_left(rt, beside);
+    let begun = match is_there(rt, path, headers) {
+        Ok(true) => Ok(()),
+        Ok(false) => begin_jam(rt, path, headers, beside),
+        Err(fault) => Err(fault),
+    };
+    let _ = locked.unlock();
+    begun
+}
+
+// Begins a JAM base. The file of headers comes last and at once, when the names of the others are on the disk, since by
+// it readers know that a base is there.
+fn begin_jam<'a>(
+    rt: &HostRuntime,
+    path: &'a str,
+    headers: &str,
+    beside: &str,
+) -> Result<(), Fault<'a>> {
+    make_others(rt, path, true)?;
+    let bytes = new_fixed(rt.alloc(), created_now(rt)?)?;
+    let making = Making {
+        path: headers,
+        beside,
+        bytes: bytes.as_slice(),
+        known_by: HEADERS_KNOWN_BY,
+    };
+    make_file(rt, making).map_err(|fault| output_fault(fault, path))
+}
+
+// Makes the files beside that of the headers, where they are not there, and flushes their folder. Of a base that is
+// new the index has no bytes.
+fn make_others<'a>(rt: &HostRuntime, path: &'a str, is_new: bool) -> Result<(), Fault<'a>> {
+    let index = open_or_make(rt, path, ".jdx").map_err(|error| jam_fault(&error, path))?;
+    match index.metadata() {
+        Ok(found) if found.len() == 0 || !is_new => {}
+        _ => return Err(Fault::CannotUse(path)),
+    }
+    open_or_make(rt, path, ".jdt").map_err(|error| jam_fault(&error, path))?;
+    open_or_make(rt, path, ".jlr").map_err(|error| jam_fault(&error, path))?;
+    flush_folder(rt, folder_of(path)).map_err(|fault| output_fault(fault, path))
+}
+
+/// The headers, of which a power cut may have left nothing behind the fixed one, or less. Then the base is begun again:
+/// its other files are made where they are not there.
+pub(crate) fn begun_again<'a>(
+    rt: &HostRuntime,
+    path: &'a str,
+    headers: &File,
+    found: Vec<u8>,
+) -> Result<Vec<u8>, Fault<'a>> {
+    let is_new = found.len() <= FIXED && found.iter().all(|byte| *byte == 0);
+    if is_new {
+        make_others(rt, path, true)?;
+        let bytes = new_fixed(rt.alloc(), created_now(rt)?)?;
+        write_at(headers, bytes.as_slice(), 0).map_err(|error| jam_fault(&error, path))?;
+        return Ok(bytes);
+    }
+    if found.len() == FIXED && found.starts_with(b"JAM\0") && !has_others(rt, path)? {
+        make_others(rt, path, false)?;
+    }
+    Ok(found)
+}
+
+// Whether the index and the texts are there.
+fn has_others<'a>(rt: &HostRuntime, path: &'a str) -> Result<bool, Fault<'a>> {
+    let (index, texts) = (with_end(rt, path, ".jdx")?, with_end(rt, path, ".jdt")?);
+    Ok(is_there(rt, path, index.as_str())? && is_there(rt, path, texts.as_str())?)
+}

@@ -1,0 +1,84 @@
+//! New files with the mode that the umask says, and staging files of stopped runs.
+
+use cmd_input::folder_of;
+use disk_io::{Watched, send};
+use disk_system::{OutputFault, check_left, flush_folder};
+use std::fs::{File, OpenOptions};
+use std::io::ErrorKind;
+use std::os::unix::fs::MetadataExt;
+use std::{fs, io};
+
+/// A file that is to be made: its path, that of the file beside it, its bytes, and how many of these show that a file of
+/// another user is one of its kind.
+#[derive(Clone, Copy)]
+pub(crate) struct Making<'a> {
+    pub(crate) path: &'a str,
+    pub(crate) beside: &'a str,
+    pub(crate) bytes: &'a [u8],
+    pub(crate) known_by: usize,
+}
+
+/// Makes a file. The bytes go to the file beside it, are flushed to the disk, and get the name at once. The disk has the name
+/// then, so that of files that are made in turn a power cut leaves the first ones. That something has the path already is a
+/// fault, and that stays.
+pub(crate) fn make_file(rt: &HostRuntime, making: Making<'_>) -> Result<(), OutputFault> {
+    clear(rt, making)?;
+    let file = OpenOptions::new()
+        .write(true)
+        .create_new(true)
+        .open(rt, making.beside)?;
+    let done = match write_flushed(file, making.bytes) {
+        Ok(()) => give_name(rt, making),
+        failed => failed,
+    };
+    if done.is_err() {
+        let _ = fs::remove_file(rt, making.beside);
+    }
+    done
+}
+
+/// Removes what a stopped run left, where it is a regular file of this user. What cannot be removed stays.
+pub(crate) fn remove_left(rt: &HostRuntime, beside: &str) {
+    if let Ok(true) = is_own(rt, beside) {
+        let _ = fs::remove_file(rt, beside);
+    }
+}
+
+// Whether a regular file of this user has the path.
+fn is_own(rt: &HostRuntime, path: &str) -> io::Result<bool> {
+    let found = fs::symlink_metadata(rt, path)?;
+    let this_run = fs::metadata(rt, "/proc/self")?;
+    Ok(found.is_file() && found.uid() == this_run.uid())
+}
+
+// Removes a staging file: a regular file of this user, or one of another user that begins as a file of its kind.
+fn clear(rt: &HostRuntime, making: Making<'_>) -> Result<(), OutputFault> {
+    match is_own(rt, making.beside) {
+        Ok(true) => {}
+        Ok(false) => {
+            let known_by = making.known_by.min(making.bytes.len());
+            check_left(rt.alloc(), rt, making.beside, &making.bytes[..known_by])?;
+        }
+        Err(error) if error.kind() == ErrorKind::NotFound => return Ok(()),
+        Err(error) => return Err(OutputFault::from(error)),
+    }
+    fs::remove_file(rt, making.beside)?;
+    Ok(())
+}
+
+// Writes a file that was just made, and flushes it to the disk.
+fn write_flushed(file: File, bytes: &[u8]) -> Result<(), OutputFault> {
+    let mut device = Watched::new(file);
+    let mut sent = 0;
+    send(&mut device, bytes, &mut sent)?;
+    device.into_inner().sync_all()?;
+    Ok(())
+}
+
+// Gives the file beside it a name that nothing has, and flushes the folder.
+fn give_name(rt: &HostRuntime, making: Making<'_>) -> Result<(), OutputFault> {
+    fs::hard_link(rt, making.beside, making.path)?;
+    flush_folder(rt, folder_of(making.path))?;
+    fs::remove_file(rt, making.beside)?;
+    Ok(())
+}

@@ -1,0 +1,4 @@
+pub mod Noted
+pub mod NotedIn
+pub mod FreeSerials
+pub mod Tossings

@@ -1,0 +1,41 @@
+-- A run of `toss` over packet files, one file more at its front.
+use Rattle.std.proofs.Common.{List, [], ◌∷◌, Option, Some, None, Ok, Err, refl, subst, inl, inr}
+use Rattle.cmd_status.specs.Devices.{Device}
+use Rattle.cmd_status.specs.declared.fault.Fault.{Fault}
+use Rattle.cmd_report.specs.Coming.{Coming, OpensNext}
+use Rattle.cmd_report.specs.Tossed.{TossesEachBy}
+use Rattle.cmd_report.specs.TossedPacket.{TossRun}
+
+-- no file is left
+pub each_ended : {R : Type 0} (Tosses : TossRun → Device → Device → Option Fault → TossRun → Type 0) (device : R → Device) (files left : List Coming) (run : TossRun) → OpensNext (λ r. (device r).contents) files left None
+    → TossesEachBy Tosses device files run None left run
+each_ended Tosses device [] left run none = (refl, none, refl)
+each_ended Tosses device (file ∷ later) left run none = absurd none
+
+-- the packet of the next file is tossed whole, and then the others
+pub each_more : {R : Type 0} (Tosses : TossRun → Device → Device → Option Fault → TossRun → Type 0) (device : R → Device) (files later : List Coming) (reader behind : R) (old run : TossRun) (stopped : Option Fault)
+    (left : List Coming) (new : TossRun) → OpensNext (λ r. (device r).contents) files later (Some (Ok reader))
+    → Tosses old (device reader) (device behind) None run → TossesEachBy Tosses device later run stopped left new
+    → TossesEachBy Tosses device files old stopped left new
+each_more Tosses device [] later reader behind old run stopped left new opened packet rest = absurd opened
+each_more Tosses device (file ∷ files) later reader behind old run stopped left new opened packet rest =
+    inl (
+      run,
+      inl (record { reader = reader; left = behind; opened = opened.1; packet = packet }),
+      subst (λ (l : List Coming). TossesEachBy Tosses device l run stopped left new) opened.0 rest,
+    )
+
+-- the packet of the next file stops the run
+pub each_stopped : {R : Type 0} (Tosses : TossRun → Device → Device → Option Fault → TossRun → Type 0) (device : R → Device) (files later : List Coming) (reader behind : R) (old new : TossRun) (fault : Fault)
+    → OpensNext (λ r. (device r).contents) files later (Some (Ok reader)) → Tosses old (device reader) (device behind) (Some fault) new
+    → TossesEachBy Tosses device files old (Some fault) later new
+each_stopped Tosses device [] later reader behind old new fault opened packet = absurd opened
+each_stopped Tosses device (file ∷ files) later reader behind old new fault opened packet =
+    inr (fault, refl, opened.0, inl (record { reader = reader; left = behind; opened = opened.1; packet = packet }))
+
+-- the next file cannot be used
+pub each_refused : {R : Type 0} (Tosses : TossRun → Device → Device → Option Fault → TossRun → Type 0) (device : R → Device) (files later : List Coming) (run : TossRun) (fault : Fault)
+    → OpensNext (λ r. (device r).contents) files later (Some (Err fault)) → TossesEachBy Tosses device files run (Some fault) later run
+each_refused Tosses device [] later run fault opened = absurd opened
+each_refused Tosses device (file ∷ files) later run fault opened =
+    inr (fault, refl, opened.0, inr (record { fault = fault; is = refl; cannot = opened.1; same = refl }))

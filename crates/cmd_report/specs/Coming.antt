@@ -1,0 +1,25 @@
+-- Packet files that are opened one after the other.
+use Rattle.std.specs.Prelude.{◌≡◌, ℕ, ◌⊎◌, List, [], ◌∷◌, Option, Some, None, Result, Ok, Err}
+use Rattle.cmd_status.specs.declared.fault.Fault.{Fault}
+use Rattle.cmd_status.specs.declared.fault.Fault.TheVariants.{OutOfMemory}
+
+-- what is known of a packet file before it is opened: its bytes, or why it cannot be used, or neither
+pub data Coming : Type 0 where
+  Holds : (bytes : List ℕ) → Coming
+  Fails : (why : Fault) → Coming
+  Unknown : Coming
+
+-- A file is opened, and what reads it has just its bytes, or the file cannot be used. There may be no memory for that.
+abbrev pub Opens : {R : Type 0} → (R → Option (List ℕ)) → Coming → Result R Fault → Type 0
+Opens remaining (Holds bytes) (Ok reader) = remaining reader ≡ Some bytes
+Opens remaining (Holds bytes) (Err fault) = fault ≡ OutOfMemory
+Opens remaining (Fails why) (Ok reader) = ⊥
+Opens remaining (Fails why) (Err fault) = (fault ≡ why) ⊎ (fault ≡ OutOfMemory)
+Opens remaining Unknown answer = Unit {0}
+
+-- the first of the files that are to come is opened, and the later ones are still to come
+abbrev pub OpensNext : {R : Type 0} → (R → Option (List ℕ)) → List Coming → List Coming → Option (Result R Fault) → Type 0
+OpensNext remaining [] left None = left ≡ []
+OpensNext remaining [] left (Some answer) = ⊥
+OpensNext remaining (file ∷ later) left None = ⊥
+OpensNext remaining (file ∷ later) left (Some answer) = (left ≡ later) × Opens remaining file answer

@@ -1,0 +1,48 @@
+-- An answer to a message of the base: the words that the message gives.
+use Rattle.std.specs.Prelude.{◌≡◌, ℕ, ◌-◌, ◌++◌, ◌==◌, ◌&&◌, not, nat_lt, Bool, codes, List, [], length, Option, Some, None, if◌then◌else◌, slice_index, take}
+use Rattle.std.specs.Char.{eq_ignore_ascii_case}
+use Rattle.echo_filed.specs.Filed.{Filed}
+use Rattle.echo_packet.specs.Message.{max_subject}
+use Rattle.echo_text.specs.Echo.{msgid_of}
+use Rattle.echo_text.specs.Ids.{is_id}
+use Rattle.cmd_report.specs.declared.posting.NewMessage.{NewMessage}
+use Rattle.cmd_report.specs.declared.replying.Answer.{Answer}
+use Rattle.cmd_report.specs.declared.replying.Found.{Found}
+
+-- whether a subject is that of an answer: it begins with `Re:`, in letters of either case
+abbrev pub is_answer : List ℕ → Bool
+is_answer subject =
+    not (nat_lt (length subject) 3)
+    && (eq_ignore_ascii_case (slice_index subject 0) 114
+    && (eq_ignore_ascii_case (slice_index subject 1) 101 && (slice_index subject 2 == 58)))
+
+-- what a packed message has room for behind `Re: `
+abbrev pub room_behind : ℕ
+room_behind = max_subject - 4
+
+-- the subject of an answer: `Re: ` stands before it once, and what there is no room for is left out
+abbrev pub answered : List ℕ → List ℕ
+answered subject = if is_answer subject then subject else codes "Re: " ++ take room_behind subject
+
+-- the id that an answer names; one that is none is not named
+abbrev pub named_id : Option (List ℕ) → List ℕ
+named_id None = []
+named_id (Some msgid) = if is_id msgid then msgid else []
+
+-- the words that a message gives
+pub record IsFound (m : Filed) (found : Found) : Type 0 where
+  pub tag : found.tag ≡ m.echo.tag
+  pub to_name : found.to_name ≡ m.from_name
+  pub subject : found.subject ≡ answered m.subject
+  pub reply : found.reply ≡ named_id (msgid_of m.echo.kept)
+
+-- The words with which the answer to a message is posted: in the area of the message, to its author, with its
+-- subject and its id, and the others as they were given.
+pub record IsReply (m : Filed) (answer : Answer) (words : NewMessage) : Type 0 where
+  pub tag : words.tag.now ≡ m.echo.tag
+  pub to_name : words.to_name.now ≡ m.from_name
+  pub from_name : words.from_name.now ≡ answer.from_name.now
+  pub subject : words.subject.now ≡ answered m.subject
+  pub reply : words.reply.now ≡ named_id (msgid_of m.echo.kept)
+  pub serial : words.serial ≡ answer.serial
+  pub stamp : words.stamp ≡ answer.stamp

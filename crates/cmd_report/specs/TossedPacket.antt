@@ -1,0 +1,69 @@
+-- What `toss` does with one packet.
+use Rattle.std.specs.Prelude.{◌≡◌, ℕ, ◌⊎◌, Bool, true, false, List, ◌++◌, Option, Some, None, Result, Ok, Err}
+use Rattle.echo_packet.specs.declared.limits.Limits.{Limits}
+use Rattle.cmd_status.specs.Devices.{Device}
+use Rattle.model_steps.specs.SystemState.{SystemState}
+use Rattle.echo_toss.specs.declared.fault.TossCause.{TossCause}
+use Rattle.echo_toss.specs.declared.fault.TossCause.TheVariants as stop
+use Rattle.echo_toss.specs.declared.fault.TossFault.{TossFault}
+use Rattle.echo_toss.specs.declared.tally.Tally.{Tally}
+use Rattle.echo_toss.specs.PacketSteps.{CountsToss, PacketStep}
+use Rattle.cmd_status.specs.declared.fault.Fault.{Fault}
+use Rattle.cmd_status.specs.declared.fault.Fault.TheVariants.{NotForUs, OutOfMemory, Packet, TossMemory}
+use Rattle.cmd_report.specs.NotedPacket.{NotesPacket}
+use Rattle.cmd_report.specs.Lines.{tally_line}
+
+-- a run of `toss`: what is taken of packets, the system as it is now, and the lines so far
+pub record TossRun : Type 0 where
+  pub limits : Limits
+  pub system : SystemState
+  pub lines : List ℕ
+
+-- why a packet was not tossed whole, as it is reported
+abbrev pub fault_of : TossCause → Fault
+fault_of (stop.NotForUs a) = NotForUs a
+fault_of stop.Memory = TossMemory
+fault_of (stop.Packet f) = Packet f
+
+-- The line of a packet is there, also where it was not tossed whole, and the fault is reported.
+abbrev pub ReportsPacket : List ℕ → List ℕ → Result Tally TossFault → Option Fault → Type 0
+ReportsPacket old new (Ok tally) stopped = (stopped ≡ None) × (new ≡ old ++ tally_line tally)
+ReportsPacket old new (Err f) stopped = (stopped ≡ Some (fault_of f.cause)) × (new ≡ old ++ tally_line f.tally)
+
+-- the packet at the front of a reader's bytes is tossed
+pub record HasTossedPacket (old : TossRun) (reader left : Device) (stopped : Option Fault) (new : TossRun) : Type 0 where
+  pub answer : Result Tally TossFault
+  pub same : new.limits ≡ old.limits
+  pub step : PacketStep old.limits old.system reader.contents left.contents answer new.system
+  pub device : CountsToss answer reader.failures left.failures
+  pub line : ReportsPacket old.lines new.lines answer stopped
+
+-- there was no memory for the line of a packet: none of the packet was read, and the run is as before
+abbrev pub HasNoLine : TossRun → Device → Device → Option Fault → TossRun → Type 0
+HasNoLine old reader left stopped new =
+    (stopped ≡ Some OutOfMemory) × (new ≡ old) × (left.contents ≡ reader.contents) × (left.failures ≡ reader.failures)
+
+-- what becomes of the packet at the front of a reader's bytes
+abbrev pub TossesPacket : TossRun → Device → Device → Option Fault → TossRun → Type 0
+TossesPacket old reader left stopped new =
+    HasNoLine old reader left stopped new ⊎ HasTossedPacket old reader left stopped new
+
+-- The packet at the front of a reader's bytes is tossed: before its line stand the notes on its messages that were not filed.
+pub record HasNotedPacket (old : TossRun) (reader left : Device) (stopped : Option Fault) (new : TossRun) : Type 0 where
+  pub answer : Result Tally TossFault
+  pub same : new.limits ≡ old.limits
+  pub step : PacketStep old.limits old.system reader.contents left.contents answer new.system
+  pub device : CountsToss answer reader.failures left.failures
+  pub noted : List ℕ
+  pub notes : NotesPacket old.limits old.system reader.contents answer new.system old.lines noted
+  pub line : ReportsPacket noted new.lines answer stopped
+
+-- what becomes of the packet where its messages are noted
+abbrev pub NotesPacketAt : TossRun → Device → Device → Option Fault → TossRun → Type 0
+NotesPacketAt old reader left stopped new =
+    HasNoLine old reader left stopped new ⊎ HasNotedPacket old reader left stopped new
+
+-- what becomes of the packet where its messages are noted, or are not
+abbrev pub TossesPacketBy : Bool → TossRun → Device → Device → Option Fault → TossRun → Type 0
+TossesPacketBy true old reader left stopped new = NotesPacketAt old reader left stopped new
+TossesPacketBy false old reader left stopped new = TossesPacket old reader left stopped new

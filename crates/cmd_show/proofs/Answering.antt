@@ -1,0 +1,70 @@
+-- What `show` answers, from what its parts do.
+use Rattle.std.proofs.Common.{◌≡◌, ℕ, Bool, List, [], Option, Result, Ok, Err, sym, subst, ◌∙◌, inl, inr}
+use Rattle.std.specs.Io.KnownBytes.{Appends}
+use Rattle.cmd_status.specs.declared.fault.Fault.{Fault}
+use Rattle.cmd_status.specs.declared.status.Status.{Status}
+use Rattle.cmd_status.specs.Devices.{Output}
+use Rattle.cmd_status.specs.Ended.{CannotPrint, PassesAll}
+use Rattle.cmd_status.specs.Lines.{WritesFront}
+use Rattle.cmd_status.proofs.Lines.{begun_after, begun_kept, nothing_begun, sent_after}
+use Rattle.cmd_show.specs.Showing.{AllShown, FirstShown, IsCutShort, PacketAnswers, PacketPasses, ShownBefore, SomeShown}
+use Rattle.cmd_show.specs.Written.{AddsLines, BeginsLines, WritesLines}
+use Rattle.cmd_show.proofs.Stopping.{passes_le, print_later}
+
+-- the lines that were kept back of these went out
+all_out : (P : List ℕ → Type 0) (a b c : Option (List ℕ)) (rest : List ℕ) → AddsLines P [] rest a b → Appends b c rest → WritesLines P a c
+all_out P a b c rest added went = record { lines = added.lines; are = added.are; written = sent_after a b c added.lines rest added.passed went }
+
+-- lines that are cut short are some
+cut_some : (full : Bool) (bytes lines : List ℕ) (fault : Fault) → IsCutShort full bytes lines fault → SomeShown full bytes lines
+cut_some full bytes lines fault (inl none) = inl none.1
+cut_some full bytes lines fault (inr broken) = inl (before broken.shown)
+  where
+    before : ShownBefore full bytes broken.why broken.messages lines → FirstShown full bytes lines
+    before (inl nothing) = inl nothing.1
+    before (inr front) = inr (broken.messages, front)
+
+-- a beginning of those kept back went out
+some_out : (full : Bool) (P : List ℕ → Type 0) (bytes : List ℕ) (a b c : Option (List ℕ)) (rest : List ℕ) → ((lines : List ℕ) → P lines → SomeShown full bytes lines)
+    → AddsLines P [] rest a b → WritesFront rest b c → BeginsLines (SomeShown full bytes) a c
+some_out full P bytes a b c rest some added begun =
+    record { lines = added.lines; are = some added.lines added.are; begun = begun_after a b c added.lines rest added.passed begun }
+
+-- all that was kept back went out
+went_out : (full : Bool) (bytes rest : List ℕ) (old mid new : Output) (answer : Result Status Fault) → PacketPasses full bytes [] rest old mid answer
+    → Appends mid.contents new.contents rest → PassesAll mid new → PacketAnswers full bytes old new answer
+went_out full bytes rest old mid new (Ok status) right went flushed =
+    (right.0, all_out (AllShown full bytes) old.contents mid.contents new.contents rest right.1 went, (flushed.0 ∙ right.2, flushed.1))
+went_out full bytes rest old mid new (Err fault) (inl failed) went flushed =
+    let none = subst (Appends mid.contents new.contents) failed.1 went in
+    inl (
+      subst (λ n. CannotPrint old.failures n fault) (sym flushed.0) failed.0,
+      record { lines = failed.2.lines; are = failed.2.are; begun = begun_kept old.contents mid.contents new.contents failed.2.lines failed.2.begun none },
+    )
+went_out full bytes rest old mid new (Err fault) (inr short) went flushed =
+    inr (all_out (λ lines. IsCutShort full bytes lines fault) old.contents mid.contents new.contents rest short.0 went, (flushed.0 ∙ short.1, flushed.1))
+
+pub all_shown : (full : Bool) (bytes none rest : List ℕ) (old mid new : Output) (answer : Result Status Fault) → none ≡ [] → PacketPasses full bytes none rest old mid answer
+    → Appends mid.contents new.contents rest → PassesAll mid new → PacketAnswers full bytes old new answer
+all_shown full bytes none rest old mid new answer nothing so went flushed =
+    went_out full bytes rest old mid new answer (subst (λ l. PacketPasses full bytes l rest old mid answer) nothing so) went flushed
+
+-- standard output failed at last
+begun_out : (full : Bool) (bytes rest : List ℕ) (old mid new : Output) (answer : Result Status Fault) → PacketPasses full bytes [] rest old mid answer
+    → WritesFront rest mid.contents new.contents → BeginsLines (SomeShown full bytes) old.contents new.contents
+begun_out full bytes rest old mid new (Ok status) right begun =
+    some_out full (AllShown full bytes) bytes old.contents mid.contents new.contents rest (λ lines all. inr all) right.1 begun
+begun_out full bytes rest old mid new (Err fault) (inl failed) begun =
+    let none = nothing_begun mid.contents new.contents (subst (λ l. WritesFront l mid.contents new.contents) failed.1 begun) in
+    record { lines = failed.2.lines; are = failed.2.are; begun = begun_kept old.contents mid.contents new.contents failed.2.lines failed.2.begun none }
+begun_out full bytes rest old mid new (Err fault) (inr short) begun =
+    some_out full (λ lines. IsCutShort full bytes lines fault) bytes old.contents mid.contents new.contents rest (λ lines cut. cut_some full bytes lines fault cut) short.0 begun
+
+pub not_shown : (full : Bool) (bytes none rest : List ℕ) (old mid new : Output) (answer : Result Status Fault) (fault : Fault) → none ≡ [] → PacketPasses full bytes none rest old mid answer
+    → WritesFront rest mid.contents new.contents → CannotPrint mid.failures new.failures fault → PacketAnswers full bytes old new (Err fault)
+not_shown full bytes none rest old mid new answer fault nothing so begun failed =
+    let empty = subst (λ l. PacketPasses full bytes l rest old mid answer) nothing so in
+    inl (
+      print_later fault old.failures mid.failures new.failures (passes_le full bytes [] rest old mid answer empty) failed,
+      begun_out full bytes rest old mid new answer empty begun,
+    )

@@ -1,0 +1,17 @@
+pub mod Judging
+pub mod WrongWords
+pub mod Told
+pub mod TagKeys
+pub mod Pushed
+pub mod Stopping
+pub mod Printed
+pub mod Answering
+pub mod Entries
+pub mod Saying
+pub mod OnePrinting
+pub mod Listings
+pub mod LinkLines
+pub mod Exportings
+pub mod FolderListings
+pub mod FolderExportings
+pub mod AreasCounted

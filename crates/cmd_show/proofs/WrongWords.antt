@@ -1,0 +1,89 @@
+-- The word that is wrong in a line, found by going over its words.
+use Rattle.std.proofs.Common.{◌≡◌, ℕ, ◌||◌, Bool, true, false, cond, List, [], ◌∷◌, map, refl, sym, ap, ◌∙◌, Some, None}
+use Rattle.std.specs.Prelude.{is_err}
+use Rattle.std.specs.List.{list_any}
+use Rattle.std.specs.Ordering.{is_eq}
+use Rattle.std.proofs.lemmas.Bool.{cond-false, cond-true}
+use Rattle.echo_addr.specs.declared.address.Address.{Address}
+use Rattle.echo_addr.specs.Address.{address_in, outcome}
+use Rattle.echo_links.specs.Links.{same_address}
+use Rattle.echo_links.specs.declared.fault.LinkFault.TheVariants as fault
+use Rattle.echo_links.specs.LinkLines.{links_fault}
+use Rattle.echo_links.specs.LinkReading.{IsWordOf}
+use Rattle.echo_links.specs.Found.{HaveTheSame, address_order}
+use Rattle.echo_links.proofs.Found.{link_found}
+use Rattle.echo_links.proofs.LinkLoops.{any_last}
+use Rattle.cmd_show.specs.FaultyLines.{link_again, no_address}
+
+-- ---- behind SYSTEM
+
+-- ---- links
+
+-- these links were gone over, none of them wrong, and these words are left
+pub record LinksSeen (number : ℕ) (all later : List (List ℕ)) (sorted : List Address) : Type 0 where
+  pub before : List (List ℕ)
+  pub faults : links_fault number [] all ≡ links_fault number before later
+  pub same : HaveTheSame sorted (map address_in before)
+  pub bad : no_address all ≡ no_address later
+  pub again : link_again [] all ≡ link_again before later
+
+pub links_unseen : (number : ℕ) (all : List (List ℕ)) (sorted : List Address) → sorted ≡ [] → LinksSeen number all all sorted
+links_unseen number all sorted none = record {
+  before = [];
+  faults = refl;
+  same = λ a. ap (list_any (λ b. is_eq (address_order a b))) none;
+  bad = refl;
+  again = refl;
+}
+
+module _ (number : ℕ) (all : List (List ℕ)) (word : List ℕ) (more later : List (List ℕ)) (sorted : List Address)
+    (seen : LinksSeen number all later sorted) (next : later ≡ word ∷ more) where
+  -- whether the word's address is a link already, by the sorted ones
+  stands : Bool
+  stands = list_any (same_address (address_in word)) (map address_in seen.before)
+
+  found : (a : Address) → a ≡ address_in word → list_any (λ k. is_eq (address_order a k)) sorted ≡ stands
+  unfolding stands
+  found a value = seen.same a ∙ ap (λ b. list_any (same_address b) (map address_in seen.before)) value
+
+  judged : is_err (outcome word) ≡ false → links_fault number [] all ≡ cond stands (Some (fault.RepeatedLink number)) (links_fault number (word ∷ seen.before) more)
+  unfolding stands
+  judged fine = seen.faults ∙ ap (links_fault number seen.before) next ∙ cond-false (is_err (outcome word)) (Some (fault.BadAddress number)) _ fine
+
+  -- one more link
+  pub link_seen : (a : Address) (keys : List Address) → IsWordOf word (Some a) → list_any (λ k. is_eq (address_order a k)) sorted ≡ false
+      → ((b : Address) → list_any (λ k. is_eq (address_order b k)) keys ≡ cond (is_eq (address_order a b)) true (list_any (λ k. is_eq (address_order b k)) sorted))
+      → LinksSeen number all more keys
+  unfolding stands
+  link_seen a keys is new updates =
+      let value : a ≡ address_in word = is.2 in
+      let unknown : stands ≡ false = sym (found a value) ∙ new in
+      record {
+        before = word ∷ seen.before;
+        faults = judged is.1 ∙ cond-false stands (Some (fault.RepeatedLink number)) (links_fault number (word ∷ seen.before) more) unknown;
+        same = λ b. link_found sorted keys (map address_in seen.before) a updates seen.same b ∙ any_last b a (map address_in seen.before)
+            ∙ ap (λ c. same_address b c || list_any (same_address b) (map address_in seen.before)) value;
+        bad = seen.bad ∙ ap no_address next ∙ cond-false (is_err (outcome word)) word (no_address more) is.1;
+        again = seen.again ∙ ap (link_again seen.before) next ∙ cond-false stands word (link_again (word ∷ seen.before) more) unknown;
+      }
+
+  -- a word that is no address
+  pub link_bad : IsWordOf word None → (links_fault number [] all ≡ Some (fault.BadAddress number)) × (word ≡ no_address all)
+  link_bad is = (
+    seen.faults ∙ ap (links_fault number seen.before) next ∙ cond-true (is_err (outcome word)) (Some (fault.BadAddress number)) _ is.1,
+    sym (seen.bad ∙ ap no_address next ∙ cond-true (is_err (outcome word)) word (no_address more) is.1),
+  )
+
+  -- an address that is a link already
+  pub link_repeated : (a : Address) → IsWordOf word (Some a) → list_any (λ k. is_eq (address_order a k)) sorted ≡ true
+      → (links_fault number [] all ≡ Some (fault.RepeatedLink number)) × (word ≡ link_again [] all)
+  unfolding stands
+  link_repeated a is old =
+      let known : stands ≡ true = sym (found a is.2) ∙ old in (
+        judged is.1 ∙ cond-true stands (Some (fault.RepeatedLink number)) (links_fault number (word ∷ seen.before) more) known,
+        sym (seen.again ∙ ap (link_again seen.before) next ∙ cond-true stands word (link_again (word ∷ seen.before) more) known),
+      )
+
+-- no words are left
+pub links_right : (number : ℕ) (all later : List (List ℕ)) (sorted : List Address) → LinksSeen number all later sorted → later ≡ [] → links_fault number [] all ≡ None
+links_right number all later sorted seen none = seen.faults ∙ ap (links_fault number seen.before) none

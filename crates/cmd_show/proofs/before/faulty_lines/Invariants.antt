@@ -1,0 +1,12 @@
+use Rattle.std.proofs.Common.{◌+◌, ◌≤◌, length}
+use Rattle.cmd_show.proofs.Told.{LinesTold}
+use Rattle.cmd_show.proofs.before.faulty_lines.Given as goal
+
+abbrev pub invariant-lines : goal.invariant-lines
+invariant-lines l = record {
+  told : LinesTold l.bytes l.number l.rest l.before l.found.items;
+  room : l.number + length l.rest ≤ length l.bytes;
+}
+
+abbrev pub decreases-lines : goal.decreases-lines
+decreases-lines l = length l.rest

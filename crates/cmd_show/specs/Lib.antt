@@ -1,0 +1,11 @@
+pub mod FaultyLines
+pub mod Before
+pub mod Judging
+pub mod Written
+pub mod Showing
+pub mod Nodelists
+pub mod Listing
+pub mod LinksShown
+pub mod Linking
+pub mod Exporting
+pub mod AreasListed

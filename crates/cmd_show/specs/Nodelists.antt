@@ -1,0 +1,38 @@
+-- What `nodelist` answers.
+use Rattle.std.specs.Prelude.{◌≡◌, ℕ, List, Option, Result}
+use Rattle.echo_addr.specs.declared.address.Address.{Address}
+use Rattle.cmd_status.specs.Devices.{Output}
+use Rattle.echo_nodelist.specs.declared.stated.CrcLine.{CrcLine}
+use Rattle.echo_nodelist.specs.declared.stated.CrcLine.TheVariants.{Mismatch}
+use Rattle.echo_nodelist.specs.declared.line.Line.{Line}
+use Rattle.echo_nodelist.specs.declared.fault.NodeFault.{NodeFault}
+use Rattle.echo_nodelist.specs.CrcLine.{crc_line_of}
+use Rattle.echo_nodelist.specs.Nodelist.{NodelistFaultOf, NodelistOf}
+use Rattle.cmd_status.specs.declared.fault.Fault.{Fault}
+use Rattle.cmd_status.specs.declared.fault.Fault.TheVariants.{Nodelist}
+use Rattle.cmd_status.specs.declared.status.Status.{Status}
+use Rattle.cmd_status.specs.declared.status.Status.TheVariants.{Good, Differs}
+use Rattle.cmd_status.specs.Ended.{AnswersInPieces}
+use Rattle.cmd_print.specs.Listed.{Listed}
+
+-- 1 where another checksum is stated than the computed one
+abbrev pub crc_status : CrcLine → Status
+crc_status (Mismatch stated computed) = Differs
+crc_status _ = Good
+
+-- the input is a nodelist, and this is what is printed of it; the status is that of its checksum
+pub record IsListed (find : Option Address) (input : List ℕ) (text : List ℕ) (status : Status) : Type 0 where
+  pub lines : List Line
+  pub is_nodelist : NodelistOf input lines
+  pub printed : Listed find lines (crc_line_of input) text
+  pub checked : status ≡ crc_status (crc_line_of input)
+
+-- the first faulty line of the input has the fault
+pub record IsFaulty (input : List ℕ) (fault : Fault) : Type 0 where
+  pub why : NodeFault
+  pub is : fault ≡ Nodelist why
+  pub of_lines : NodelistFaultOf input why
+
+-- what is answered where a nodelist is to be printed
+abbrev pub NodelistAnswers : Option Address → List ℕ → Output → Output → Result Status Fault → Type 0
+NodelistAnswers find input old new answer = AnswersInPieces (IsListed find input) (IsFaulty input) old new answer

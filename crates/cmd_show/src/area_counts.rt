@@ -1,0 +1,207 @@
+//! `list --areas`: how many messages of each area a base has.
+ghost use Rattle.std.specs.Prelude.{◌≡◌, ◌<◌, ◌^◌, ◌+◌, ◌++◌, ℕ, List, Some, IfOk, OnOk, option_copied, slice_get, take, length};
+ghost use Rattle.std.specs.List.{flat_map};
+ghost use Rattle.cmd_print.specs.BaseListed.{total_text};
+ghost use Rattle.cmd_show.specs.AreasListed.{Ascend, AreWithin, HaveCounts, ListAreasAnswers, area_line, counted_more, counts_of, counts_text};
+ghost use Rattle.cmd_status.specs.declared.status.Status.TheVariants.{Good};
+ghost use Rattle.cmd_status.specs.Devices.{output_of};
+ghost use Rattle.cmd_status.specs.Ended.{Answers};
+ghost use Rattle.cmd_status.specs.Inputs.{IsBaseGiven};
+ghost use Rattle.echo_filed.specs.Filed as model;
+
+use crate::exporting::state_of;
+use crate::listing::base_read;
+use base_file::Base;
+use cmd_print::push_base_total;
+use cmd_status::{Fault, Status, print_rest};
+use disk_io::Sink;
+use echo_charset::written;
+use echo_export::State;
+use echo_filed::Filed;
+use std::alloc::{AllocError, Global};
+use std::collections::BTreeMap;
+use std::hash::BuildHasher;
+use std::io::Write;
+
+/// How many messages an area has, how many of them wait for a scan, and how many were scanned and purged.
+#[derive(Clone, Copy, Debug, PartialEq, Eq)]
+pub struct AreaCounts {
+    pub messages: u64,
+    pub waiting: u64,
+    pub purged: u64,
+}
+
+/// `list --areas BASE`: prints of each area that a message has how many it has, how many of them wait and how many
+/// are purged, ascending by tag, and then of the base what `list` prints last. It goes once through the messages. Of a
+/// faulty base nothing is printed.
+pub fn list_areas<'a, S: BuildHasher + Drop, W: Sink>(
+    alloc: Global,
+    base: &[u8],
+    hasher: S,
+    out: &mut W,
+) -> Result<Status, Fault<'a>>
+    ensures { ListAreasAnswers base.now (output_of W.contents W.failures W.holds out.old) (output_of W.contents W.failures W.holds out.new) result }
+{
+    let base = base_read(alloc, base, hasher)?;
+    list_areas_read(alloc, &base, out)
+}
+
+// The same of a base that is read.
+fn list_areas_read<'a, S: BuildHasher, W: Sink>(
+    alloc: Global,
+    base: &Base<S>,
+    out: &mut W,
+) -> Result<Status, Fault<'a>>
+    ensures { (bytes : List ℕ) → IsBaseGiven (Some bytes) base.now.messages base.now.cursor
+        → ListAreasAnswers bytes (output_of W.contents W.failures W.holds out.old) (output_of W.contents W.failures W.holds out.new) result }
+{
+    let counts = count_areas(alloc, base)?;
+    print_areas(alloc, counts, base.len(), base.len() - base.cursor(), out)
+}
+
+// The counts of each area.
+fn count_areas<S: BuildHasher>(
+    alloc: Global,
+    base: &Base<S>,
+) -> Result<BTreeMap<Vec<u8>, AreaCounts>, AllocError>
+    ensures counts { IfOk result (λ counts. HaveCounts (λ key. key.items) counts.entries base.now.messages base.now.cursor) }
+    ensures ascending { IfOk result (λ counts. Ascend (λ key. key.items) counts.entries) }
+{
+    let cursor = base.cursor();
+    let mut counts = BTreeMap::new(alloc);
+    'messages: for i in 0..base.len() {
+        note_message(alloc, &mut counts, cursor, i, base.message(i))?;
+    }
+    Ok(counts)
+}
+
+/// Counts the message of this number, if there is one.
+pub(crate) fn note_message(
+    alloc: Global,
+    counts: &mut BTreeMap<Vec<u8>, AreaCounts>,
+    cursor: usize,
+    i: usize,
+    message: Option<&Filed>,
+) -> Result<(), AllocError>
+    requires room { i + 1 < 2 ^ 64 }
+    requires within { (tag : List ℕ) → AreWithin i (counts_of (λ key. key.items) counts.old.entries tag) }
+    requires ascending { Ascend (λ key. key.items) counts.old.entries }
+    ensures counts { OnOk result ((base : List model.Filed) → option_copied message.entry ≡ slice_get base i → i < length base
+        → HaveCounts (λ key. key.items) counts.old.entries (take i base) cursor → HaveCounts (λ key. key.items) counts.new.entries (take (i + 1) base) cursor) }
+    ensures within { OnOk result ((tag : List ℕ) → AreWithin (i + 1) (counts_of (λ key. key.items) counts.new.entries tag)) }
+    ensures ascending { OnOk result (Ascend (λ key. key.items) counts.new.entries) }
+{
+    let Some(message) = message else {
+        return Ok(());
+    };
+    let tag = tag_of(message);
+    let before = counts_of(counts, tag);
+    let after = counted_more(before, state_of(cursor, i, message));
+    let key = Vec::from_slice(alloc, tag)?;
+    counts.insert(key, after)?;
+    Ok(())
+}
+
+fn tag_of(message: &Filed) -> &[u8]
+    ensures { result.now ≡ message.now.echo.tag }
+{
+    message.echo.tag.as_slice()
+}
+
+// The counts of an area so far.
+fn counts_of(counts: &BTreeMap<Vec<u8>, AreaCounts>, tag: &[u8]) -> AreaCounts
+    ensures { result ≡ counts_of (λ key. key.items) counts.now.entries tag.now }
+{
+    match counts.get(tag) {
+        Some(found) => *found,
+        None => AreaCounts {
+            messages: 0,
+            waiting: 0,
+            purged: 0,
+        },
+    }
+}
+
+// One message more is counted.
+fn counted_more(counts: AreaCounts, state: State) -> AreaCounts
+    requires messages { counts.messages + 1 < 2 ^ 64 }
+    requires waiting { counts.waiting + 1 < 2 ^ 64 }
+    requires purged { counts.purged + 1 < 2 ^ 64 }
+    ensures { result ≡ counted_more counts state }
+{
+    let messages = counts.messages + 1;
+    match state {
+        State::Scanned => AreaCounts {
+            messages,
+            waiting: counts.waiting,
+            purged: counts.purged,
+        },
+        State::Waiting => AreaCounts {
+            messages,
+            waiting: counts.waiting + 1,
+            purged: counts.purged,
+        },
+        State::Purged => AreaCounts {
+            messages,
+            waiting: counts.waiting,
+            purged: counts.purged + 1,
+        },
+    }
+}
+
+/// Prints a line for each entry, and the last line of a base of so many messages, of which so many wait.
+pub(crate) fn print_areas<'a, W: Sink>(
+    alloc: Global,
+    counts: BTreeMap<Vec<u8>, AreaCounts>,
+    messages: usize,
+    waiting: usize,
+    out: &mut W,
+) -> Result<Status, Fault<'a>>
+    ensures { Answers (λ lines status. (lines ≡ counts_text (λ key. key.items) counts.entries messages waiting) × (status ≡ Good)) (λ fault. ⊥) (output_of W.contents W.failures W.holds out.old) (output_of W.contents W.failures W.holds out.new) result }
+{
+    let mut lines = Vec::new(alloc);
+    push_areas(&mut lines, counts, messages, waiting)?;
+    print_rest(&mut lines, out)?;
+    Ok(Status::Good)
+}
+
+// Adds the lines.
+fn push_areas(
+    lines: &mut Vec<u8>,
+    counts: BTreeMap<Vec<u8>, AreaCounts>,
+    messages: usize,
+    waiting: usize,
+) -> Result<(), AllocError>
+    ensures { OnOk result (lines.new.items ≡ lines.old.items ++ counts_text (λ key. key.items) counts.entries messages waiting) }
+{
+    push_counts(lines, counts)?;
+    push_base_total(lines, messages, waiting)
+}
+
+// Adds a line for each entry.
+fn push_counts(lines: &mut Vec<u8>, counts: BTreeMap<Vec<u8>, AreaCounts>) -> Result<(), AllocError>
+    ensures { OnOk result (lines.new.items ≡ lines.old.items ++ flat_map (λ e. area_line e.0.items e.1) counts.entries) }
+{
+    let mut rest = counts;
+    'areas: while let Some((tag, counted)) = rest.pop_first() {
+        push_area(lines, &tag, counted)?;
+    }
+    Ok(())
+}
+
+// Adds the line of an area.
+fn push_area(lines: &mut Vec<u8>, tag: &[u8], counted: AreaCounts) -> Result<(), AllocError>
+    ensures { OnOk result (lines.new.items ≡ lines.old.items ++ area_line tag.now counted) }
+{
+    lines.extend_from_slice(b"area ")?;
+    lines.extend_from_slice(tag)?;
+    let AreaCounts {
+        messages,
+        waiting,
+        purged,
+    } = counted;
+    written(writeln!(
+        lines,
+        " messages {messages} waiting {waiting} purged {purged}"
+    ))
+}

@@ -1,0 +1,97 @@
+//! The command `export` of a base folder.
+ghost use Rattle.std.specs.Prelude.{◌≡◌, ◌≤◌, ◌<◌, ◌/◌, ◌++◌, ℕ, List, Some, IfErr, IfOk, OnErr, OnOk, length, option_copied};
+ghost use Rattle.base_file.specs.Base as model;
+ghost use Rattle.base_folder.specs.Looked.{SeesBase};
+ghost use Rattle.base_folder.specs.Reading.{IsVouched};
+ghost use Rattle.cmd_show.specs.Exporting.{ExportAnswers, sought_lost, sought_texts};
+ghost use Rattle.cmd_status.specs.Devices.{output_of};
+ghost use Rattle.cmd_status.specs.Ended.{Stops};
+ghost use Rattle.cmd_status.specs.Inputs.{IsBaseGiven};
+ghost use Rattle.cmd_status.specs.Lines.{PassesOn, WritesFront};
+
+use crate::exporting::print_one;
+use crate::folder_listing::{begin_at, message_of};
+use crate::raised;
+use base_folder::Seen;
+use base_store::Digest;
+use cmd_status::{Fault, print_rest};
+use disk_io::Sink;
+use echo_addr::Items;
+use echo_export::Form;
+use std::alloc::Global;
+
+/// `export [--area TAG] [--from I] [--purged] [--mbox | --json] BASE` of a base folder, of which the messages from the
+/// number `first` on were read: prints what `export` prints of a base file of the same messages, and answers the same.
+/// A damaged one ends it where it comes: `judge_messages` finds it before.
+pub fn export_seen<'a, H: Digest, W: Sink>(
+    alloc: Global,
+    form: Form,
+    area: Option<&[u8]>,
+    first: u64,
+    purged: bool,
+    seen: &Seen,
+    out: &mut W,
+) -> Result<u128, Fault<'a>>
+    ensures answers { (base : model.Base) (file : List ℕ) → SeesBase H.keyed first base seen.now → IsBaseGiven (Some file) base.messages base.cursor
+        → ExportAnswers form (option_copied area.entry) first purged file (output_of W.contents W.failures W.holds out.old) (output_of W.contents W.failures W.holds out.new) result }
+    ensures vouched { OnOk result ((i : ℕ) → first ≤ i → i < length seen.now.keys.items / 16 → IsVouched H.keyed seen.now i) }
+{
+    let area = raised(alloc, area)?;
+    let mut lines = Vec::new(alloc);
+    let count = print_seen::<H, W>(
+        alloc,
+        form,
+        area.as_ref(),
+        first,
+        purged,
+        seen,
+        &mut lines,
+        out,
+    )?;
+    print_rest(&mut lines, out)?;
+    Ok(count)
+}
+
+// Prints the messages that are asked for, and counts the U+FFFD in them; the last ones stay in
+// `lines`.
+fn print_seen<'a, H: Digest, W: Sink>(
+    alloc: Global,
+    form: Form,
+    area: Option<&Items<u8>>,
+    first: u64,
+    purged: bool,
+    seen: &Seen,
+    lines: &mut Vec<u8>,
+    out: &mut W,
+) -> Result<u128, Fault<'a>>
+    ensures lines { (base : model.Base) → SeesBase H.keyed first base seen.now
+        → OnOk result (PassesOn (lines.old.items ++ sought_texts form (option_copied area.entry) first purged base.cursor base.messages (length base.messages)) lines.new.items (W.contents out.old) (W.contents out.new)) }
+    ensures count { (base : model.Base) → SeesBase H.keyed first base seen.now
+        → IfOk result (λ n. n ≡ sought_lost form (option_copied area.entry) first purged base.cursor base.messages (length base.messages)) }
+    ensures begun { (base : model.Base) → SeesBase H.keyed first base seen.now
+        → OnErr result (WritesFront (lines.old.items ++ sought_texts form (option_copied area.entry) first purged base.cursor base.messages (length base.messages)) (W.contents out.old) (W.contents out.new)) }
+    ensures vouched { OnOk result ((i : ℕ) → first ≤ i → i < length seen.now.keys.items / 16 → IsVouched H.keyed seen.now i) }
+    ensures ok { OnOk result (W.failures out.new ≡ W.failures out.old) }
+    ensures err { (base : model.Base) → SeesBase H.keyed first base seen.now → IfErr result (Stops (W.failures out.old) (W.failures out.new)) }
+{
+    let count = seen.count();
+    let cursor = seen.cursor() as usize;
+    let mut lost: u128 = 0;
+    'messages: for i in begin_at(first, count)..count {
+        let alone = message_of::<H>(alloc, seen, i)?;
+        let more = print_one(
+            alloc,
+            form,
+            area,
+            first,
+            purged,
+            cursor,
+            i,
+            alone.message(0),
+            lines,
+            out,
+        )?;
+        lost += more as u128;
+    }
+    Ok(lost)
+}

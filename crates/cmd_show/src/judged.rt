@@ -1,0 +1,59 @@
+//! A link file judged as a whole.
+ghost use Rattle.std.specs.Prelude.{◌≡◌, false, IfOk, Some};
+ghost use Rattle.cmd_show.specs.FaultyLines.{is_homeless, told_of};
+ghost use Rattle.cmd_show.specs.Judging.{IsJudged, is_memory};
+
+use crate::before::faulty_lines;
+use crate::faulty::FaultyLine;
+use echo_addr::Items;
+use echo_links::{LinkFault, LinkFile};
+use std::alloc::{AllocError, Global};
+
+/// A link file, or its faults.
+#[derive(Debug, Drop)]
+pub enum Judged {
+    /// The parts of the file.
+    Good(LinkFile),
+    /// Its faulty lines in order. If each line is good but no line has the own address, that alone.
+    Faulty(Items<FaultyLine>),
+}
+
+/// Judges the bytes: a link file, or all of its faults. Each line is judged by the good lines before it. Fails
+/// only when out of memory.
+pub fn judge(alloc: Global, bytes: &[u8]) -> Result<Judged, AllocError>
+    ensures { IfOk result (IsJudged bytes.now) }
+{
+    match LinkFile::read(alloc, bytes) {
+        Ok(file) => Ok(Judged::Good(file)),
+        Err(why) => Ok(Judged::Faulty(Items::new(told_of(alloc, bytes, why)?))),
+    }
+}
+
+// The reported lines of a file with this fault.
+fn told_of(alloc: Global, bytes: &[u8], why: LinkFault) -> Result<Vec<FaultyLine>, AllocError>
+    ensures told { IfOk result (λ told. told.items ≡ told_of bytes.now (Some why)) }
+    ensures memory { IfOk result (λ told. is_memory why ≡ false) }
+{
+    if is_memory(why) {
+        return Err(AllocError);
+    }
+    if !is_homeless(why) {
+        return faulty_lines(alloc, bytes);
+    }
+    let mut told = Vec::new(alloc);
+    told.push(FaultyLine::new(alloc, why, b"")?)?;
+    Ok(told)
+}
+
+fn is_memory(why: LinkFault) -> bool
+    ensures { result ≡ is_memory why }
+{
+    matches!(why, LinkFault::Memory)
+}
+
+// Whether it is all that is wrong that no line has the own address.
+fn is_homeless(why: LinkFault) -> bool
+    ensures { result ≡ is_homeless why }
+{
+    matches!(why, LinkFault::NoSystem { .. })
+}

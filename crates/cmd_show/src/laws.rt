@@ -1,0 +1,20 @@
+//! What holds of the definitions. Each law is the contract of a function that does nothing.
+
+ghost use Rattle.std.specs.Prelude.{◌≡◌, ℕ, Bool, List, Option, Some, Result};
+ghost use Rattle.cmd_status.specs.Devices.{Output};
+ghost use Rattle.echo_packet.specs.declared.header.Header.{Header};
+ghost use Rattle.echo_packet.specs.Message.{Message};
+ghost use Rattle.cmd_status.specs.declared.fault.Fault.{Fault};
+ghost use Rattle.cmd_status.specs.declared.status.Status.{Status};
+ghost use Rattle.cmd_status.specs.Ended.{IsOfInput};
+ghost use Rattle.cmd_show.specs.Showing.{ShowAnswers, IsShown};
+ghost use Rattle.cmd_print.specs.Shown.{Shown};
+
+/// A packet has one printing, and an input has one: where `show` ends well, what it wrote is known from
+/// its input alone. So has it one answer, the status of a fault among them, unless standard output
+/// failed or there was no memory.
+pub fn one_printing()
+    ensures lines { (full : Bool) (h : Header) (ms : List Message) (n : ℕ) (a b : List ℕ) → Shown full h ms n a → Shown full h ms n b → a ≡ b }
+    ensures input { (full hex : Bool) (input old : List ℕ) (new other : Option (List ℕ)) → IsShown full hex input (Some old) new → IsShown full hex input (Some old) other → new ≡ other }
+    ensures answer { (full hex : Bool) (input : List ℕ) (old new other : Output) (r s : Result Status Fault) → ShowAnswers full hex input old new r → ShowAnswers full hex input old other s → IsOfInput old.failures new.failures r → IsOfInput old.failures other.failures s → r ≡ s }
+{}

@@ -1,0 +1,85 @@
+//! The command `links`: link files one by one, and all that is wrong with each.
+ghost use Rattle.std.specs.Prelude.{◌≡◌, ◌++◌, IfOk, OnOk};
+ghost use Rattle.std.specs.List.{list_all};
+ghost use Rattle.cmd_status.specs.Devices.{output_of};
+ghost use Rattle.cmd_show.specs.Linking.{LinksAnswers, is_good_file, links_status};
+ghost use Rattle.cmd_show.specs.LinksShown.{file_text, files_text};
+
+use crate::links_text::{push_faults, push_good};
+use crate::{Judged, judge};
+use cmd_status::{Fault, Status, print_rest};
+use disk_io::Sink;
+use echo_addr::Items;
+use std::alloc::{AllocError, Global};
+
+/// A link file with its path.
+#[derive(Debug, Drop)]
+pub struct NamedFile {
+    pub path: Items<u8>,
+    pub bytes: Items<u8>,
+}
+
+/// `links [--areas] LINKS...`: prints of each link file its system and how many areas and links it has, with
+/// `areas` of each of its areas how many links that has; or of a faulty one each faulty line. The status is
+/// that of refused input where a file has a fault.
+pub fn links<'a, W: Sink>(
+    alloc: Global,
+    areas: bool,
+    files: &[NamedFile],
+    out: &mut W,
+) -> Result<Status, Fault<'a>>
+    ensures { LinksAnswers areas files.now (output_of W.contents W.failures W.holds out.old) (output_of W.contents W.failures W.holds out.new) result }
+{
+    let mut lines = Vec::new(alloc);
+    let good = push_files(alloc, &mut lines, areas, files)?;
+    print_rest(&mut lines, out)?;
+    Ok(status_of_files(good))
+}
+
+// Adds the lines of the files, and answers whether each is good.
+fn push_files(
+    alloc: Global,
+    lines: &mut Vec<u8>,
+    areas: bool,
+    files: &[NamedFile],
+) -> Result<bool, AllocError>
+    ensures lines { OnOk result (lines.new.items ≡ lines.old.items ++ files_text areas files.now) }
+    ensures good { IfOk result (λ good. good ≡ list_all is_good_file files.now) }
+{
+    let mut good = true;
+    'files: for file in files {
+        let fine = push_file(alloc, lines, areas, file)?;
+        good = good && fine;
+    }
+    Ok(good)
+}
+
+// Adds the lines of a file, and answers whether it is good.
+fn push_file(
+    alloc: Global,
+    lines: &mut Vec<u8>,
+    areas: bool,
+    file: &NamedFile,
+) -> Result<bool, AllocError>
+    ensures lines { OnOk result (lines.new.items ≡ lines.old.items ++ file_text areas file.now) }
+    ensures good { IfOk result (λ good. good ≡ is_good_file file.now) }
+{
+    let path = file.path.as_slice();
+    match judge(alloc, file.bytes.as_slice())? {
+        Judged::Good(links) => {
+            push_good(lines, areas, path, &links)?;
+            Ok(true)
+        }
+        Judged::Faulty(faults) => {
+            push_faults(alloc, lines, path, faults.as_slice())?;
+            Ok(false)
+        }
+    }
+}
+
+// The status, by whether each file is good.
+fn status_of_files(good: bool) -> Status
+    ensures { result ≡ links_status good }
+{
+    if good { Status::Good } else { Status::Refused }
+}

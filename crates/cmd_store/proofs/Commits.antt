@@ -1,0 +1,137 @@
+-- What becomes of a store, and what a crash leaves of it, where a command changes it and then commits.
+use Rattle.std.proofs.Common.{◌≤◌, ℕ, List, inl, inr, ⊎_elim, Result, Ok, Err, refl, arith, ◌∙◌}
+use Rattle.std.specs.Prelude.{IfErr, OnOk}
+use Rattle.base_file.specs.Base.{Base}
+use Rattle.disk_io.specs.Disk.{Files, Honestly}
+use Rattle.disk_io.proofs.Moments.{then_nothing, then_run, weaker_run}
+use Rattle.base_store.specs.Store.{Commits, CommitsNothing, GoesOn, HasStoreCause, IsSameStore, KeepsBeside, KeepsOrCommits, LooksOn, MayCommit, StandsBeside, StandsForEither, StoreState}
+use Rattle.base_store.specs.declared.store_error.StoreError.{StoreError}
+use Rattle.base_store.proofs.Causes.{cause_after, no_cause}
+use Rattle.base_store.proofs.Runs.{commits_none, goes_on_twice, looks_commit, looks_go_on, same_twice}
+use Rattle.echo_toss.specs.declared.stop.PostStop.{PostStop}
+use Rattle.echo_toss.specs.declared.stop.PostStop.TheVariants as post
+use Rattle.echo_toss.specs.Stores.{LooksWhereRefused}
+use Rattle.cmd_store.specs.declared.stop.Stop.{Stop}
+use Rattle.cmd_store.specs.declared.stop.Stop.TheVariants.{Met, Store}
+use Rattle.cmd_store.specs.Stops.{IsOfStore, post_stop}
+use Rattle.cmd_store.specs.Answered.{CommitsNoneWhereMet, GoesOnFromEither, HasCommitted, LooksWhereMet, MayCommitWhereMet, MayMake, StandsForMade}
+
+-- what stands beside the store through both
+pub kept_twice : (old mid new : StoreState) → IsSameStore old mid → KeepsBeside old mid → KeepsBeside mid new → KeepsBeside old new
+kept_twice old mid new same first second =
+    let out : (m : List ℕ) → (old.is_own m → ⊥) → mid.is_own m → ⊥ = λ m other own. other ((same.own m).0 own) in
+    record {
+      seen = λ m other. second.seen m (out m other) ∙ first.seen m other;
+      named = λ m other is. second.named m (out m other) (first.named m other is);
+      flushed = λ m other is. second.flushed m (out m other) (first.flushed m other is);
+      alone = λ m other is. second.alone m (out m other) (first.alone m other is);
+      honest = λ is. first.honest (second.honest is);
+    }
+
+-- where nothing was committed, a commit did not come about
+pub none_may : (old new : StoreState) → CommitsNothing old new → MayCommit old new
+none_may old new none = record {
+  any_moment = λ honest first next is h.
+      weaker_run old.disk new.disk (StandsBeside old first) (StandsForEither old first next) (none.any_moment honest first is) (λ c s. record { beside = s.beside; stands = inl s.stands });
+  beside = none.beside;
+  same = none.same;
+}
+
+-- a look commits nothing
+pub looks_may : (old new : StoreState) → old.is_ready → LooksOn old new → MayCommit old new
+looks_may old new ready looks = none_may old new (looks_commit old new ready looks)
+
+-- nothing is committed
+pub makes_none : (Makes : Base → Base → Type 0) (old new : StoreState) → CommitsNothing old new → MayMake Makes old new
+makes_none Makes old new none = record {
+  any_moment = λ honest first base is h.
+      weaker_run old.disk new.disk (StandsBeside old first) (StandsForMade old (Makes base) first) (none.any_moment honest first is) (λ c s. record { beside = s.beside; stands = inl s.stands });
+  beside = none.beside;
+  same = none.same;
+}
+
+-- what a crash leaves of a commit, as it stood before the command
+pub stood_made : (Makes : Base → Base → Type 0) (old mid : StoreState) (first base next : Base) (c : Files) → CommitsNothing old mid → Makes base next
+    → StandsForEither mid first next c → StandsForMade old (Makes base) first c
+stood_made Makes old mid first base next c none made either = record {
+  beside = λ m other named flushed.
+      either.beside m (λ own. other ((none.same.own m).0 own)) (none.beside.named m other named) (none.beside.flushed m other flushed) ∙ none.beside.seen m other;
+  stands = ⊎_elim (λ s. inl ((none.same.stands first c).0 s)) (λ s. inr (next, made, (none.same.stands next c).0 s)) either.stands;
+}
+
+-- a base is made, nothing being committed, and then it may be committed
+pub makes_then : (Makes : Base → Base → Type 0) (old mid new : StoreState) → CommitsNothing old mid → GoesOn old mid
+    → Honestly mid.disk ((base : Base) → old.keeps base → (next : Base) × Makes base next × mid.keeps next) → MayCommit mid new → MayMake Makes old new
+makes_then Makes old mid new none on made may = record {
+  any_moment = λ honest first base is h.
+      let before = may.beside.honest honest in
+      let next = made before base h in
+      then_run old.disk mid.disk new.disk (StandsForMade old (Makes base) first) (StandsForEither mid first next.0)
+      (weaker_run old.disk mid.disk (StandsBeside old first) (StandsForMade old (Makes base) first) (none.any_moment before first is) (λ c s. record { beside = s.beside; stands = inl s.stands }))
+      (may.any_moment honest first next.0 (on.committed before first is) next.2) (λ c either. stood_made Makes old mid first base next.0 c none next.1 either);
+  beside = kept_twice old mid new none.same none.beside may.beside;
+  same = same_twice old mid new none.same may.same;
+}
+
+-- a base that was made is committed
+pub committed_where : {A : Type 0} (IsMade : Base → Type 0) (mid new : StoreState) (next : Base) (result : Result A Stop) → new.disk.is_honest → OnOk result (Commits mid new) → IsMade next → mid.keeps next
+    → OnOk result (HasCommitted IsMade new)
+committed_where IsMade mid new next (Ok value) honest done made kept = record { next = next; made = made; keeps = done.keeps honest next kept; committed = done.committed honest next kept }
+committed_where IsMade mid new next (Err why) honest done made kept = tt
+
+pub ready_where : {A : Type 0} (mid new : StoreState) (result : Result A Stop) → OnOk result (Commits mid new) → OnOk result new.is_ready
+ready_where mid new (Ok value) done = done.ready
+ready_where mid new (Err why) done = tt
+
+-- only the store stopped a commit
+pub only_store : {A : Type 0} (old new : StoreState) (result : Result A Stop) → IfErr result IsOfStore → IfErr result (LooksWhereMet old new)
+only_store old new (Ok value) only = tt
+only_store old new (Err (Met fault)) only = absurd only
+only_store old new (Err (Store cause)) only = tt
+
+-- what stopped a command was a look, or the store failed
+pub met_looking : (old new : StoreState) (why : Stop) → old.is_ready → LooksOn old new → CommitsNoneWhereMet old new why
+met_looking old new (Met fault) ready looks = (looks_commit old new ready looks, looks_go_on old new looks)
+met_looking old new (Store cause) ready looks = tt
+
+-- a posting was refused, or the store failed
+pub met_refused : (old new : StoreState) (why : PostStop) → CommitsNothing old new → LooksWhereRefused old new why → CommitsNoneWhereMet old new (post_stop why)
+met_refused old new (post.Refused refusal) none looks = (none, looks_go_on old new looks)
+met_refused old new (post.Store cause) none looks = tt
+
+-- what stopped a command after a change that was not committed
+pub met_after : {A : Type 0} (old mid new : StoreState) (result : Result A Stop) → CommitsNothing old mid → GoesOn old mid → IfErr result (LooksWhereMet mid new)
+    → IfErr result (CommitsNoneWhereMet old new)
+met_after old mid new (Ok value) none on looks = tt
+met_after old mid new (Err (Met fault)) none on looks =
+    (commits_none old mid new none on (looks_commit mid new on.ready looks), goes_on_twice old mid new on (looks_go_on mid new looks))
+met_after old mid new (Err (Store cause)) none on looks = tt
+
+-- what may be committed, and then nothing more
+may_then_none : (old mid new : StoreState) → MayCommit old mid → mid.is_ready → LooksOn mid new → MayCommit old new
+may_then_none old mid new may ready looks = record {
+  any_moment = λ honest first next is h. then_nothing old.disk mid.disk new.disk (StandsForEither old first next) (may.any_moment (looks.quiet.honest honest) first next is h) looks.quiet;
+  beside = kept_twice old mid new may.same may.beside (looks_commit mid new ready looks).beside;
+  same = same_twice old mid new may.same looks.same;
+}
+
+-- what was committed is so after a look
+either_then : (old mid new : StoreState) → Honestly mid.disk (KeepsOrCommits old mid) → LooksOn mid new → GoesOnFromEither old new
+either_then old mid new done looks = record {
+  ready = looks.ready;
+  committed = λ honest.
+      ⊎_elim (λ was. inl (λ base h. looks.committed base (was base h))) (λ is. inr (λ base h. looks.committed base (is base h))) (done (looks.quiet.honest honest));
+}
+
+-- the same after one that may have committed what was held before
+pub may_after : {A : Type 0} (old mid new : StoreState) (result : Result A Stop) → MayCommit old mid → mid.is_ready → Honestly mid.disk (KeepsOrCommits old mid)
+    → IfErr result (LooksWhereMet mid new) → IfErr result (MayCommitWhereMet old new)
+may_after old mid new (Ok value) may ready done looks = tt
+may_after old mid new (Err (Met fault)) may ready done looks = (may_then_none old mid new may ready looks, either_then old mid new done looks)
+may_after old mid new (Err (Store cause)) may ready done looks = tt
+
+-- why a later call failed
+pub caused_after : {T : Type 0} (old mid new : StoreState) (before between now : ℕ) (r : Result T StoreError) → before ≤ between
+    → Honestly new.disk ((base : Base) → old.keeps base → (next : Base) × mid.keeps next) → HasStoreCause mid new between now r → HasStoreCause old new before now r
+caused_after old mid new before between now (Ok value) le holds cause = let passed = cause.later in no_cause old new before now value (omega (arith))
+caused_after old mid new before between now (Err e) le holds cause = cause_after old mid new before between now (Err e) e le holds refl cause

@@ -1,0 +1,156 @@
+-- Postings into a store, with the serial of their words or with one that is looked for.
+use Rattle.std.proofs.Common.{◌≡◌, ℕ, ◌+◌, ◌%◌, ◌^◌, ◌<◌, ◌≤◌, Bool, true, false, List, inl, inr, None, Some, Result, Err, refl, subst, arith}
+use Rattle.base_file.specs.Base.{Base}
+use Rattle.cmd_report.specs.declared.posting.NewMessage.{NewMessage}
+use Rattle.cmd_report.specs.FreeSerial.{is_taken, serial_after, with_serial}
+use Rattle.cmd_report.specs.Lines.{posted_line}
+use Rattle.cmd_report.specs.Posted.{draft_given}
+use Rattle.cmd_report.proofs.FreeSerials.{first_here, first_of_all, free_where_allowed, next_step, one_more, refused_first, taken_where_known}
+use Rattle.disk_io.specs.Disk.{Honestly}
+use Rattle.echo_filed.specs.Filed.{Filed}
+use Rattle.echo_links.specs.Links.{LinkFile}
+use Rattle.cmd_status.specs.declared.fault.Fault.TheVariants.{OutOfMemory}
+use Rattle.cmd_status.specs.Devices.{Output}
+use Rattle.model_steps.specs.declared.draft.Draft.{Draft}
+use Rattle.model_steps.specs.declared.fault.PostFault.{PostFault}
+use Rattle.model_steps.specs.declared.fault.PostFault.TheVariants as fault
+use Rattle.model_steps.specs.declared.stamp.Stamp.{Stamp}
+use Rattle.model_steps.specs.Posting.{post_refusal, posted}
+use Rattle.model_steps.specs.SystemState.{SystemState}
+use Rattle.model_steps.proofs.FirstRefusals.{refusal_first}
+use Rattle.base_store.specs.Store.{LooksOn, StoreState, with_message}
+use Rattle.base_store.proofs.Runs.{looks_twice, no_look}
+use Rattle.echo_text.specs.Ids.{id_of}
+use Rattle.echo_toss.specs.declared.stop.PostStop.{PostStop}
+use Rattle.echo_toss.specs.declared.stop.PostStop.TheVariants as post
+use Rattle.echo_toss.specs.PacketsIn.{state_in}
+use Rattle.echo_toss.specs.Stores.{IsPostStop, LooksWhereRefused}
+use Rattle.echo_toss.proofs.Judged.{is_fault}
+use Rattle.cmd_store.specs.declared.stop.Stop.{Stop}
+use Rattle.cmd_store.specs.declared.stop.Stop.TheVariants.{Met}
+use Rattle.cmd_store.specs.Answered.{PrintsAll}
+use Rattle.cmd_store.specs.FreeSerial.{FiledAs, FilesAs, IsSerial, PostsAs, PostsAsOn}
+use Rattle.cmd_store.specs.Posted.{Posts, PostsOn}
+use Rattle.cmd_store.specs.Stops.{post_stop}
+use Rattle.cmd_store.proofs.Postings.{post_printed, post_stopped, posts}
+
+-- serials were looked at in the store, from one on, and each was taken
+pub record HasLooked (file : LinkFile) (old mid : StoreState) (first now start serial steps : ℕ) : Type 0 where
+  pub looks : LooksOn old mid
+  pub later : first ≤ now
+  pub place : serial ≡ serial_after start steps
+  pub taken : Honestly mid.disk ((base : Base) → old.keeps base → (k : ℕ) → k < steps → is_taken file base.messages (serial_after start k) ≡ true)
+
+-- before the first one
+pub none_looked : (file : LinkFile) (old : StoreState) (first start : ℕ) → old.is_ready → start < 2 ^ 32 → HasLooked file old old first first start start 0
+none_looked file old first start ready small = record {
+  looks = no_look old ready;
+  later = omega arith;
+  place = omega (arith, small);
+  taken = λ honest base h k within. absurd (omega (arith, within));
+}
+
+-- and one more, which is taken
+pub one_more_looked : (file : LinkFile) (old mid new : StoreState) (first now then start serial steps : ℕ) (tag : List ℕ) (draft : Draft) (stamp : Stamp) → HasLooked file old mid first now start serial steps
+    → LooksOn mid new → now ≤ then → Honestly new.disk ((base : Base) → mid.keeps base → post_refusal file base.messages tag draft serial stamp ≡ Some fault.KnownSerial)
+    → HasLooked file old new first then start ((serial + 1) % 2 ^ 32) (steps + 1)
+one_more_looked file old mid new first now then start serial steps tag draft stamp so looks later known = record {
+  looks = looks_twice old mid new so.looks looks;
+  later = let before = so.later in omega (arith, before, later);
+  place = next_step start steps serial so.place;
+  taken = λ honest base h.
+      one_more file base.messages start steps (so.taken (looks.quiet.honest honest) base h)
+      (taken_where_known file base.messages tag draft start steps serial stamp fault.KnownSerial so.place (known honest base (so.looks.keeps base h)) refl);
+}
+
+-- a message that is filed with the serial that was not taken
+pub filed_first : (file : LinkFile) (old mid new : StoreState) (first now serial steps : ℕ) (words : NewMessage) (draft : Draft) (base : Base) → HasLooked file old mid first now words.serial serial steps
+    → mid.disk.is_honest → old.keeps base → post_refusal file base.messages words.tag.now draft serial words.stamp ≡ None → new.keeps (with_message base (posted file words.tag.now draft serial words.stamp))
+    → FiledAs true file base words draft serial new
+filed_first file old mid new first now serial steps words draft base so honest h allowed kept = record {
+  is = first_here file base.messages words.serial steps serial so.place (so.taken honest base h) (free_where_allowed file base.messages words.tag.now draft serial words.stamp allowed);
+  allowed = allowed;
+  keeps = kept;
+}
+
+-- no posting is refused as out of memory
+never_memory : (file : LinkFile) (base : List Filed) (tag : List ℕ) (draft : Draft) (serial : ℕ) (stamp : Stamp) (why : PostFault) → post_refusal file base tag draft serial stamp ≡ Some why → why ≡ fault.Memory → ⊥
+never_memory file base tag draft serial stamp fault.Memory is memory = (refusal_first file base tag draft serial stamp fault.Memory).0 is
+never_memory file base tag draft serial stamp other is memory = absurd (cc)
+
+-- a message that is refused whatever its serial
+pub refused_on : (file : LinkFile) (new : StoreState) (words : NewMessage) (draft : Draft) (serial : ℕ) (base : Base) (why : PostStop)
+    → IsPostStop file base.messages words.tag.now draft serial words.stamp why → (why ≡ post.Refused fault.KnownSerial → ⊥) → FilesAs true file base words draft (Err why) new
+refused_on file new words draft serial base (post.Refused why) is unless =
+    elim (refused_first file base.messages words.tag.now draft words.serial serial words.stamp why (is_fault file base.messages words.tag.now draft serial words.stamp why is) (λ known. unless (rw known refl))) [
+      | inl memory ↦ absurd (never_memory file base.messages words.tag.now draft serial words.stamp why is memory)
+      | inr found ↦ found
+    ]
+refused_on file new words draft serial base (post.Store cause) is unless = tt
+
+-- a refusal after looks has changed nothing
+pub looks_where : (old mid new : StoreState) (why : PostStop) → LooksOn old mid → LooksWhereRefused mid new why → LooksWhereRefused old new why
+looks_where old mid new (post.Refused why) looks more = looks_twice old mid new looks more
+looks_where old mid new (post.Store cause) looks more = tt
+
+-- what refused a serial that is known has changed nothing
+pub looks_known : (mid new : StoreState) (why : PostStop) → why ≡ post.Refused fault.KnownSerial → LooksWhereRefused mid new why → LooksOn mid new
+looks_known mid new (post.Refused why) known looks = looks
+looks_known mid new (post.Store cause) known looks = absurd (cc)
+
+pub refused_known : (file : LinkFile) (base : List Filed) (tag : List ℕ) (draft : Draft) (serial : ℕ) (stamp : Stamp) (why : PostStop) → why ≡ post.Refused fault.KnownSerial
+    → IsPostStop file base tag draft serial stamp why → post_refusal file base tag draft serial stamp ≡ Some fault.KnownSerial
+refused_known file base tag draft serial stamp (post.Refused fault.KnownSerial) known is = is
+refused_known file base tag draft serial stamp (post.Refused fault.NoArea) known is = absurd (cc)
+refused_known file base tag draft serial stamp (post.Refused fault.ByteZero) known is = absurd (cc)
+refused_known file base tag draft serial stamp (post.Refused fault.FieldTooLong) known is = absurd (cc)
+refused_known file base tag draft serial stamp (post.Refused fault.BadStamp) known is = absurd (cc)
+refused_known file base tag draft serial stamp (post.Refused fault.BadReply) known is = absurd (cc)
+refused_known file base tag draft serial stamp (post.Refused fault.Memory) known is = absurd (cc)
+refused_known file base tag draft serial stamp (post.Store cause) known is = absurd (cc)
+
+-- words with the serial that they are posted with, as the words are to be posted
+posts_as_on : {A : Type 0} (free : Bool) (words : NewMessage) (system : SystemState) (body : List ℕ) (old new : Output) (result : Result A Stop) (serial : ℕ) → IsSerial free system.file system.base words.serial serial
+    → PostsOn (with_serial words serial) system body old new result → PostsAsOn free words system body old new result
+posts_as_on true words system body old new result serial is posted = record { serial = serial; first = is; posted = posted }
+posts_as_on false words system body old new result serial is posted = subst (λ (n : ℕ). PostsOn (with_serial words n) system body old new result) is posted
+
+makes_as : (free : Bool) (file : LinkFile) (words : NewMessage) (body : List ℕ) (base next : Base) (serial : ℕ) → IsSerial free file base.messages words.serial serial → Posts file (with_serial words serial) body base next
+    → PostsAs free file words body base next
+makes_as true file words body base next serial is made = record { serial = serial; first = is; made = made }
+makes_as false file words body base next serial is made = subst (λ (n : ℕ). Posts file (with_serial words n) body base next) is made
+
+-- there is a serial with which words are posted
+serial_of : (free : Bool) (file : LinkFile) (base : List Filed) (start : ℕ) → (serial : ℕ) × IsSerial free file base start serial
+serial_of true file base start = first_of_all file base start
+serial_of false file base start = (start, refl)
+
+-- there is no memory for the draft
+pub as_memory : (free : Bool) (words : NewMessage) (system : SystemState) (body : List ℕ) (old : Output) → PostsAsOn {A = Unit {0}} free words system body old old (Err (Met OutOfMemory))
+as_memory free words system body old =
+    let found = serial_of free system.file system.base words.serial in
+    posts_as_on free words system body old old (Err (Met OutOfMemory)) found.0 found.1 (inr (inl tt, refl))
+
+-- a posting that stopped
+pub as_stopped : (free : Bool) (words : NewMessage) (file : LinkFile) (base : Base) (new : StoreState) (body : List ℕ) (old : Output) (draft : Draft) (why : PostStop) → draft ≡ draft_given words body
+    → FilesAs free file base words draft (Err why) new → PostsAsOn {A = Unit {0}} free words (state_in file base) body old old (Err (post_stop why))
+as_stopped free words file base new body old draft (post.Refused why) drafted (serial, is, refused) =
+    posts_as_on free words (state_in file base) body old old (Err (post_stop (post.Refused why))) serial is
+    (post_stopped (with_serial words serial) (state_in file base) body old draft (post.Refused why) drafted refused)
+as_stopped free words file base new body old draft (post.Store cause) drafted is =
+    let found = serial_of free file base.messages words.serial in
+    posts_as_on free words (state_in file base) body old old (Err (post_stop (post.Store cause))) found.0 found.1 (inl refl)
+
+-- the line of a posting is printed
+pub as_printed : {A : Type 0} (free : Bool) (words : NewMessage) (file : LinkFile) (base : Base) (new : StoreState) (body : List ℕ) (serial : ℕ) (before after : Output) (draft : Draft) (result : Result A Stop) → draft ≡ draft_given words body
+    → FiledAs free file base words draft serial new → PrintsAll (posted_line words.tag.now (id_of file.system serial)) before after result
+    → PostsAsOn free words (state_in file base) body before after result
+as_printed free words file base new body serial before after draft result drafted filed out =
+    posts_as_on free words (state_in file base) body before after result serial filed.is
+    (post_printed (with_serial words serial) (state_in file base) body before after draft result drafted filed.allowed out)
+
+-- what it makes of a base
+pub as_posts : (free : Bool) (file : LinkFile) (words : NewMessage) (body : List ℕ) (base : Base) (new : StoreState) (serial : ℕ) (draft : Draft) → draft ≡ draft_given words body
+    → FiledAs free file base words draft serial new → PostsAs free file words body base (with_message base (posted file words.tag.now draft serial words.stamp))
+as_posts free file words body base new serial draft drafted filed =
+    makes_as free file words body base (with_message base (posted file words.tag.now draft serial words.stamp)) serial filed.is (posts file (with_serial words serial) body base draft drafted filed.allowed)

@@ -1,0 +1,11 @@
+pub mod Commits
+pub mod Printed
+pub mod Postings
+pub mod FreePostings
+pub mod Replies
+pub mod Scans
+pub mod Purges
+pub mod Tosses
+pub mod TossedFiles
+pub mod Runs
+mod Answered

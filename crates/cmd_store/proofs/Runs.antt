@@ -1,0 +1,36 @@
+-- A run of `toss` on a store, from its packets to its end.
+use Rattle.std.proofs.Common.{◌≡◌, ℕ, Bool, List, [], Option, Result, Ok, Err, subst}
+use Rattle.std.specs.Prelude.{OnOk}
+use Rattle.base_file.specs.Base.{Base}
+use Rattle.cmd_report.specs.Coming.{Coming}
+use Rattle.echo_links.specs.Links.{LinkFile}
+use Rattle.echo_packet.specs.declared.limits.Limits.{Limits}
+use Rattle.cmd_status.specs.declared.fault.Fault.{Fault}
+use Rattle.cmd_status.specs.Devices.{Device, Output}
+use Rattle.base_store.specs.Store.{StoreState}
+use Rattle.base_store.specs.declared.store_error.StoreError.{StoreError}
+use Rattle.cmd_store.specs.declared.stop.Stop.{Stop}
+use Rattle.cmd_store.specs.Answered.{HasCommitted}
+use Rattle.cmd_store.specs.Tossed.{Tosses, TossesFiles, TossesOn, TossesTo}
+
+-- no line was there before the first packet
+pub none_before : {R : Type 0} (noting : Bool) (limits : Limits) (device : R → Device) (file : LinkFile) (base : Base) (files left : List Coming) (none more : List ℕ) (result : Result (Option Fault) StoreError) (new : StoreState) → none ≡ []
+    → TossesFiles noting limits device file base files left none more result new → TossesFiles noting limits device file base files left [] more result new
+none_before noting limits device file base files left none more result new is t = subst (λ (l : List ℕ). TossesFiles noting limits device file base files left l more result new) is t
+
+-- what the packets make of the base
+pub tosses : {R : Type 0} (noting : Bool) (limits : Limits) (device : R → Device) (file : LinkFile) (base : Base) (files left : List Coming) (more : List ℕ) (stopped : Option Fault) (mid : StoreState)
+    → TossesFiles noting limits device file base files left [] more (Ok stopped) mid → (next : Base) × Tosses noting limits device file files base next × mid.keeps next
+tosses noting limits device file base files left more stopped mid t =
+    (t.next, record { stopped = stopped; left = left; run = t.run; each = t.each; state = t.state }, t.keeps)
+
+-- the lines of a run and the base that is committed are of one run
+pub tosses_to : {R : Type 0} (noting : Bool) (limits : Limits) (device : R → Device) (file : LinkFile) (base : Base) (files left : List Coming) (old new : Output) (store : StoreState) (result : Result (Option Fault) Stop)
+    → TossesOn noting limits device file base files left old new result store → OnOk result (HasCommitted (TossesTo noting limits device file base files left old new result) store)
+tosses_to noting limits device file base files left old new store (Ok fault) t = record {
+  next = t.next;
+  made = record { tossed = record { run = t.run; stopped = t.stopped; each = t.each; ends = t.ends }; state = t.state };
+  keeps = t.committed.0;
+  committed = t.committed.1;
+}
+tosses_to noting limits device file base files left old new store (Err why) t = tt

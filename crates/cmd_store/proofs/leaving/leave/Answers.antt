@@ -1,0 +1,26 @@
+use Rattle.std.proofs.Common.{inl, refl}
+use Rattle.std.proofs.lemmas.Result.{err_from_is_err_and}
+use Rattle.base_store.proofs.Runs.{no_look}
+use Rattle.cmd_store.proofs.Commits.{looks_may, only_store}
+use Rattle.cmd_store.proofs.Printed.{printed_then}
+use Rattle.cmd_store.proofs.leaving.leave.Goals as goal
+
+pub returns-in_err-print_rest-clause-printed : goal.returns-in_err-print_rest-clause-printed
+returns-in_err-print_rest-clause-printed g c =
+    let p = err_from_is_err_and c.from_residual.result c.from_residual.ensures.1 in
+    rw (p.1, p.2) (inl (c.in_err-print_rest.ensures.err, record { lines = c.args.lines.now.items; answer = tt; right = refl; begun = c.in_err-print_rest.ensures.begun }))
+
+pub returns-in_err-print_rest-clause-met : goal.returns-in_err-print_rest-clause-met
+returns-in_err-print_rest-clause-met g c =
+    let p = err_from_is_err_and c.from_residual.result c.from_residual.ensures.1 in
+    rw (p.1, p.2) (no_look _ c.requires)
+
+pub returns-in_err-print_rest-clause-either : goal.returns-in_err-print_rest-clause-either
+returns-in_err-print_rest-clause-either g c = looks_may _ _ c.requires (no_look _ c.requires)
+
+pub returns-clause-printed : goal.returns-clause-printed
+returns-clause-printed g c =
+    printed_then c.args.lines.now.items _ _ c.commit_on.result c.in_ok-print_rest.ensures.bytes (c.in_ok-print_rest.ensures.ok, c.in_ok-print_rest.ensures.passed) c.commit_on.ensures.of_store
+
+pub returns-clause-met : goal.returns-clause-met
+returns-clause-met g c = only_store _ _ c.commit_on.result c.commit_on.ensures.of_store

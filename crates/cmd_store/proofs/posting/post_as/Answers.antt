@@ -1,0 +1,76 @@
+use Rattle.std.proofs.Common.{ℕ}
+use Rattle.std.proofs.lemmas.Result.{err_from_is_err_and}
+use Rattle.base_store.proofs.Runs.{looks_commit, looks_go_on, no_look}
+use Rattle.echo_toss.specs.PacketsIn.{state_in}
+use Rattle.cmd_store.specs.FreeSerial.{PostsAs}
+use Rattle.cmd_store.specs.Stops.{store_answer}
+use Rattle.cmd_store.proofs.Commits.{caused_after, committed_where, makes_none, makes_then, met_after, met_refused, ready_where}
+use Rattle.cmd_store.proofs.FreePostings.{as_memory, as_posts, as_printed, as_stopped}
+use Rattle.cmd_store.proofs.Postings.{post_caused}
+use Rattle.cmd_store.proofs.posting.post_as.Goals as goal
+
+pub returns-in_err-draft-clause-answers : goal.returns-in_err-draft-clause-answers
+returns-in_err-draft-clause-answers g c =
+    let p = err_from_is_err_and c.from_residual.result c.from_residual.ensures.1 in
+    rw (p.1, p.2) (λ honest base kept. as_memory c.args.free c.args.words (state_in c.args.links.now base) c.args.body.now _)
+
+pub returns-in_err-draft-clause-met : goal.returns-in_err-draft-clause-met
+returns-in_err-draft-clause-met g c =
+    let p = err_from_is_err_and c.from_residual.result c.from_residual.ensures.1 in
+    rw (p.1, p.2) (looks_commit _ _ c.requires (no_look _ c.requires), looks_go_on _ _ (no_look _ c.requires))
+
+pub returns-in_err-draft-clause-crash : goal.returns-in_err-draft-clause-crash
+returns-in_err-draft-clause-crash g c = makes_none _ _ _ (looks_commit _ _ c.requires (no_look _ c.requires))
+
+pub returns-in_err-serial-clause-answers : goal.returns-in_err-serial-clause-answers
+returns-in_err-serial-clause-answers g c =
+    let p = err_from_is_err_and c.from_residual-in_err-serial.result c.from_residual-in_err-serial.ensures.1 in
+    rw (p.1, p.2) (λ honest base kept. as_stopped c.args.free c.args.words c.args.links.now base _ c.args.body.now _ c.in_ok-draft.draft c.in_err-serial.field-0.0 c.in_ok-draft.ensures
+    (c.in_err-serial.ensures.filed honest base kept))
+
+pub returns-in_err-serial-clause-met : goal.returns-in_err-serial-clause-met
+returns-in_err-serial-clause-met g c =
+    let p = err_from_is_err_and c.from_residual-in_err-serial.result c.from_residual-in_err-serial.ensures.1 in
+    rw (p.1, p.2) (met_refused _ _ c.in_err-serial.field-0.0 c.file_as.ensures.commits c.in_err-serial.ensures.looks)
+
+pub returns-in_err-serial-clause-crash : goal.returns-in_err-serial-clause-crash
+returns-in_err-serial-clause-crash g c = makes_none _ _ _ c.file_as.ensures.commits
+
+pub returns-in_err-serial-clause-cause : goal.returns-in_err-serial-clause-cause
+returns-in_err-serial-clause-cause g c =
+    let p = err_from_is_err_and c.from_residual-in_err-serial.result c.from_residual-in_err-serial.ensures.1 in
+    rw (p.1, p.2) (post_caused ℕ (Unit {0}) _ _ _ _ c.in_err-serial.field-0.0 c.in_err-serial.ensures.cause)
+
+pub returns-clause-answers : goal.returns-clause-answers
+returns-clause-answers g c = λ honest base kept.
+    let before = c.leave_posted.ensures.either.beside.honest honest in
+    as_printed c.args.free c.args.words c.args.links.now base _ c.args.body.now c.in_ok-serial.serial _ _ c.in_ok-draft.draft c.leave_posted.result c.in_ok-draft.ensures
+    (c.in_ok-serial.ensures.filed before base kept) c.leave_posted.ensures.printed
+
+pub returns-clause-committed : goal.returns-clause-committed
+returns-clause-committed g c = λ honest base kept.
+    let before = c.leave_posted.ensures.either.beside.honest honest in
+    let filed = c.in_ok-serial.ensures.filed before base kept in
+    let made = as_posts c.args.free c.args.links.now c.args.words c.args.body.now base _ c.in_ok-serial.serial c.in_ok-draft.draft c.in_ok-draft.ensures filed in
+    committed_where (PostsAs c.args.free c.args.links.now c.args.words c.args.body.now base) _ _ _ c.leave_posted.result honest c.leave_posted.ensures.committed made filed.keeps
+
+pub returns-clause-ready : goal.returns-clause-ready
+returns-clause-ready g c = ready_where _ _ c.leave_posted.result c.leave_posted.ensures.committed
+
+pub returns-clause-met : goal.returns-clause-met
+returns-clause-met g c = met_after _ _ _ c.leave_posted.result c.file_as.ensures.commits c.in_ok-serial.ensures.goes_on c.leave_posted.ensures.met
+
+pub returns-clause-crash : goal.returns-clause-crash
+returns-clause-crash g c =
+    makes_then _ _ _ _ c.file_as.ensures.commits c.in_ok-serial.ensures.goes_on
+    (λ before base kept.
+    let filed = c.in_ok-serial.ensures.filed before base kept in (
+      _,
+      as_posts c.args.free c.args.links.now c.args.words c.args.body.now base _ c.in_ok-serial.serial c.in_ok-draft.draft c.in_ok-draft.ensures filed,
+      filed.keeps,
+    )) c.leave_posted.ensures.either
+
+pub returns-clause-cause : goal.returns-clause-cause
+returns-clause-cause g c =
+    caused_after _ _ _ _ _ _ (store_answer c.leave_posted.result) c.file_as.ensures.cause.later
+    (λ honest base kept. let filed = c.in_ok-serial.ensures.filed (c.leave_posted.ensures.either.beside.honest honest) base kept in (_, filed.keeps)) c.leave_posted.ensures.cause

@@ -1,0 +1,14 @@
+pub mod Stops
+pub mod Answered
+pub mod Posted
+pub mod FreeSerial
+pub mod Replied
+pub mod Scanned
+pub mod Purged
+pub mod Tossed
+pub mod Fault
+pub mod Written
+pub mod CharsetLine
+pub mod Letter
+pub mod Mailed
+pub mod MailPosted

@@ -1,0 +1,33 @@
+-- A mail that is posted on a store.
+use Rattle.std.specs.Prelude.{◌≡◌, List, ℕ, Result, Ok, Err}
+use Rattle.base_file.specs.Base.{Base}
+use Rattle.cmd_report.specs.declared.posting.NewMessage.{NewMessage}
+use Rattle.echo_links.specs.Links.{LinkFile}
+use Rattle.echo_mail.specs.Mail.{mail_in}
+use Rattle.cmd_status.specs.Devices.{Output}
+use Rattle.model_steps.specs.SystemState.{SystemState}
+use Rattle.cmd_store.specs.FreeSerial.{PostsAs, PostsAsOn}
+use Rattle.cmd_store.specs.declared.stop.Stop.{Stop}
+use Rattle.cmd_store.specs.declared.fault.LetterFault.{LetterFault}
+use Rattle.cmd_store.specs.declared.letter.Letter.{Letter}
+use Rattle.cmd_store.specs.declared.mailed.MailWords.{MailWords}
+use Rattle.cmd_store.specs.declared.mail_posting.PostMail.{PostMail}
+use Rattle.cmd_store.specs.Letter.{LetterAnswers}
+use Rattle.cmd_store.specs.Mailed.{IsPosting}
+
+-- the letter of the mail is to be posted as it was asked, or the mail is refused
+abbrev pub ReadsMail : MailWords → List ℕ → Result PostMail LetterFault → Type 0
+ReadsMail asked bytes (Ok mail) = LetterAnswers asked.charset asked.spare (mail_in bytes) (Ok mail.letter) × (mail.asked ≡ asked)
+ReadsMail asked bytes (Err fault) = LetterAnswers asked.charset asked.spare (mail_in bytes) (Err fault)
+
+-- what is answered where the letter is to be posted at a system
+pub record MailsOn {A : Type 0} (letter : Letter) (asked : MailWords) (system : SystemState) (old new : Output) (result : Result A Stop) : Type 0 where
+  pub words : NewMessage
+  pub posting : IsPosting letter asked words
+  pub posted : PostsAsOn asked.free words system letter.body old new result
+
+-- the posting of the letter makes this base of one
+pub record Mails (file : LinkFile) (letter : Letter) (asked : MailWords) (base next : Base) : Type 0 where
+  pub words : NewMessage
+  pub posting : IsPosting letter asked words
+  pub made : PostsAs asked.free file words letter.body base next

@@ -1,0 +1,25 @@
+-- What `purge` prints, and what it makes of the base that a store holds.
+use Rattle.std.specs.Prelude.{◌≡◌, ℕ, ◌⊎◌, List, Result}
+use Rattle.base_file.specs.Base.{Base}
+use Rattle.cmd_report.specs.Lines.{purged_line}
+use Rattle.cmd_status.specs.Devices.{Output}
+use Rattle.model_steps.specs.Purging.{changed}
+use Rattle.base_store.specs.Store.{purged}
+use Rattle.cmd_store.specs.declared.stop.Stop.{Stop}
+use Rattle.cmd_store.specs.Answered.{AnswersAndCommits, RefusesNone}
+
+-- the purge of a base: the line of how many messages it changes
+abbrev pub IsPurgedAt : {A : Type 0} → Base → List ℕ → A → Type 0
+IsPurgedAt base lines done = lines ≡ purged_line (changed base.messages base.cursor)
+
+-- what is answered where a base is to be purged
+abbrev pub PurgesOn : {A : Type 0} → Base → Output → Output → Result A Stop → Type 0
+PurgesOn base old new result = AnswersAndCommits (IsPurgedAt base) RefusesNone old new result
+
+-- the purge makes this base of one
+abbrev pub Purges : Base → Base → Type 0
+Purges base next = next ≡ purged base
+
+-- what was held before a purge may be committed by it first
+abbrev pub HoldsOrPurges : Base → Base → Type 0
+HoldsOrPurges base next = (next ≡ base) ⊎ Purges base next

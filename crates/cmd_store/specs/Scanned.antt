@@ -1,0 +1,29 @@
+-- What `scan` prints of the base that a store holds, and its packets.
+use Rattle.std.specs.Prelude.{◌≡◌, true, false, ℕ, List, map, Result}
+use Rattle.std.specs.List.{flat_map}
+use Rattle.model_steps.specs.PacketFiles.{PacketFile}
+use Rattle.cmd_report.specs.Scanned.{file_sent, line_sent}
+use Rattle.cmd_status.specs.declared.fault.Fault.{Fault}
+use Rattle.cmd_status.specs.declared.fault.Fault.TheVariants.{Scan}
+use Rattle.cmd_status.specs.Devices.{Output}
+use Rattle.model_steps.specs.declared.fault.ScanFault.TheVariants.{BadStamp}
+use Rattle.model_steps.specs.declared.stamp.Stamp.{Stamp}
+use Rattle.model_steps.specs.Scanning.{scanned}
+use Rattle.model_steps.specs.Stamps.{is_stamp}
+use Rattle.model_steps.specs.SystemState.{SystemState}
+use Rattle.cmd_store.specs.declared.stop.Stop.{Stop}
+use Rattle.cmd_store.specs.Answered.{AnswersOn}
+
+-- the scan of a system: a line for each of its packets, and their files
+pub record IsScannedAt (stamp : Stamp) (system : SystemState) (lines : List ℕ) (files : List PacketFile) : Type 0 where
+  pub moment : is_stamp stamp ≡ true
+  pub printed : lines ≡ flat_map line_sent (scanned system.file system.base system.cursor stamp)
+  pub packets : files ≡ map (file_sent system.cursor) (scanned system.file system.base system.cursor stamp)
+
+-- a part of the stamp is out of its range
+abbrev pub IsUnscannedAt : Stamp → Fault → Type 0
+IsUnscannedAt stamp fault = (fault ≡ Scan BadStamp) × (is_stamp stamp ≡ false)
+
+-- what is answered where a system is to be scanned
+abbrev pub ScansOn : Stamp → SystemState → Output → Output → Result (List PacketFile) Stop → Type 0
+ScansOn stamp system old new result = AnswersOn (IsScannedAt stamp system) (IsUnscannedAt stamp) old new result

@@ -1,0 +1,48 @@
+-- Why a command on a store stopped.
+use Rattle.std.specs.Prelude.{◌≡◌, ℕ, List, Result, Ok, Err}
+use Rattle.base_file.specs.declared.fault.BaseFault.TheVariants.{TooMany}
+use Rattle.cmd_status.specs.declared.fault.Fault.{Fault}
+use Rattle.cmd_status.specs.declared.fault.Fault.TheVariants.{Base, CannotUse, OutOfMemory, Post, Scan}
+use Rattle.model_steps.specs.declared.fault.ScanFault.TheVariants as scan_fault
+use Rattle.base_store.specs.declared.store_error.StoreError.{StoreError}
+use Rattle.base_store.specs.declared.store_error.StoreError.TheVariants as error
+use Rattle.echo_toss.specs.declared.stop.PostStop.{PostStop}
+use Rattle.echo_toss.specs.declared.stop.PostStop.TheVariants as post
+use Rattle.echo_toss.specs.declared.stop.ScanStop.{ScanStop}
+use Rattle.echo_toss.specs.declared.stop.ScanStop.TheVariants as scan
+use Rattle.cmd_store.specs.declared.stop.Stop.{Stop}
+use Rattle.cmd_store.specs.declared.stop.Stop.TheVariants as stop
+
+-- why a posting stopped a command
+abbrev pub post_stop : PostStop → Stop
+post_stop (post.Refused why) = stop.Met (Post why)
+post_stop (post.Store cause) = stop.Store cause
+
+-- why a scan stopped a command
+abbrev pub scan_stop : ScanStop → Stop
+scan_stop scan.BadStamp = stop.Met (Scan scan_fault.BadStamp)
+scan_stop (scan.Store cause) = stop.Store cause
+
+-- what the store answered
+abbrev pub store_answer : {A : Type 0} → Result A Stop → Result (Unit {0}) StoreError
+store_answer (Ok done) = Ok tt
+store_answer (Err (stop.Met fault)) = Ok tt
+store_answer (Err (stop.Store cause)) = Err cause
+
+-- the store failed
+abbrev pub IsOfStore : Stop → Type 0
+IsOfStore (stop.Met fault) = ⊥
+IsOfStore (stop.Store cause) = Unit {0}
+
+-- what is at the path cannot be used
+abbrev pub CannotUseAt : List ℕ → Fault → Type 0
+CannotUseAt path (CannotUse other) = other.now ≡ path
+CannotUseAt path _ = ⊥
+
+-- what is reported of why a command stopped, where the store is at the path
+abbrev pub IsToldAs : List ℕ → Stop → Fault → Type 0
+IsToldAs path (stop.Met fault) told = told ≡ fault
+IsToldAs path (stop.Store error.Memory) told = told ≡ OutOfMemory
+IsToldAs path (stop.Store error.TooMany) told = told ≡ Base TooMany
+IsToldAs path (stop.Store error.Device) told = CannotUseAt path told
+IsToldAs path (stop.Store error.Damaged) told = CannotUseAt path told

@@ -1,0 +1,115 @@
+-- What `toss` does with its packet files, prints, and makes of the base that a store holds.
+use Rattle.std.specs.Prelude.{◌≡◌, ◌⊎◌, ◌++◌, ℕ, Bool, List, Option, Some, None, OnOk, Result, Ok, Err}
+use Rattle.std.specs.Io.KnownBytes.{Appends}
+use Rattle.base_file.specs.Base.{Base}
+use Rattle.echo_links.specs.Links.{LinkFile}
+use Rattle.echo_packet.specs.declared.limits.Limits.{Limits}
+use Rattle.cmd_report.specs.Coming.{Coming}
+use Rattle.cmd_report.specs.Tossed.{IsRunPrinted, TossesEachBy, run_begun}
+use Rattle.cmd_report.specs.TossedPacket.{TossRun, TossesPacketBy, fault_of}
+use Rattle.cmd_status.specs.declared.fault.Fault.{Fault}
+use Rattle.cmd_status.specs.declared.fault.Fault.TheVariants.{TossMemory}
+use Rattle.cmd_status.specs.Devices.{Device, Output}
+use Rattle.cmd_status.specs.Ended.{CannotPrint, PassesAll}
+use Rattle.cmd_status.specs.Lines.{WritesFront}
+use Rattle.base_store.specs.Store.{StoreState}
+use Rattle.base_store.specs.declared.store_error.StoreError.{StoreError}
+use Rattle.echo_toss.specs.declared.stop.StoppedToss.{StoppedToss}
+use Rattle.echo_toss.specs.declared.stop.TossStop.{TossStop}
+use Rattle.echo_toss.specs.declared.stop.TossStop.TheVariants as toss
+use Rattle.echo_toss.specs.declared.tally.Tally.{Tally}
+use Rattle.echo_toss.specs.PacketsIn.{state_in}
+use Rattle.cmd_report.specs.Lines.{tally_line}
+use Rattle.cmd_store.specs.declared.stop.Stop.{Stop}
+use Rattle.cmd_store.specs.declared.stop.Stop.TheVariants.{Met, Store}
+
+-- the packet files, of which so much is taken, are tossed at a system with this base, up to the first fault, and then it has the other
+pub record Tosses {R : Type 0} (noting : Bool) (limits : Limits) (device : R → Device) (file : LinkFile) (files : List Coming) (base next : Base) : Type 0 where
+  pub stopped : Option Fault
+  pub left : List Coming
+  pub run : TossRun
+  pub each : TossesEachBy (TossesPacketBy noting) device files (run_begun limits (state_in file base)) stopped left run
+  pub state : run.system ≡ state_in file next
+
+-- the lines of the run are out; where a fault stopped it, standard output may have failed after a beginning of them
+abbrev pub AreOut : TossRun → Option Fault → Output → Output → Type 0
+AreOut run None old new = Appends old.contents new.contents run.lines × PassesAll old new
+AreOut run (Some fault) old new = IsRunPrinted run old new
+
+-- How a run ends that a fault stopped, or none: with that fault, its lines out; or standard output failed; or the store did,
+-- in the run, as out of memory, and nothing is printed, or at its end.
+abbrev pub EndsOn : TossRun → Option Fault → Output → Output → Result (Option Fault) Stop → Type 0
+EndsOn run stopped old new (Ok fault) = (fault ≡ stopped) × AreOut run stopped old new
+EndsOn run stopped old new (Err (Met fault)) =
+    (stopped ≡ None) × CannotPrint old.failures new.failures fault × WritesFront run.lines old.contents new.contents
+EndsOn run stopped old new (Err (Store cause)) = ((stopped ≡ Some TossMemory) × (new ≡ old)) ⊎ AreOut run stopped old new
+
+-- how the lines of a run are printed
+abbrev pub PrintsRun : TossRun → Option Fault → Output → Output → Result (Unit {0}) Fault → Type 0
+PrintsRun run stopped old new (Ok done) = AreOut run stopped old new
+PrintsRun run stopped old new (Err fault) =
+    (stopped ≡ None) × CannotPrint old.failures new.failures fault × WritesFront run.lines old.contents new.contents
+
+-- what stopped a run, as steps of a system tell it: that the store failed, as out of memory
+abbrev pub stopped_in : Result (Option Fault) StoreError → Option Fault
+stopped_in (Ok stopped) = stopped
+stopped_in (Err cause) = Some TossMemory
+
+-- the line of a packet is added, and why it was not tossed whole is answered; where the store failed no line is
+abbrev pub ReportsStop : List ℕ → List ℕ → Tally → TossStop → Result (Option Fault) StoreError → Type 0
+ReportsStop old new tally (toss.Packet why) result = (result ≡ Ok (Some (fault_of why))) × (new ≡ old ++ tally_line tally)
+ReportsStop old new tally (toss.Store cause) result = result ≡ Err cause
+
+abbrev pub ReportsIn : List ℕ → List ℕ → Result Tally StoppedToss → Result (Option Fault) StoreError → Type 0
+ReportsIn old new (Ok tally) result = (result ≡ Ok None) × (new ≡ old ++ tally_line tally)
+ReportsIn old new (Err stopped) result = ReportsStop old new stopped.tally stopped.stop result
+
+-- a run at a system with this base
+abbrev pub run_at : Limits → LinkFile → Base → List ℕ → TossRun
+run_at limits file base lines = record { limits = limits; system = state_in file base; lines = lines }
+
+-- The packet at the front of a reader's bytes is tossed, from this base to the one that the store holds then; its lines are added.
+pub record TossesNext (noting : Bool) (limits : Limits) (file : LinkFile) (base : Base) (before after : Device) (lines more : List ℕ) (result : Result (Option Fault) StoreError) (new : StoreState) : Type 0 where
+  pub next : Base
+  pub run : TossRun
+  pub packet : TossesPacketBy noting (run_at limits file base lines) before after (stopped_in result) run
+  pub state : run.system ≡ state_in file next
+  pub same : run.limits ≡ limits
+  pub added : OnOk result (run.lines ≡ more)
+  pub keeps : OnOk result (new.keeps next)
+
+-- The same of packet files, up to the first fault.
+pub record TossesFiles {R : Type 0} (noting : Bool) (limits : Limits) (device : R → Device) (file : LinkFile) (base : Base) (files left : List Coming) (lines more : List ℕ) (result : Result (Option Fault) StoreError) (new : StoreState) : Type 0 where
+  pub next : Base
+  pub run : TossRun
+  pub each : TossesEachBy (TossesPacketBy noting) device files (run_at limits file base lines) (stopped_in result) left run
+  pub state : run.system ≡ state_in file next
+  pub added : OnOk result (run.lines ≡ more)
+  pub keeps : OnOk result (new.keeps next)
+
+-- the store holds this base, and it is committed
+abbrev pub HoldsCommitted : StoreState → Base → Type 0
+HoldsCommitted s base = s.keeps base × s.committed base
+
+-- The packet files are tossed at a system with this base, some are left, and the lines of the packets are printed; the base after
+-- them is committed.
+pub record TossesOn {R : Type 0} (noting : Bool) (limits : Limits) (device : R → Device) (file : LinkFile) (base : Base) (files left : List Coming) (old new : Output) (result : Result (Option Fault) Stop) (store : StoreState) : Type 0 where
+  pub next : Base
+  pub run : TossRun
+  pub stopped : Option Fault
+  pub each : TossesEachBy (TossesPacketBy noting) device files (run_begun limits (state_in file base)) stopped left run
+  pub state : run.system ≡ state_in file next
+  pub ends : EndsOn run stopped old new result
+  pub committed : OnOk result (HoldsCommitted store next)
+
+-- The packet files are tossed at a system with this base, some are left, and the lines of the packets are printed.
+pub record TossesIn {R : Type 0} (noting : Bool) (limits : Limits) (device : R → Device) (file : LinkFile) (base : Base) (files left : List Coming) (old new : Output) (result : Result (Option Fault) Stop) : Type 0 where
+  pub run : TossRun
+  pub stopped : Option Fault
+  pub each : TossesEachBy (TossesPacketBy noting) device files (run_begun limits (state_in file base)) stopped left run
+  pub ends : EndsOn run stopped old new result
+
+-- The same, and then the system has the other base.
+pub record TossesTo {R : Type 0} (noting : Bool) (limits : Limits) (device : R → Device) (file : LinkFile) (base : Base) (files left : List Coming) (old new : Output) (result : Result (Option Fault) Stop) (next : Base) : Type 0 where
+  pub tossed : TossesIn noting limits device file base files left old new result
+  pub state : tossed.run.system ≡ state_in file next

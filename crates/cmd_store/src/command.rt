@@ -1,0 +1,53 @@
+//! What a command on a store owes, whichever command and whichever store that is.
+ghost use Rattle.std.specs.Prelude.{Bool, Result, IfErr, OnOk};
+ghost use Rattle.base_file.specs.Base.{Base};
+ghost use Rattle.disk_io.specs.Disk.{Honestly};
+ghost use Rattle.echo_links.specs.Links.{LinkFile as TheLinks};
+ghost use Rattle.cmd_status.specs.Devices.{Output, output_of};
+ghost use Rattle.base_store.specs.Store.{HasStoreCause};
+ghost use Rattle.cmd_store.specs.Answered.{HasCommitted, MayMake, StaysWhereMet};
+ghost use Rattle.cmd_store.specs.Stops.{store_answer};
+ghost use Rattle.cmd_store.specs.declared.stop.Stop.{Stop as TheStop};
+
+use crate::stop::Stop;
+use base_store::PurgedStore;
+use disk_io::Sink;
+use echo_links::LinkFile;
+use std::alloc::Global;
+
+/// A command that changes a base of any kind.
+pub trait StoreCommand<'a> {
+    /// Its answer if it ends well.
+    type Answer;
+
+    // What it prints and answers where the store holds this base. Each pair is from before and after: the command, and
+    // standard output.
+    ghost answers: { Self → Self → TheLinks → Base → Output → Output → Result Self.Answer TheStop → Type 0 };
+
+    // Which base it makes of this one, where it prints and answers this.
+    ghost makes: { Self → Self → TheLinks → Base → Output → Output → Result Self.Answer TheStop → Base → Type 0 };
+
+    // Which base a crash may leave, if not the one that was committed before.
+    ghost may: { Self → TheLinks → Base → Base → Type 0 };
+
+    // Whether what the store held before may be committed where the command meets a fault.
+    ghost commits_held: { Self → Bool };
+
+    /// Runs it with this link file on the store, prints its lines, and commits.
+    fn run<T: PurgedStore, W: Sink>(
+        &mut self,
+        alloc: Global,
+        links: &LinkFile,
+        store: &mut T,
+        out: &mut W,
+    ) -> Result<Self::Answer, Stop<'a>>
+        requires { (T.state store.old).is_ready }
+        ensures answers { Honestly (T.state store.new).disk ((base : Base) → (T.state store.old).keeps base
+            → answers self.old self.new links.now base (output_of W.contents W.failures W.holds out.old) (output_of W.contents W.failures W.holds out.new) result) }
+        ensures committed { Honestly (T.state store.new).disk ((base : Base) → (T.state store.old).keeps base
+            → OnOk result (HasCommitted (makes self.old self.new links.now base (output_of W.contents W.failures W.holds out.old) (output_of W.contents W.failures W.holds out.new) result) (T.state store.new))) }
+        ensures ready { OnOk result (T.state store.new).is_ready }
+        ensures met { IfErr result (StaysWhereMet (commits_held self.old) (T.state store.old) (T.state store.new)) }
+        ensures crash { MayMake (may self.old links.now) (T.state store.old) (T.state store.new) }
+        ensures cause { HasStoreCause (T.state store.old) (T.state store.new) (T.failures store.old) (T.failures store.new) (store_answer result) };
+}

@@ -1,0 +1,61 @@
+//! `post --mail` as a command on a store.
+ghost use Rattle.std.specs.Prelude.{false};
+ghost use Rattle.echo_toss.specs.PacketsIn.{state_in};
+ghost use Rattle.cmd_store.specs.MailPosted.{Mails, MailsOn, ReadsMail};
+
+use crate::fault::LetterFault;
+use crate::letter::{Letter, letter_in};
+use crate::mailed::{MailWords, words_of};
+use crate::{Post, Stop, StoreCommand};
+use base_store::PurgedStore;
+use disk_io::Sink;
+use echo_links::LinkFile;
+use std::alloc::Global;
+
+/// `post --mail`: what a mail says, which is posted as `post` does it.
+#[derive(Drop)]
+pub struct PostMail<'w> {
+    pub letter: Letter,
+    pub asked: MailWords<'w>,
+}
+
+impl<'w> PostMail<'w> {
+    /// Reads the mail. One that is refused is so before a base is opened.
+    pub fn read(
+        alloc: Global,
+        mail: &[u8],
+        asked: MailWords<'w>,
+    ) -> Result<PostMail<'w>, LetterFault>
+        ensures { ReadsMail asked.entry mail.now result }
+    {
+        let letter = letter_in(alloc, mail, asked.spare, asked.charset)?;
+        Ok(PostMail { letter, asked })
+    }
+}
+
+impl<'a> StoreCommand<'a> for PostMail<'_> {
+    type Answer = ();
+
+    ghost answers = { λ old new file base before after result. MailsOn old.letter old.asked (state_in file base) before after result };
+
+    ghost makes = { λ old new file base before after result. Mails file old.letter old.asked base };
+
+    ghost may = { λ self file. Mails file self.letter self.asked };
+
+    ghost commits_held = { λ self. false };
+
+    fn run<T: PurgedStore, W: Sink>(
+        &mut self,
+        alloc: Global,
+        links: &LinkFile,
+        store: &mut T,
+        out: &mut W,
+    ) -> Result<(), Stop<'a>> {
+        let mut post = Post {
+            words: words_of(&self.letter, self.asked),
+            free: self.asked.free,
+            body: self.letter.body.as_slice(),
+        };
+        post.run(alloc, links, store, out)
+    }
+}

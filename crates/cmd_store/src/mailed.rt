@@ -1,0 +1,33 @@
+//! The words with which a mail is posted.
+ghost use Rattle.cmd_store.specs.Mailed.{IsPosting};
+
+use crate::letter::{Letter, Spare};
+use cmd_report::NewMessage;
+use echo_charset::Charset;
+use model_steps::Stamp;
+
+/// The words of `post --mail`: those for what the mail lacks, the charset of the posting, the serial, whether a later
+/// free one will do, and the timestamp.
+#[derive(Clone, Copy, Debug)]
+pub struct MailWords<'a> {
+    pub spare: Spare<'a>,
+    pub charset: Charset,
+    pub serial: u32,
+    pub free: bool,
+    pub stamp: Stamp,
+}
+
+/// The words with which a letter is posted.
+pub(crate) fn words_of<'w>(letter: &'w Letter, asked: MailWords<'_>) -> NewMessage<'w>
+    ensures { IsPosting letter.now asked.entry result }
+{
+    NewMessage {
+        tag: letter.tag.as_slice(),
+        to_name: letter.to_name.as_slice(),
+        from_name: letter.from_name.as_slice(),
+        subject: letter.subject.as_slice(),
+        reply: letter.reply.as_slice(),
+        serial: asked.serial,
+        stamp: asked.stamp,
+    }
+}

@@ -1,0 +1,100 @@
+//! The command `post` on a store.
+ghost use Rattle.std.specs.Prelude.{false, IfErr, OnOk};
+ghost use Rattle.disk_io.specs.Disk.{Honestly};
+ghost use Rattle.base_file.specs.Base.{Base};
+ghost use Rattle.cmd_report.specs.Lines.{posted_line};
+ghost use Rattle.cmd_status.specs.Devices.{output_of};
+ghost use Rattle.base_store.specs.Store.{Commits, HasStoreCause, MayCommit};
+ghost use Rattle.echo_text.specs.Ids.{id_of};
+ghost use Rattle.echo_toss.specs.PacketsIn.{state_in};
+ghost use Rattle.cmd_store.specs.Answered.{CommitsNoneWhereMet, HasCommitted, LooksWhereMet, MayMake, PrintsAll};
+ghost use Rattle.cmd_store.specs.FreeSerial.{PostsAs, PostsAsOn};
+ghost use Rattle.cmd_store.specs.Stops.{store_answer};
+
+use crate::command::StoreCommand;
+use crate::leaving::leave;
+use crate::serials::file_as;
+use crate::stop::Stop;
+use base_store::{PurgedStore, Store};
+use cmd_report::{NewMessage, draft_of, push_posted};
+use disk_io::Sink;
+use echo_links::LinkFile;
+use std::alloc::Global;
+
+/// `post`: a message of these words and this body. With `free`, its serial is the first, from that of the words on, that no
+/// message of this system in the store has.
+#[derive(Clone, Copy, Debug)]
+pub struct Post<'w> {
+    pub words: NewMessage<'w>,
+    pub free: bool,
+    pub body: &'w [u8],
+}
+
+impl<'a> StoreCommand<'a> for Post<'_> {
+    type Answer = ();
+
+    ghost answers = { λ old new file base before after result. PostsAsOn old.free old.words (state_in file base) old.body.now before after result };
+
+    ghost makes = { λ old new file base before after result. PostsAs old.free file old.words old.body.now base };
+
+    ghost may = { λ self file. PostsAs self.free file self.words self.body.now };
+
+    ghost commits_held = { λ self. false };
+
+    fn run<T: PurgedStore, W: Sink>(
+        &mut self,
+        alloc: Global,
+        links: &LinkFile,
+        store: &mut T,
+        out: &mut W,
+    ) -> Result<(), Stop<'a>> {
+        post_as(alloc, self.free, self.words, links, store, self.body, out)
+    }
+}
+
+/// Files a message with this body in the store, prints its tag and its id, and commits. The lines of the body end in 0A or
+/// 0D 0A.
+pub(crate) fn post_as<'a, T: Store, W: Sink>(
+    alloc: Global,
+    free: bool,
+    words: NewMessage<'_>,
+    links: &LinkFile,
+    store: &mut T,
+    body: &[u8],
+    out: &mut W,
+) -> Result<(), Stop<'a>>
+    requires { (T.state store.old).is_ready }
+    ensures answers { Honestly (T.state store.new).disk ((base : Base) → (T.state store.old).keeps base
+        → PostsAsOn free words.entry (state_in links.now base) body.now (output_of W.contents W.failures W.holds out.old) (output_of W.contents W.failures W.holds out.new) result) }
+    ensures committed { Honestly (T.state store.new).disk ((base : Base) → (T.state store.old).keeps base
+        → OnOk result (HasCommitted (PostsAs free links.now words.entry body.now base) (T.state store.new))) }
+    ensures ready { OnOk result (T.state store.new).is_ready }
+    ensures met { IfErr result (CommitsNoneWhereMet (T.state store.old) (T.state store.new)) }
+    ensures crash { MayMake (PostsAs free links.now words.entry body.now) (T.state store.old) (T.state store.new) }
+    ensures cause { HasStoreCause (T.state store.old) (T.state store.new) (T.failures store.old) (T.failures store.new) (store_answer result) }
+{
+    let draft = draft_of(alloc, words, body)?;
+    let serial = file_as(alloc, free, words, links, store, &draft)?;
+    leave_posted(alloc, words.tag, serial, links, store, out)
+}
+
+// Prints the line of a message that was posted with this serial, and commits what the store holds.
+fn leave_posted<'a, T: Store, W: Sink>(
+    alloc: Global,
+    tag: &[u8],
+    serial: u32,
+    links: &LinkFile,
+    store: &mut T,
+    out: &mut W,
+) -> Result<(), Stop<'a>>
+    requires { (T.state store.old).is_ready }
+    ensures printed { PrintsAll (posted_line tag.now (id_of links.now.system serial)) (output_of W.contents W.failures W.holds out.old) (output_of W.contents W.failures W.holds out.new) result }
+    ensures committed { OnOk result (Commits (T.state store.old) (T.state store.new)) }
+    ensures met { IfErr result (LooksWhereMet (T.state store.old) (T.state store.new)) }
+    ensures either { MayCommit (T.state store.old) (T.state store.new) }
+    ensures cause { HasStoreCause (T.state store.old) (T.state store.new) (T.failures store.old) (T.failures store.new) (store_answer result) }
+{
+    let mut lines = Vec::new(alloc);
+    push_posted(alloc, &mut lines, tag, links.system(), serial)?;
+    leave(&mut lines, store, out)
+}

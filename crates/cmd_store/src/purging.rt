@@ -1,0 +1,67 @@
+//! The command `purge` on a store.
+ghost use Rattle.std.specs.Prelude.{true, IfErr, OnOk};
+ghost use Rattle.disk_io.specs.Disk.{Honestly};
+ghost use Rattle.base_file.specs.Base.{Base};
+ghost use Rattle.cmd_status.specs.Devices.{output_of};
+ghost use Rattle.base_store.specs.Store.{HasStoreCause};
+ghost use Rattle.cmd_store.specs.Answered.{HasCommitted, MayCommitWhereMet, MayMake};
+ghost use Rattle.cmd_store.specs.Purged.{HoldsOrPurges, Purges, PurgesOn};
+ghost use Rattle.cmd_store.specs.Stops.{store_answer};
+
+use crate::command::StoreCommand;
+use crate::leaving::leave;
+use crate::stop::Stop;
+use base_store::PurgedStore;
+use cmd_report::push_purged;
+use disk_io::Sink;
+use echo_links::LinkFile;
+use std::alloc::Global;
+
+/// `purge`.
+#[derive(Clone, Copy, Debug)]
+pub struct Purge;
+
+impl<'a> StoreCommand<'a> for Purge {
+    type Answer = ();
+
+    ghost answers = { λ old new file base before after result. PurgesOn base before after result };
+
+    ghost makes = { λ old new file base before after result. Purges base };
+
+    ghost may = { λ self file. HoldsOrPurges };
+
+    ghost commits_held = { λ self. true };
+
+    fn run<T: PurgedStore, W: Sink>(
+        &mut self,
+        alloc: Global,
+        _links: &LinkFile,
+        store: &mut T,
+        out: &mut W,
+    ) -> Result<(), Stop<'a>> {
+        purge_on(alloc, store, out)
+    }
+}
+
+// `purge`: leaves of each scanned message with an id nothing of its text but the id, prints how many messages changed, and
+// commits.
+fn purge_on<'a, T: PurgedStore, W: Sink>(
+    alloc: Global,
+    store: &mut T,
+    out: &mut W,
+) -> Result<(), Stop<'a>>
+    requires { (T.state store.old).is_ready }
+    ensures answers { Honestly (T.state store.new).disk ((base : Base) → (T.state store.old).keeps base
+        → PurgesOn base (output_of W.contents W.failures W.holds out.old) (output_of W.contents W.failures W.holds out.new) result) }
+    ensures committed { Honestly (T.state store.new).disk ((base : Base) → (T.state store.old).keeps base
+        → OnOk result (HasCommitted (Purges base) (T.state store.new))) }
+    ensures ready { OnOk result (T.state store.new).is_ready }
+    ensures met { IfErr result (MayCommitWhereMet (T.state store.old) (T.state store.new)) }
+    ensures crash { MayMake HoldsOrPurges (T.state store.old) (T.state store.new) }
+    ensures cause { HasStoreCause (T.state store.old) (T.state store.new) (T.failures store.old) (T.failures store.new) (store_answer result) }
+{
+    let count = store.purge()?;
+    let mut lines = Vec::new(alloc);
+    push_purged(&mut lines, count)?;
+    leave(&mut lines, store, out)
+}

@@ -1,0 +1,78 @@
+//! The serial with which a message is posted.
+ghost use Rattle.std.specs.Prelude.{◌≡◌, ◌↔◌, true, IfErr, IsTrue, OnOk};
+ghost use Rattle.disk_io.specs.Disk.{Honestly};
+ghost use Rattle.base_file.specs.Base.{Base};
+ghost use Rattle.model_steps.specs.declared.fault.PostFault.TheVariants.{KnownSerial};
+ghost use Rattle.base_store.specs.Store.{CommitsNothing, GoesOn, HasStoreCause};
+ghost use Rattle.echo_toss.specs.declared.stop.PostStop.TheVariants.{Refused};
+ghost use Rattle.echo_toss.specs.Stores.{LooksWhereRefused, post_answer};
+ghost use Rattle.cmd_store.specs.FreeSerial.{FilesAs};
+
+use base_store::Store;
+use cmd_report::NewMessage;
+use echo_links::LinkFile;
+use echo_toss::{PostStop, post_in};
+use model_steps::{Draft, PostFault};
+use std::alloc::Global;
+
+/// Files a message with the serial of its words. With `free`, it is filed with the first, from that on, that no message of
+/// this system in the store has. After the greatest serial comes 0.
+pub(crate) fn file_as<T: Store>(
+    alloc: Global,
+    free: bool,
+    words: NewMessage<'_>,
+    links: &LinkFile,
+    store: &mut T,
+    draft: &Draft,
+) -> Result<u32, PostStop>
+    requires { (T.state store.old).is_ready }
+    ensures filed { Honestly (T.state store.new).disk ((base : Base) → (T.state store.old).keeps base
+        → FilesAs free links.now base words.entry draft.now result (T.state store.new)) }
+    ensures looks { IfErr result (LooksWhereRefused (T.state store.old) (T.state store.new)) }
+    ensures goes_on { OnOk result (GoesOn (T.state store.old) (T.state store.new)) }
+    ensures commits { CommitsNothing (T.state store.old) (T.state store.new) }
+    ensures cause { HasStoreCause (T.state store.old) (T.state store.new) (T.failures store.old) (T.failures store.new) (post_answer result) }
+{
+    if free {
+        return file_free(alloc, words, links, store, draft);
+    }
+    let (tag, serial, stamp) = (words.tag, words.serial, words.stamp);
+    post_in(alloc, links, store, tag, draft, serial, stamp)?;
+    Ok(serial)
+}
+
+// Files a message with the first serial from that of its words on that is free. Looks once for each that is taken.
+fn file_free<T: Store>(
+    alloc: Global,
+    words: NewMessage<'_>,
+    links: &LinkFile,
+    store: &mut T,
+    draft: &Draft,
+) -> Result<u32, PostStop>
+    requires { (T.state store.old).is_ready }
+    ensures filed { Honestly (T.state store.new).disk ((base : Base) → (T.state store.old).keeps base
+        → FilesAs true links.now base words.entry draft.now result (T.state store.new)) }
+    ensures looks { IfErr result (LooksWhereRefused (T.state store.old) (T.state store.new)) }
+    ensures goes_on { OnOk result (GoesOn (T.state store.old) (T.state store.new)) }
+    ensures commits { CommitsNothing (T.state store.old) (T.state store.new) }
+    ensures cause { HasStoreCause (T.state store.old) (T.state store.new) (T.failures store.old) (T.failures store.new) (post_answer result) }
+{
+    let (tag, start, stamp) = (words.tag, words.serial, words.stamp);
+    let mut serial = start;
+    'serials: for _steps in 0..u32::MAX {
+        match post_in(alloc, links, store, tag, draft, serial, stamp) {
+            Ok(()) => return Ok(serial),
+            Err(stop) if !is_of_serial(stop) => return Err(stop),
+            Err(_) => serial = serial.wrapping_add(1),
+        }
+    }
+    post_in(alloc, links, store, tag, draft, serial, stamp)?;
+    Ok(serial)
+}
+
+// Whether the serial is known.
+fn is_of_serial(stop: PostStop) -> bool
+    ensures { IsTrue result ↔ (stop ≡ Refused KnownSerial) }
+{
+    matches!(stop, PostStop::Refused(PostFault::KnownSerial))
+}

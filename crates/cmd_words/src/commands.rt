@@ -1,0 +1,528 @@
+//! The commands, as a table: what each takes, and its help.
+
+use clap::{Arg, ArgAction, Command};
+use std::alloc::{AllocError, Global};
+
+// How the help of a command ends: with an example, and with its statuses, of which 1 has this line.
+macro_rules! ending_with {
+    ($example:literal, $differs:literal) => {
+        concat!("Example:\n  ", $example, "\n\nExit status:\n  0  good\n", $differs, "  2  an input was refused\n  3  a device failed, or memory ran out\n  4  the command line was refused")
+    };
+}
+
+// The same of a command that never has the status 1.
+macro_rules! ending {
+    ($example:literal) => {
+        ending_with!($example, "")
+    };
+}
+
+// The same of a command that prints a verdict.
+macro_rules! judging {
+    ($example:literal) => {
+        ending_with!($example, "  1  the verdict is no\n")
+    };
+}
+
+/// How a word is given.
+#[derive(Clone, Copy)]
+enum Form {
+    /// `--NAME`
+    Flag,
+    /// the same, where this option does not stand
+    FlagUnless(&'static str),
+    /// the same, where none of these options stands
+    FlagUnlessAny(&'static [&'static str]),
+    /// `--NAME VALUE`, or nothing
+    Option(&'static str),
+    /// the same, which wants the first of these options and takes the place of the others
+    OptionWith(&'static str, &'static str, &'static [&'static str]),
+    /// `--NAME VALUE`, nothing or more than once
+    Repeated(&'static str),
+    /// the same, where this option does not stand
+    RepeatedUnless(&'static str, &'static str),
+    /// `--NAME VALUE`
+    Needed(&'static str),
+    /// the same, or nothing where one of these options stands
+    NeededUnless(&'static str, &'static [&'static str]),
+    /// `NAME`
+    One,
+    /// `NAME`, or nothing where both options stand
+    OneUnless(&'static str, &'static str),
+    /// `NAME...`, one or more, or in its place this option
+    ManyUnless(&'static str),
+    /// the same, or nothing where the second option stands, with which the word before it is one of these
+    RestUnless(&'static str, &'static str),
+}
+
+/// A word that a command takes: its name, how it is given, and its help.
+#[derive(Clone, Copy)]
+struct Word(&'static str, Form, &'static str);
+
+/// A command: its name, what it does, how its help ends, and its words.
+#[derive(Clone, Copy)]
+pub(crate) struct Entry(&'static str, &'static str, &'static str, &'static [Word]);
+
+// The usage lines of `check`, of which the second has no TAG.
+const CHECK_USAGE: &str =
+    "echonet check [OPTIONS] <TAG> <LINKS>...\n       echonet check [OPTIONS] --all <LINKS>...";
+
+/// How the help of the program ends.
+pub(crate) const PROGRAM_ENDING: &str = ending_with!(
+    "echonet show mail.pkt",
+    "  1  the verdict is no, or a checksum differs from the stated one\n"
+);
+
+const AREA: &str = "The area, in letters of either case";
+
+const TAG: Word = Word("TAG", Form::One, AREA);
+
+const NET: &str = "The link file of each system of the net";
+
+/// The link files of a net, as words or as a list.
+const ALL_LINKS: Word = Word("LINKS", Form::ManyUnless("links-from"), NET);
+
+const LINKS_FROM: Word = Word(
+    "links-from",
+    Form::Option("FILE"),
+    "The link files stand in this file, or - for standard input: one a line, or each ended by 00",
+);
+
+const ASSUME: &str =
+    "Judges this system without a file of its own: it links with just those who list it; more than once";
+
+const LINKS: Word = Word("LINKS", Form::One, "The link file of the system");
+
+const BASE: Word = Word(
+    "BASE",
+    Form::One,
+    "The base of the system: a file, which need not exist yet, or a folder",
+);
+
+const SERIAL: Word = Word(
+    "serial",
+    Form::Needed("HEX8"),
+    "The serial of its MSGID, new for each message, or auto",
+);
+
+const AT: Word = Word(
+    "at",
+    Form::Needed("STAMP"),
+    "The moment, as YYYY-MM-DDThh:mm:ss, or now (UTC), or local (in the system's time zone)",
+);
+
+/// The commands that look at packets, lists and nets.
+pub(crate) const LOOKING: &[Entry] = &[
+    Entry(
+        "show",
+        "Prints a packet",
+        ending!("echonet show --hex - < packet.txt"),
+        &[
+            Word(
+                "hex",
+                Form::Flag,
+                "The packet is written in hexadecimal digits",
+            ),
+            Word("text", Form::Flag, "Prints the lines of each text, too"),
+            Word(
+                "PACKET",
+                Form::One,
+                "The packet's file, or - for standard input",
+            ),
+        ],
+    ),
+    Entry(
+        "nodelist",
+        "Prints the systems of a nodelist",
+        ending_with!(
+            "echonet nodelist --find 1:10/101 NODELIST.184",
+            "  1  a checksum differs from the stated one\n"
+        ),
+        &[
+            Word(
+                "find",
+                Form::Option("ADDRESS"),
+                "Prints the first line with this address alone",
+            ),
+            Word("FILE", Form::One, "The nodelist"),
+        ],
+    ),
+    Entry(
+        "links",
+        "Prints what is wrong with link files, or how many areas and links each has",
+        ending!("echonet links --areas links/*"),
+        &[
+            Word(
+                "areas",
+                Form::Flag,
+                "Prints how many links each area has, too",
+            ),
+            LINKS_FROM,
+            Word("LINKS", Form::ManyUnless("links-from"), "The link files"),
+        ],
+    ),
+    Entry(
+        "check",
+        "Prints whether an area is in order, or what is wrong with it",
+        judging!("echonet check --nodelist NODELIST.184 TEST links/*"),
+        &[
+            Word(
+                "nodelist",
+                Form::Option("LIST"),
+                "Prints which systems of the area this nodelist does not hold",
+            ),
+            Word(
+                "all",
+                Form::Flag,
+                "Each area that a file has, in place of TAG",
+            ),
+            Word("assume", Form::RepeatedUnless("ADDRESS", "all"), ASSUME),
+            LINKS_FROM,
+            Word("TAG", Form::OneUnless("all", "links-from"), AREA),
+            Word("LINKS", Form::RestUnless("links-from", "all"), NET),
+        ],
+    ),
+    Entry(
+        "why",
+        "Prints a run in which an area that is not in order goes wrong, as a script for replay",
+        judging!("echonet why TEST links/* > wrong.script"),
+        &[
+            Word("assume", Form::Repeated("ADDRESS"), ASSUME),
+            LINKS_FROM,
+            TAG,
+            ALL_LINKS,
+        ],
+    ),
+    Entry(
+        "picture",
+        "Prints an area as a graph that Graphviz draws, with what is wrong marked",
+        judging!("echonet picture TEST links/* | dot -Tsvg > area.svg"),
+        &[
+            Word(
+                "why",
+                Form::Flag,
+                "Labels links with the events of why that send what goes wrong over them",
+            ),
+            Word("assume", Form::Repeated("ADDRESS"), ASSUME),
+            LINKS_FROM,
+            TAG,
+            ALL_LINKS,
+        ],
+    ),
+];
+
+/// The commands that change a base.
+pub(crate) const CHANGING: &[Entry] = &[
+    Entry(
+        "post",
+        "Files a message, whose body is standard input",
+        ending!(
+            "echonet post --area TEST --to All --from Ann --subject Hi --serial auto --at now links base < body"
+        ),
+        &[
+            Word(
+                "mail",
+                Form::Flag,
+                "Standard input is a mail message, and the words stand for what it lacks",
+            ),
+            Word(
+                "charset",
+                Form::OptionWith("C", "mail", &[]),
+                "The charset in which the mail is posted, CP437 without this word",
+            ),
+            Word("area", Form::NeededUnless("TAG", &["mail"]), AREA),
+            Word(
+                "to",
+                Form::NeededUnless("T", &["mail", "msg"]),
+                "To whom the message is",
+            ),
+            Word(
+                "from",
+                Form::NeededUnless("F", &["mail", "msg"]),
+                "From whom the message is",
+            ),
+            Word(
+                "subject",
+                Form::NeededUnless("S", &["mail", "msg"]),
+                "The subject",
+            ),
+            SERIAL,
+            AT,
+            Word(
+                "reply",
+                Form::Option("ID"),
+                "The MSGID of the message that is replied to",
+            ),
+            Word(
+                "msg",
+                Form::OptionWith("FILE", "area", &["mail", "to", "from", "subject", "reply"]),
+                "Takes names, subject, reply and body from this stored message, Local and not Sent",
+            ),
+            LINKS,
+            BASE,
+        ],
+    ),
+    Entry(
+        "reply",
+        "Files an answer to a message of the base, whose body is standard input",
+        ending!("echonet reply --from Cid --serial auto --at now 0 links base < body"),
+        &[
+            Word("from", Form::Needed("F"), "From whom the answer is"),
+            SERIAL,
+            AT,
+            Word(
+                "I",
+                Form::One,
+                "The number of the message that is answered, counted from 0",
+            ),
+            LINKS,
+            BASE,
+        ],
+    ),
+    Entry(
+        "toss",
+        "Files the messages of packets",
+        ending!("echonet toss links base inbound/*.pkt"),
+        &[
+            Word(
+                "each",
+                Form::Flag,
+                "Prints a line for each message that is not filed, before the line of its packet",
+            ),
+            Word(
+                "packets-from",
+                Form::Option("FILE"),
+                "The packet files stand in this file, or - for standard input: one a line, or each ended by 00",
+            ),
+            Word(
+                "text-limit",
+                Form::Option("N"),
+                "How many bytes a text in a packet may have, at most 16777216",
+            ),
+            LINKS,
+            BASE,
+            Word(
+                "PACKET",
+                Form::ManyUnless("packets-from"),
+                "The packet files, in order",
+            ),
+        ],
+    ),
+    Entry(
+        "scan",
+        "Makes the packets of the messages that wait",
+        ending!("echonet scan --at now links base outbound"),
+        &[
+            AT,
+            LINKS,
+            BASE,
+            Word("DIR", Form::One, "The folder of the packets"),
+        ],
+    ),
+    Entry(
+        "purge",
+        "Leaves of each scanned message nothing of its text but the id",
+        ending!("echonet purge links base"),
+        &[LINKS, BASE],
+    ),
+];
+
+/// The commands that read a base, or none.
+pub(crate) const READING: &[Entry] = &[
+    Entry(
+        "list",
+        "Prints the messages of a base, and which of them wait",
+        ending!("echonet list --area TEST base"),
+        &[
+            Word("short", Form::Flag, "Prints one line for each message"),
+            Word(
+                "areas",
+                Form::FlagUnlessAny(&["short", "area", "from"]),
+                "Prints one line for each area",
+            ),
+            Word(
+                "area",
+                Form::Option("TAG"),
+                "Prints the messages of this area alone, in letters of either case",
+            ),
+            Word(
+                "from",
+                Form::Option("I"),
+                "Prints from the message of this number on, counted from 0",
+            ),
+            Word("BASE", Form::One, "The base of the system"),
+        ],
+    ),
+    Entry(
+        "export",
+        "Prints the messages of a base for other programs: mail programs, or those that read JSON",
+        ending!("echonet export --area TEST base > test.mbox"),
+        &[
+            Word(
+                "area",
+                Form::Option("TAG"),
+                "Prints the messages of this area alone, in letters of either case",
+            ),
+            Word(
+                "from",
+                Form::Option("I"),
+                "Prints from the message of this number on, counted from 0",
+            ),
+            Word(
+                "mbox",
+                Form::FlagUnless("json"),
+                "Prints a mailbox, as it does without this word, too",
+            ),
+            Word(
+                "json",
+                Form::FlagUnless("mbox"),
+                "Prints a line of JSON for each message",
+            ),
+            Word(
+                "purged",
+                Form::Flag,
+                "Prints what is left of purged messages, too",
+            ),
+            Word(
+                "msg",
+                Form::OptionWith("DIR", "area", &["mbox", "json", "purged"]),
+                "Adds each message to this folder as a stored message, N.msg, for the readers of the field",
+            ),
+            Word(
+                "jam",
+                Form::OptionWith("PATH", "area", &["mbox", "json", "purged", "msg"]),
+                "Adds each message to this JAM base, PATH.jhr and so on, which is made where there is none",
+            ),
+            Word("BASE", Form::One, "The base of the system"),
+        ],
+    ),
+    Entry(
+        "resend",
+        "Makes a packet that was lost again, of scanned messages of an area for one link",
+        ending!("echonet resend --area TEST --to 1:10/2 --at now links base outbound"),
+        &[
+            Word("area", Form::Needed("TAG"), AREA),
+            Word(
+                "to",
+                Form::Needed("ADDRESS"),
+                "The link that the packet is for",
+            ),
+            Word(
+                "from",
+                Form::Option("I"),
+                "Begins with the message of this number, counted from 0",
+            ),
+            AT,
+            LINKS,
+            BASE,
+            Word("DIR", Form::One, "The folder of the packets"),
+        ],
+    ),
+    Entry(
+        "convert",
+        "Makes a base file of a base folder, or a base folder of a base file",
+        ending!("mkdir new && echonet convert base new"),
+        &[
+            Word("FROM", Form::One, "The base that is read"),
+            Word(
+                "TO",
+                Form::One,
+                "The base that is made: a folder that is there and empty, or a file that is not there",
+            ),
+        ],
+    ),
+    Entry(
+        "replay",
+        "Prints what the systems of a net have after what a script says",
+        ending!("echonet replay chain.script links/*"),
+        &[
+            Word(
+                "SCRIPT",
+                Form::One,
+                "What happens: a line each of POST, SCAN, DELIVER or PURGE",
+            ),
+            LINKS_FROM,
+            ALL_LINKS,
+        ],
+    ),
+];
+
+// The word, as the parser has it.
+fn argument<'a>(alloc: Global, word: Word) -> Result<Arg<'a>, AllocError> {
+    let Word(name, form, help) = word;
+    let arg = Arg::new(alloc, name).help(help);
+    match form {
+        Form::Flag => Ok(flag(arg, name)),
+        Form::FlagUnless(other) => flag(arg, name).conflicts_with(other),
+        Form::FlagUnlessAny(others) => flag(arg, name).conflicts_with_all(others),
+        Form::Option(value) => Ok(arg.long(name).value_name(value)),
+        Form::OptionWith(value, needed, others) => {
+            option_with(arg.long(name).value_name(value), needed, others)
+        }
+        Form::Repeated(value) => Ok(repeated(arg, name, value)),
+        Form::RepeatedUnless(value, other) => repeated(arg, name, value).conflicts_with(other),
+        Form::Needed(value) => Ok(arg.long(name).value_name(value).required(true)),
+        Form::NeededUnless(value, others) => {
+            let option = arg.long(name).value_name(value);
+            option.required_unless_present_any(others)
+        }
+        Form::One => Ok(arg.required(true)),
+        Form::OneUnless(one, other) => arg.required_unless_present_all(&[one, other]),
+        Form::ManyUnless(option) => many_unless(arg.num_args(1..), option),
+        Form::RestUnless(list, option) => rest_unless(arg.num_args(1..), list, option),
+    }
+}
+
+fn flag<'a>(arg: Arg<'a>, name: &'static str) -> Arg<'a> {
+    arg.long(name).action(ArgAction::SetTrue)
+}
+
+fn option_with<'a>(
+    option: Arg<'a>,
+    needed: &'static str,
+    others: &'static [&'static str],
+) -> Result<Arg<'a>, AllocError> {
+    option.requires_arg(needed)?.conflicts_with_all(others)
+}
+
+fn repeated<'a>(arg: Arg<'a>, name: &'static str, value: &'static str) -> Arg<'a> {
+    arg.long(name).value_name(value).action(ArgAction::Append)
+}
+
+fn many_unless<'a>(many: Arg<'a>, option: &'static str) -> Result<Arg<'a>, AllocError> {
+    many.required_unless_present(option)?.conflicts_with(option)
+}
+
+fn rest_unless<'a>(
+    rest: Arg<'a>,
+    list: &'static str,
+    option: &'static str,
+) -> Result<Arg<'a>, AllocError> {
+    let rest = rest.required_unless_present(list)?;
+    rest.required_unless_present(option)?.conflicts_with(list)
+}
+
+/// The command, as the parser has it.
+pub(crate) fn subcommand<'a>(alloc: Global, entry: Entry) -> Result<Command<'a>, AllocError> {
+    let Entry(name, about, ending, words) = entry;
+    let mut command = described(alloc, name, about, ending);
+    for word in words {
+        command = command.arg(argument(alloc, *word)?)?;
+    }
+    Ok(command)
+}
+
+// It without its words.
+fn described<'a>(
+    alloc: Global,
+    name: &'static str,
+    about: &'static str,
+    ending: &'static str,
+) -> Command<'a> {
+    let command = Command::new(alloc, name).about(about).after_help(ending);
+    if name == "check" {
+        command.override_usage(CHECK_USAGE)
+    } else {
+        command
+    }
+}

@@ -1,0 +1,98 @@
+-- How runs that change some files go on.
+use Rattle.std.proofs.Common.{◌≡◌, inl, ◌∙◌, List, ℕ, Option, Some, refl, sym, subst}
+use Rattle.disk_io.specs.Disk.{DiskState, Files}
+use Rattle.disk_io.specs.Steps.{ChangesFile, SameBeside}
+use Rattle.disk_io.specs.Runs.{ChangesNothing, Elapses, KeepsAlone, KeepsFlushed, KeepsNamed, LeavesOnly, LeavesOneStepOn, OneStepOn}
+use Rattle.disk_io.proofs.Moments.{left_now, no_call, one_call, then_run, weaker_run}
+use Rattle.disk_atomic.specs.Changes.{ChangesOnly, DifferAt, HasOnDisk}
+
+-- ---- runs whose moments are steps from the state before them
+
+-- one run after another: each outcome of the second is a step from one that the first has at its end
+pub then_steps : (d0 d1 d2 : DiskState) (R Q P : Files → Files → Type 0) → LeavesOnly d0 d1 (OneStepOn R d0) → LeavesOnly d1 d2 (OneStepOn Q d1)
+    → ((a b : Files) → R a b → P a b) → ((a b c : Files) → d0.may_leave a → d1.may_leave b → R a b → Q b c → P a c) → LeavesOnly d0 d2 (OneStepOn P d0)
+then_steps d0 d1 d2 R Q P first second one both =
+    then_run d0 d1 d2 (OneStepOn P d0) (OneStepOn Q d1)
+    (weaker_run d0 d1 (OneStepOn R d0) (OneStepOn P d0) first (λ c step. (step.0, step.1, one step.0 c step.2)))
+    second
+    (λ c step. let from = left_now d0 d1 (OneStepOn R d0) first step.0 step.1 in (from.0, from.1, both from.0 step.0 c from.1 step.1 from.2 step.2))
+
+pub weaker_steps : (d0 d1 : DiskState) (R P : Files → Files → Type 0) → LeavesOnly d0 d1 (OneStepOn R d0) → ((a b : Files) → R a b → P a b) → LeavesOnly d0 d1 (OneStepOn P d0)
+weaker_steps d0 d1 R P run gives = weaker_run d0 d1 (OneStepOn R d0) (OneStepOn P d0) run (λ c step. (step.0, step.1, gives step.0 c step.2))
+
+-- ---- runs that change only some paths
+
+module _ (paths : List ℕ → Type 0) where
+  pub only_nothing : (old new : DiskState) → ChangesNothing old new → ChangesOnly paths old new
+  only_nothing old new quiet = record {
+    seen = λ m other. quiet.seen m;
+    named = λ m other. quiet.named m (λ h. h);
+    flushed = λ m other. quiet.flushed m (λ h. h);
+    alone = λ m other. quiet.alone m (λ h. h);
+    honest = quiet.honest;
+    any_moment = weaker_run old new old.may_leave (OneStepOn (DifferAt paths) old) quiet.run (λ c left. (c, left, λ m other. refl));
+  }
+
+  -- a run of no call
+  pub only_start : (disk : DiskState) → ChangesOnly paths disk disk
+  only_start disk = record {
+    seen = λ m other. refl;
+    named = λ m other is. is;
+    flushed = λ m other is. is;
+    alone = λ m other is. is;
+    honest = λ is. is;
+    any_moment = no_call disk (OneStepOn (DifferAt paths) disk) (λ c left. (c, left, λ m other. refl));
+  }
+
+  -- a call at one path, which is on the disk
+  pub only_call : (old new : DiskState) (x : List ℕ) (step : Option (List ℕ) → Option (List ℕ) → Type 0) → paths x → old.is_named x
+      → SameBeside x old.seen new.seen → LeavesOneStepOn (ChangesFile old x step) old new → KeepsNamed paths old new → KeepsFlushed paths old new → KeepsAlone paths old new
+      → Elapses old new → ChangesOnly paths old new
+  only_call old new x step is on beside crash named flushed alone time =
+      let not : (m : List ℕ) → (paths m → ⊥) → m ≡ x → ⊥ = λ m other e. other (subst paths (sym e) is) in
+      record {
+        seen = λ m other. beside m (not m other);
+        named = named;
+        flushed = flushed;
+        alone = alone;
+        honest = time.honest;
+        any_moment = one_call old new (DifferAt paths) (λ c m other. refl) time (λ c left.
+            let from = crash c left in (from.0, from.1, λ m other. from.2.beside m (not m other) (inl on)));
+      }
+
+  pub then_only : (d0 d1 d2 : DiskState) → ChangesOnly paths d0 d1 → ChangesOnly paths d1 d2 → ChangesOnly paths d0 d2
+  then_only d0 d1 d2 first second =
+      let differ = DifferAt paths in
+      record {
+        seen = λ m other. second.seen m other ∙ first.seen m other;
+        named = λ m other is. second.named m other (first.named m other is);
+        flushed = λ m other is. second.flushed m other (first.flushed m other is);
+        alone = λ m other is. second.alone m other (first.alone m other is);
+        honest = λ is. first.honest (second.honest is);
+        any_moment = then_steps d0 d1 d2 differ differ differ first.any_moment second.any_moment (λ a b r. r) (λ a b c at left r q m other. q m other ∙ r m other);
+      }
+
+  -- what they do not change stays on the disk
+  pub stays_on_disk : (old new : DiskState) (m bytes : List ℕ) → ChangesOnly paths old new → (paths m → ⊥) → HasOnDisk old m bytes → HasOnDisk new m bytes
+  stays_on_disk old new m bytes run other was = record {
+    seen = run.seen m other ∙ was.seen;
+    named = run.named m other was.named;
+    flushed = run.flushed m other was.flushed;
+  }
+
+-- more paths
+pub wider : (few many : List ℕ → Type 0) (old new : DiskState) → ((m : List ℕ) → few m → many m) → ChangesOnly few old new → ChangesOnly many old new
+wider few many old new more run =
+    let not : (m : List ℕ) → (many m → ⊥) → few m → ⊥ = λ m other is. other (more m is) in
+    record {
+      seen = λ m other. run.seen m (not m other);
+      named = λ m other. run.named m (not m other);
+      flushed = λ m other. run.flushed m (not m other);
+      alone = λ m other. run.alone m (not m other);
+      honest = run.honest;
+      any_moment = weaker_steps old new (DifferAt few) (DifferAt many) run.any_moment (λ a b r m other. r m (not m other));
+    }
+
+-- what a crash leaves of a file that is on the disk
+pub left_there : (disk : DiskState) (path bytes : List ℕ) → HasOnDisk disk path bytes → (c : Files) → disk.may_leave c → c path ≡ Some bytes
+left_there disk path bytes on c left = disk.on_disk path on.named on.flushed c left ∙ on.seen

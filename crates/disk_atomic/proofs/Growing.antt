@@ -1,0 +1,57 @@
+-- A file that grows at its end.
+use Rattle.std.proofs.Common.{◌≡◌, ◌∙◌, ℕ, zero, suc, ◌+◌, ◌<◌, List, [], ◌∷◌, ◌++◌, length, take, drop, Some, ap, sym, subst, arith, append_assoc, length-append}
+use Rattle.std.proofs.lemmas.List.{append-nil, drop_all, nil_from_length, take_all}
+use Rattle.std.specs.Prelude.{IsSome, slice_index}
+use Rattle.disk_io.specs.Disk.{DiskState, bytes_in}
+use Rattle.disk_io.specs.Fixed.{AreBytes}
+use Rattle.disk_io.specs.Steps.{IsWrittenAt}
+use Rattle.disk_atomic.specs.Changes.{IsGrowing}
+use Rattle.disk_atomic.proofs.Whole.{some_is_there}
+
+-- bytes behind bytes
+pub are_both : (a b : List ℕ) → AreBytes a → AreBytes b → (i : ℕ) → slice_index (a ++ b) i < 256
+are_both [] b one two i = two i
+are_both (x ∷ a) b one two zero = one zero
+are_both (x ∷ a) b one two (suc i) = are_both a b (λ k. one (suc k)) two i
+
+-- a write at the end
+pub written_behind : (old new bytes : List ℕ) (at : ℕ) → length old ≡ at → IsWrittenAt old at bytes new → new ≡ old ++ bytes
+written_behind old new bytes at long written =
+    let front : take at old ≡ old = take_all at old (omega (arith, long)) in
+    let behind : drop (at + length bytes) old ≡ [] = drop_all (at + length bytes) old (omega (arith, long)) in
+    written ∙ (λ k. (front k ++ bytes) ++ behind k) ∙ append-nil (old ++ bytes)
+
+-- what the file has after one
+pub grown : (old new : DiskState) (path bytes : List ℕ) (at end : ℕ) → IsGrowing old path at → bytes_in (new.seen path) ≡ bytes_in (old.seen path) ++ bytes → end ≡ at + length bytes
+    → AreBytes bytes → IsSome (new.seen path) → new.is_named path → new.is_alone path → IsGrowing new path end
+grown old new path bytes at end was more long are there named alone = record {
+  there = there;
+  long = omega (arith, ap length more, length-append (bytes_in (old.seen path)) bytes, was.long, long);
+  bytes = subst AreBytes (sym more) (are_both (bytes_in (old.seen path)) bytes was.bytes are);
+  named = named;
+  alone = alone;
+}
+
+-- a file of no bytes
+pub grows_from_none : (disk : DiskState) (path : List ℕ) → disk.seen path ≡ Some [] → disk.is_named path → disk.is_alone path → IsGrowing disk path 0
+grows_from_none disk path empty named alone =
+    let none : bytes_in (disk.seen path) ≡ [] = ap bytes_in empty in
+    record {
+      there = some_is_there (disk.seen path) [] empty;
+      long = ap length none;
+      bytes = λ i. subst (λ (l : List ℕ). slice_index l i < 256) (sym none) (omega arith);
+      named = named;
+      alone = alone;
+    }
+
+-- one message more
+pub one_behind : (file new piece longer left message : List ℕ) → longer ≡ piece ++ message → new ++ left ≡ file ++ longer → new ++ left ≡ file ++ piece ++ message
+one_behind file new piece longer left message is same =
+    same ∙ ap (λ (l : List ℕ). file ++ l) is ∙ sym (append_assoc file piece message)
+
+-- all that was written, from a file of no bytes on
+pub packet_written : (none file all piece header messages end whole : List ℕ) → length none ≡ 0 → file ++ piece ≡ none ++ header ++ messages → all ≡ file ++ (piece ++ end)
+    → header ++ (messages ++ end) ≡ whole → all ≡ whole
+packet_written none file all piece header messages end whole empty so_far more is =
+    let nil : none ≡ [] = nil_from_length none empty in
+    more ∙ sym (append_assoc file piece end) ∙ ap (λ (l : List ℕ). l ++ end) so_far ∙ (λ k. ((nil k ++ header) ++ messages) ++ end) ∙ append_assoc header messages end ∙ is

@@ -1,0 +1,89 @@
+use Rattle.std.proofs.Common.{◌≡◌, ◌⊎◌, inl, ◌∙◌, ℕ, List, refl, subst, sym}
+use Rattle.std.specs.Prelude.{IsSome}
+use Rattle.disk_io.specs.Disk.{Honestly}
+use Rattle.disk_io.specs.Steps.{TornRemoval}
+use Rattle.disk_io.specs.Runs.{LeavesOnly, OneStepOn}
+use Rattle.disk_atomic.specs.Changes.{ChangesOnly}
+use Rattle.disk_atomic.specs.Naming.{Gives, Names}
+use Rattle.disk_atomic.proofs.Changes.{only_call, then_only}
+use Rattle.disk_atomic.proofs.Named.{gives_quiet, moved_run}
+use Rattle.disk_atomic.proofs.naming.name_packet.Given as given
+use Rattle.disk_atomic.proofs.naming.name_packet.Goals.{After-remove, After-sync_folder_of}
+use Rattle.disk_atomic.proofs.naming.name_packet.Goals as goal
+
+pub remove-requires : goal.remove-requires
+remove-requires g c honest =
+    let gives = c.give_path.ensures.gives in
+    let quiet = c.sync_folder_of.ensures.quiet in
+    subst (λ f. IsSome f) (sym (quiet.seen c.args.beside.now ∙ gives.stays.seen)) (c.requires.there (gives.changes.honest (quiet.honest honest)))
+
+-- up to the flush of the folder
+flushed : (g : given.Over) (c : After-sync_folder_of g) → Gives (g.D.Disk.state c.args.disk.now) (g.D.Disk.state c.sync_folder_of.new.disk) c.args.path.now c.args.beside.now
+flushed g c =
+    gives_quiet (g.D.Disk.state c.args.disk.now) (g.D.Disk.state c.give_path.new.disk) (g.D.Disk.state c.sync_folder_of.new.disk) c.args.path.now c.args.beside.now c.give_path.ensures.gives c.sync_folder_of.ensures.quiet
+
+pub returns-in_err-sync_folder_of-clause-changes : goal.returns-in_err-sync_folder_of-clause-changes
+returns-in_err-sync_folder_of-clause-changes g c = (flushed g (goal.at.returns-in_err-sync_folder_of-clause-changes g c).After-sync_folder_of).changes
+
+pub returns-in_err-sync_folder_of-clause-any_moment : goal.returns-in_err-sync_folder_of-clause-any_moment
+returns-in_err-sync_folder_of-clause-any_moment g c honest = (flushed g (goal.at.returns-in_err-sync_folder_of-clause-any_moment g c).After-sync_folder_of).any_moment
+
+-- and up to the removal
+removed : (g : given.Over) (c : After-remove g) → ChangesOnly (λ m. (m ≡ c.args.beside.now) ⊎ (m ≡ c.args.path.now)) (g.D.Disk.state c.args.disk.now) (g.D.Disk.state c.remove.new.self)
+removed g c =
+    let beside = c.args.beside.now in
+    let both = λ (m : List ℕ). (m ≡ beside) ⊎ (m ≡ c.args.path.now) in
+    let d0 = g.D.Disk.state c.args.disk.now in
+    let d2 = g.D.Disk.state c.sync_folder_of.new.disk in
+    let d3 = g.D.Disk.state c.remove.new.self in
+    let now = c.remove.ensures in
+    then_only both d0 d2 d3 (gives_quiet (g.D.Disk.state c.args.disk.now) (g.D.Disk.state c.give_path.new.disk) (g.D.Disk.state c.sync_folder_of.new.disk) c.args.path.now c.args.beside.now c.give_path.ensures.gives c.sync_folder_of.ensures.quiet).changes
+    (only_call both d2 d3 beside TornRemoval (inl refl) (c.in_ok-sync_folder_of.ensures.durable beside c.requires.beside_in) now.beside now.crash
+    (λ m out. now.named m (λ e. out (inl e))) (λ m out. now.flushed m (λ e. out (inl e))) (λ m out. now.alone m (λ e. out (inl e))) now.time)
+
+moments : (g : given.Over) (c : After-remove g) → Honestly (g.D.Disk.state c.remove.new.self)
+    (LeavesOnly (g.D.Disk.state c.args.disk.now) (g.D.Disk.state c.remove.new.self) (OneStepOn (Names c.args.path.now c.args.beside.now) (g.D.Disk.state c.args.disk.now)))
+moments g c honest =
+    let path = c.args.path.now in
+    let beside = c.args.beside.now in
+    let now = c.remove.ensures in
+    let quiet = c.sync_folder_of.ensures.quiet in
+    let names = c.in_ok-sync_folder_of.ensures.durable in
+    let given = c.in_ok-given.ensures in
+    moved_run path beside c.requires.other (g.D.Disk.state c.args.disk.now) (g.D.Disk.state c.sync_folder_of.new.disk) (g.D.Disk.state c.remove.new.self)
+    (gives_quiet (g.D.Disk.state c.args.disk.now) (g.D.Disk.state c.give_path.new.disk) (g.D.Disk.state c.sync_folder_of.new.disk) c.args.path.now c.args.beside.now c.give_path.ensures.gives c.sync_folder_of.ensures.quiet).any_moment
+    c.requires.beside_named c.requires.durable (names beside c.requires.beside_in) (names path c.requires.path_in) (quiet.flushed path (λ h. h) (given.durable c.if-not-given.false))
+    (quiet.seen path ∙ given.given (quiet.honest (now.time.honest honest)) c.if-not-given.false) now.time now.crash
+
+pub returns-in_err-remove-clause-changes : goal.returns-in_err-remove-clause-changes
+returns-in_err-remove-clause-changes g c = removed g (goal.at.returns-in_err-remove-clause-changes g c).After-remove
+
+pub returns-in_err-remove-clause-any_moment : goal.returns-in_err-remove-clause-any_moment
+returns-in_err-remove-clause-any_moment g c = moments g (goal.at.returns-in_err-remove-clause-any_moment g c).After-remove
+
+pub returns-clause-changes : goal.returns-clause-changes
+returns-clause-changes g c = removed g (goal.at.returns-clause-changes g c).After-remove
+
+pub returns-clause-any_moment : goal.returns-clause-any_moment
+returns-clause-any_moment g c = moments g (goal.at.returns-clause-any_moment g c).After-remove
+
+pub returns-clause-named : goal.returns-clause-named
+returns-clause-named g c honest is =
+    let path = c.args.path.now in
+    let quiet = c.sync_folder_of.ensures.quiet in
+    let now = c.remove.ensures in
+    let given = c.in_ok-given.ensures in
+    let apart = λ (e : path ≡ c.args.beside.now). c.requires.other (sym e) in
+    record {
+      seen = now.beside path apart ∙ quiet.seen path ∙ given.given (quiet.honest (now.time.honest honest)) c.if-not-given.false;
+      gone = c.in_ok-remove.ensures.gone;
+      named = now.named path apart (c.in_ok-sync_folder_of.ensures.durable path c.requires.path_in);
+      flushed = now.flushed path apart (quiet.flushed path (λ h. h) (given.durable c.if-not-given.false));
+    }
+
+pub returns-clause-over_none : goal.returns-clause-over_none
+returns-clause-over_none g c honest some =
+    let path = c.args.path.now in
+    let quiet = c.sync_folder_of.ensures.quiet in
+    let now = c.remove.ensures in
+    now.beside path (λ e. c.requires.other (sym e)) ∙ quiet.seen path ∙ c.in_ok-given.ensures.over_none (quiet.honest (now.time.honest honest)) some

@@ -1,0 +1,90 @@
+use Rattle.std.proofs.Common.{◌≡◌, ◌<◌, ◌∙◌, get_or, false, inr, true, ⊎_elim, length, arith, subst}
+use Rattle.std.proofs.lemmas.Bool.{and_parts}
+use Rattle.disk_atomic.specs.Changes.{ChangesOnly}
+use Rattle.disk_atomic.specs.Naming.{HasItsPath, HasMoved, IsTaken, Names, NamesEach, StandsWhole, StaysThere}
+use Rattle.disk_io.specs.Runs.{LeavesOnly, OneStepOn}
+use Rattle.disk_atomic.specs.Outgoing.{AreApart, IsOfOne, IsStaged}
+use Rattle.disk_atomic.specs.declared.outgoing.Outgoing.{Outgoing}
+use Rattle.disk_atomic.proofs.Anchors.{anchor_stays, anchored_now, has_path, has_path_stays, IsAnchored, IsSameAt, same_stays, staged_stays, whole_now, whole_stays}
+use Rattle.disk_atomic.proofs.Changes.{then_only, then_steps}
+use Rattle.disk_atomic.proofs.Each.{ahead, among, behind, each, here}
+use Rattle.disk_atomic.proofs.Packets.{apart_back, AtBoth, of_one}
+use Rattle.disk_atomic.proofs.Whole.{none_is_not_there, one_false}
+use Rattle.disk_atomic.proofs.naming.name_packets.Goals as goal
+
+pub returns-in_err-all-clause-changes : goal.returns-in_err-all-clause-changes
+returns-in_err-all-clause-changes g c =
+    let packets = c.args.packets.now in
+    let i = c.packets.packet-index in
+    let lt : i < length packets = omega arith in
+    let d = g.D.Disk.state c.packets.disk in
+    let e = g.D.Disk.state c.name_packet.new.disk in
+    let z = c.packet-item.result in
+    then_only (IsOfOne packets) (g.D.Disk.state c.args.disk.now) d e c.packets.invariant.changes
+    (of_one packets (get_or packets i z) (among packets i z lt) d e (subst (λ (p : Outgoing). ChangesOnly (AtBoth p) d e) c.packet-item.is c.name_packet.ensures.changes))
+
+pub returns-in_err-all-clause-any_moment : goal.returns-in_err-all-clause-any_moment
+returns-in_err-all-clause-any_moment g c honest =
+    let packets = c.args.packets.now in
+    let pairs = c.requires.placed.apart in
+    let i = c.packets.packet-index in
+    let lt : i < length packets = omega arith in
+    let z = c.packet-item.result in
+    let x = get_or packets i z in
+    let is : z ≡ x = c.packet-item.is in
+    let inv = c.packets.invariant in
+    let d0 = g.D.Disk.state c.args.disk.now in
+    let d = g.D.Disk.state c.packets.disk in
+    let e = g.D.Disk.state c.name_packet.new.disk in
+    let moments = λ (honest : e.is_honest). subst (λ (p : Outgoing). LeavesOnly d e (OneStepOn (Names p.path.now p.beside.now) d)) is (c.name_packet.ensures.any_moment honest) in
+    let staged = here (IsStaged d) packets i z lt inv.staged in
+    let h1 = c.name_packet.ensures.changes.honest honest in
+    then_steps d0 d e (NamesEach packets) (Names x.path.now x.beside.now) (NamesEach packets) (inv.any_moment h1) (moments honest) (λ a b r. r)
+    (λ a b f at left r q. record {
+      others = λ m out. q.others m (λ o. out (x, among packets i z lt, o)) ∙ r.others m out;
+      whole = each AreApart apart_back packets pairs i z lt (IsAnchored d) (IsStaged d) (StandsWhole f) (λ y apart on. whole_stays x y apart d b f left q on) (λ y apart on. whole_stays x y apart d b f left q (inr on.file))
+          (whole_now x d e staged.file b f left q) (inv.anchored h1) inv.staged;
+    })
+
+pub packets-preserved : goal.packets-preserved
+packets-preserved g c =
+    let packets = c.args.packets.now in
+    let pairs = c.requires.placed.apart in
+    let i = c.packets.packet-index in
+    let lt : i < length packets = omega arith in
+    let z = c.packet-item.result in
+    let x = get_or packets i z in
+    let is : z ≡ x = c.packet-item.is in
+    let inv = c.packets.invariant in
+    let d0 = g.D.Disk.state c.args.disk.now in
+    let d = g.D.Disk.state c.packets.disk in
+    let e = g.D.Disk.state c.name_packet.new.disk in
+    let now = c.in_ok-all.ensures in
+    let one : ChangesOnly (AtBoth x) d e = subst (λ (p : Outgoing). ChangesOnly (AtBoth p) d e) is c.name_packet.ensures.changes in
+    let moved = λ (honest : e.is_honest). subst (λ (p : Outgoing). c.in_ok-all.field-0 ≡ true → HasMoved d e p.path.now p.beside.now) is (now.named honest) in
+    let stays = subst (λ (p : Outgoing). c.in_ok-all.field-0 ≡ false → StaysThere d e p.beside.now) is now.stays in
+    let taken = λ (honest : e.is_honest). subst (λ (p : Outgoing). c.in_ok-all.field-0 ≡ false → IsTaken d p.path.now p.beside.now) is (now.taken honest) in
+    let moments = λ (honest : e.is_honest). subst (λ (p : Outgoing). LeavesOnly d e (OneStepOn (Names p.path.now p.beside.now) d)) is (c.name_packet.ensures.any_moment honest) in
+    let staged = here (IsStaged d) packets i z lt inv.staged in
+    let was = here (IsSameAt d0 d) packets i z lt inv.same in
+    record {
+      changes = then_only (IsOfOne packets) d0 d e inv.changes (of_one packets x (among packets i z lt) d e one);
+      any_moment = λ honest.
+          let h1 = one.honest honest in
+          then_steps d0 d e (NamesEach packets) (Names x.path.now x.beside.now) (NamesEach packets) (inv.any_moment h1) (moments honest) (λ a b r. r)
+          (λ a b f at left r q. record {
+            others = λ m out. q.others m (λ o. out (x, among packets i z lt, o)) ∙ r.others m out;
+            whole = each AreApart apart_back packets pairs i z lt (IsAnchored d) (IsStaged d) (StandsWhole f) (λ y apart on. whole_stays x y apart d b f left q on) (λ y apart on. whole_stays x y apart d b f left q (inr on.file))
+                (whole_now x d e staged.file b f left q) (inv.anchored h1) inv.staged;
+          });
+      anchored = λ honest. behind AreApart apart_back packets pairs i z lt (IsAnchored d) (IsAnchored e) (λ y apart. anchor_stays x y apart d e one)
+          (anchored_now x d e staged.file c.in_ok-all.field-0 (moved honest) stays) (inv.anchored (one.honest honest));
+      staged = ahead AreApart apart_back packets pairs i z lt (IsStaged d) (IsStaged e) (λ y apart. staged_stays x y apart d e one) inv.staged;
+      same = ahead AreApart apart_back packets pairs i z lt (IsSameAt d0 d) (IsSameAt d0 e) (λ y apart. same_stays x y apart d e one d0) inv.same;
+      named = λ honest is.
+          let both = and_parts c.packets.all c.in_ok-all.field-0 is in
+          behind AreApart apart_back packets pairs i z lt (HasItsPath d) (HasItsPath e) (λ y apart. has_path_stays x y apart d e one) (has_path x d e staged.file (moved honest both.1)) (inv.named (one.honest honest) both.0);
+      taken = λ honest is free.
+          ⊎_elim (λ no. inv.taken (one.honest honest) no free) (λ no. none_is_not_there (d.seen x.path.now) (was ∙ free i z lt) (taken honest no).there) (one_false c.packets.all c.in_ok-all.field-0 is);
+      cause = omega (arith, c.name_packet.ensures.cause.later, inv.cause);
+    }

@@ -1,0 +1,40 @@
+use Rattle.std.proofs.Common.{◌≡◌, ◌∙◌, ℕ, List, length, refl}
+use Rattle.std.proofs.lemmas.Result.{on_ok_weaker}
+use Rattle.disk_io.specs.Steps.{TornWrite}
+use Rattle.disk_atomic.specs.Changes.{ChangesOnly}
+use Rattle.disk_atomic.proofs.Changes.{only_call, only_nothing, then_only}
+use Rattle.disk_atomic.proofs.Whole.{written_whole}
+use Rattle.disk_atomic.proofs.staging.fill_file.Given as given
+use Rattle.disk_atomic.proofs.staging.fill_file.Goals.{After-write_at}
+use Rattle.disk_atomic.proofs.staging.fill_file.Goals as goal
+
+written : (g : given.Over) (c : After-write_at g) → ChangesOnly (λ m. m ≡ c.args.path.now) (g.D.Disk.state c.args.disk.now) (g.D.Disk.state c.write_at.new.self)
+written g c =
+    let path = c.args.path.now in
+    let now = c.write_at.ensures in
+    only_call (λ (m : List ℕ). m ≡ path) (g.D.Disk.state c.args.disk.now) (g.D.Disk.state c.write_at.new.self) path (TornWrite 0 (length c.args.bytes.now)) refl c.requires.named
+    now.beside now.crash (λ m other. now.named m (λ h. h)) now.flushed (λ m other. now.alone m (λ h. h)) now.time
+
+pub returns-in_err-write_at-clause-changes : goal.returns-in_err-write_at-clause-changes
+returns-in_err-write_at-clause-changes g c = written g (goal.at.returns-in_err-write_at-clause-changes g c).After-write_at
+
+pub returns-clause-changes : goal.returns-clause-changes
+returns-clause-changes g c =
+    let at = λ (m : List ℕ). m ≡ c.args.path.now in
+    let d1 = g.D.Disk.state c.write_at.new.self in
+    let d2 = g.D.Disk.state c.sync.new.self in
+    then_only at (g.D.Disk.state c.args.disk.now) d1 d2 (written g (goal.at.returns-clause-changes g c).After-write_at) (only_nothing at d1 d2 c.sync.ensures.quiet)
+
+pub returns-clause-filled : goal.returns-clause-filled
+returns-clause-filled g c =
+    let path = c.args.path.now in
+    let d0 = g.D.Disk.state c.args.disk.now in
+    let d1 = g.D.Disk.state c.write_at.new.self in
+    let quiet = c.sync.ensures.quiet in
+    on_ok_weaker c.sync.result
+    (λ flushed. record {
+      seen = quiet.seen path ∙ written_whole (d0.seen path) (d1.seen path) c.args.bytes.now c.requires.empty c.write_at.ensures.there c.in_ok-write_at.ensures.written;
+      named = quiet.named path (λ h. h) (c.write_at.ensures.named path (λ h. h) c.requires.named);
+      flushed = flushed;
+    })
+    c.sync.ensures.durable

@@ -1,0 +1,73 @@
+use Rattle.std.proofs.Common.{◌≡◌, ◌∙◌, inr, refl, subst, sym}
+use Rattle.std.specs.Prelude.{IsSome}
+use Rattle.disk_io.specs.Steps.{TornRemoval}
+use Rattle.disk_atomic.specs.Trying.{Tries}
+use Rattle.disk_atomic.proofs.Changes.{only_call}
+use Rattle.disk_atomic.proofs.Tried.{tries_flushed, tries_linked, tries_only, tries_then}
+use Rattle.disk_atomic.proofs.trying.try_link.Given as given
+use Rattle.disk_atomic.proofs.trying.try_link.Goals.{After-remove}
+use Rattle.disk_atomic.proofs.trying.try_link.Goals as goal
+
+pub link_path-requires-clause-there : goal.link_path-requires-clause-there
+link_path-requires-clause-there g c honest =
+    let run = c.clear_path.ensures.changes in
+    subst (λ f. IsSome f) (sym (run.seen c.args.from.now c.requires.other)) (c.requires.there (run.honest honest))
+
+removed : (g : given.Over) (c : After-remove g) → Tries (g.D.Disk.state c.args.disk.now) (g.D.Disk.state c.remove.new.self) c.args.trial.now c.args.from.now
+removed g c =
+    let trial = c.args.trial.now in
+    let from = c.args.from.now in
+    let other = c.requires.other in
+    let d0 = g.D.Disk.state c.args.disk.now in
+    let d3 = g.D.Disk.state c.sync_folder_of.new.disk in
+    let d4 = g.D.Disk.state c.remove.new.self in
+    let now = c.remove.ensures in
+    tries_then trial from d0 d3 d4
+    (tries_flushed trial from other d0 (g.D.Disk.state c.clear_path.new.disk) (g.D.Disk.state c.link_path.new.disk) c.clear_path.ensures.changes c.link_path.ensures.gives d3 c.sync_folder_of.ensures.quiet)
+    (tries_only trial from other d3 d4
+    (only_call (λ m. m ≡ trial) d3 d4 trial TornRemoval refl (c.in_ok-sync_folder_of.ensures.durable trial c.requires.inside) now.beside now.crash now.named now.flushed now.alone now.time))
+
+pub returns-in_err-clear_path-clause-tries : goal.returns-in_err-clear_path-clause-tries
+returns-in_err-clear_path-clause-tries g c =
+    tries_only c.args.trial.now c.args.from.now c.requires.other (g.D.Disk.state c.args.disk.now) (g.D.Disk.state c.clear_path.new.disk) c.clear_path.ensures.changes
+
+pub returns-in_err-link_path-clause-tries : goal.returns-in_err-link_path-clause-tries
+returns-in_err-link_path-clause-tries g c =
+    tries_linked c.args.trial.now c.args.from.now c.requires.other (g.D.Disk.state c.args.disk.now) (g.D.Disk.state c.clear_path.new.disk) (g.D.Disk.state c.link_path.new.disk) c.clear_path.ensures.changes c.link_path.ensures.gives
+
+pub returns-then-not-branch-clause-tries : goal.returns-then-not-branch-clause-tries
+returns-then-not-branch-clause-tries g c =
+    tries_linked c.args.trial.now c.args.from.now c.requires.other (g.D.Disk.state c.args.disk.now) (g.D.Disk.state c.clear_path.new.disk) (g.D.Disk.state c.link_path.new.disk) c.clear_path.ensures.changes c.link_path.ensures.gives
+
+pub returns-then-not-branch-clause-taken : goal.returns-then-not-branch-clause-taken
+returns-then-not-branch-clause-taken g c honest is =
+    let none = c.in_ok-clear_path.ensures.gone (c.link_path.ensures.gives.changes.honest honest) in
+    absurd (cc ((c.in_ok-link_path.ensures.free honest).1 none, c.if-not-branch.true))
+
+pub returns-in_err-sync_folder_of-clause-tries : goal.returns-in_err-sync_folder_of-clause-tries
+returns-in_err-sync_folder_of-clause-tries g c =
+    tries_flushed c.args.trial.now c.args.from.now c.requires.other (g.D.Disk.state c.args.disk.now) (g.D.Disk.state c.clear_path.new.disk) (g.D.Disk.state c.link_path.new.disk) c.clear_path.ensures.changes c.link_path.ensures.gives (g.D.Disk.state c.sync_folder_of.new.disk) c.sync_folder_of.ensures.quiet
+
+pub returns-in_err-remove-clause-tries : goal.returns-in_err-remove-clause-tries
+returns-in_err-remove-clause-tries g c = removed g (goal.at.returns-in_err-remove-clause-tries g c).After-remove
+
+pub returns-clause-tries : goal.returns-clause-tries
+returns-clause-tries g c = removed g (goal.at.returns-clause-tries g c).After-remove
+
+pub returns-clause-gone : goal.returns-clause-gone
+returns-clause-gone g c is m inside other none =
+    c.remove.ensures.flushed m other (c.in_ok-sync_folder_of.ensures.gone m inside (sym (c.remove.ensures.beside m other) ∙ none))
+
+pub returns-clause-tried : goal.returns-clause-tried
+returns-clause-tried g c is =
+    let gives = c.link_path.ensures.gives in
+    record {
+      from = c.args.from.now;
+      before = c.clear_path.new.disk;
+      after = c.link_path.new.disk;
+      free = λ honest. c.in_ok-clear_path.ensures.gone (gives.changes.honest honest);
+      given = c.in_ok-link_path.ensures.linked c.if-not-branch.false;
+      stays = gives.stays.seen;
+      at_once = gives.any_moment;
+      elsewhere = λ m out. gives.changes.seen m out ∙ c.clear_path.ensures.changes.seen m (λ e. out (inr e));
+    }

@@ -1,0 +1,32 @@
+-- What a run of calls changes, seen now and after a crash at any moment of it.
+use Rattle.std.specs.Prelude.{◌≡◌, List, ℕ, length, IsSome, Some}
+use Rattle.disk_io.specs.Disk.{DiskState, Files, bytes_in}
+use Rattle.disk_io.specs.Fixed.{AreBytes}
+use Rattle.disk_io.specs.Runs.{KeepsAlone, KeepsFlushed, KeepsNamed, LeavesOnly, OneStepOn}
+
+-- but for these paths the files are the same
+abbrev pub DifferAt : (List ℕ → Type 0) → Files → Files → Type 0
+DifferAt paths before after = (m : List ℕ) → (paths m → ⊥) → after m ≡ before m
+
+-- A run that changes nothing but what these paths lead to: a crash at any moment of it leaves what one might have left before it, but for them.
+pub record ChangesOnly (paths : List ℕ → Type 0) (old new : DiskState) : Type 0 where
+  pub seen : DifferAt paths old.seen new.seen
+  pub named : KeepsNamed paths old new
+  pub flushed : KeepsFlushed paths old new
+  pub alone : KeepsAlone paths old new
+  pub honest : new.is_honest → old.is_honest
+  pub any_moment : LeavesOnly old new (OneStepOn (DifferAt paths) old)
+
+-- the path leads to a file of these bytes, and each crash leaves it so
+pub record HasOnDisk (disk : DiskState) (path bytes : List ℕ) : Type 0 where
+  pub seen : disk.seen path ≡ Some bytes
+  pub named : disk.is_named path
+  pub flushed : disk.is_flushed path
+
+-- the path leads to a file of so many bytes, and no other path does; the disk has the path
+pub record IsGrowing (disk : DiskState) (path : List ℕ) (at : ℕ) : Type 0 where
+  pub there : IsSome (disk.seen path)
+  pub long : length (bytes_in (disk.seen path)) ≡ at
+  pub bytes : AreBytes (bytes_in (disk.seen path))
+  pub named : disk.is_named path
+  pub alone : disk.is_alone path

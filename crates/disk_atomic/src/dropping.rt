@@ -1,0 +1,55 @@
+//! Staging files of packets are removed.
+ghost use Rattle.std.specs.Prelude.{◌≡◌, ◌≤◌, All, AllPairs, None, OnOk};
+ghost use Rattle.disk_io.specs.Disk.{Honestly, IsIn};
+ghost use Rattle.disk_atomic.specs.Changes.{ChangesOnly};
+ghost use Rattle.disk_atomic.specs.Outgoing.{AreApart, ArePlaced, IsAtStaging, IsBesideOne, IsGoneBeside, IsNamedBeside, IsOfOne};
+
+use crate::outgoing::Outgoing;
+use disk_io::{Disk, DiskError, sync_folder_of};
+
+// Removes the file with this path, if there is one.
+fn drop_one<D: Disk>(disk: &mut D, path: &[u8]) -> Result<(), DiskError>
+    requires { (D.state disk.old).is_named path.now }
+    ensures gone { Honestly (D.state disk.new) (OnOk result ((D.state disk.new).seen path.now ≡ None)) }
+    ensures changes { ChangesOnly (λ m. m ≡ path.now) (D.state disk.old) (D.state disk.new) }
+    ensures later { D.failures disk.old ≤ D.failures disk.new }
+{
+    if !disk.exists(path)? {
+        return Ok(());
+    }
+    disk.remove(path)
+}
+
+// Removes the staging files of the packets. Each of them is synced, or is not.
+fn drop_each<D: Disk>(disk: &mut D, packets: &[Outgoing<'_>]) -> Result<(), DiskError>
+    requires apart { AllPairs AreApart packets.now }
+    requires named { All (IsNamedBeside (D.state disk.old)) packets.now }
+    ensures gone { Honestly (D.state disk.new) (OnOk result (All (IsGoneBeside (D.state disk.new)) packets.now)) }
+    ensures changes { ChangesOnly (IsBesideOne packets.now) (D.state disk.old) (D.state disk.new) }
+    ensures later { D.failures disk.old ≤ D.failures disk.new }
+{
+    'packets: for packet in packets {
+        drop_one(disk, packet.beside)?;
+    }
+    Ok(())
+}
+
+/// Removes the staging files of the packets, all in this folder, and the file at the path that was tried.
+pub fn drop_beside<D: Disk>(
+    disk: &mut D,
+    folder: &[u8],
+    trial: &[u8],
+    packets: &[Outgoing<'_>],
+) -> Result<(), DiskError>
+    requires placed { ArePlaced folder.now packets.now }
+    requires inside { IsIn folder.now trial.now }
+    requires apart { IsOfOne packets.now trial.now → ⊥ }
+    ensures gone { Honestly (D.state disk.new) (OnOk result (All (IsGoneBeside (D.state disk.new)) packets.now)) }
+    ensures trial_gone { Honestly (D.state disk.new) (OnOk result ((D.state disk.new).seen trial.now ≡ None)) }
+    ensures changes { ChangesOnly (IsAtStaging packets.now trial.now) (D.state disk.old) (D.state disk.new) }
+    ensures later { D.failures disk.old ≤ D.failures disk.new }
+{
+    sync_folder_of(disk, folder)?;
+    drop_one(disk, trial)?;
+    drop_each(disk, packets)
+}

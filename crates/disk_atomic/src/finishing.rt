@@ -1,0 +1,76 @@
+//! The staging files of a stopped scan are named or removed.
+ghost use Rattle.std.specs.Prelude.{◌≡◌, ◌⊎◌, ℕ, List, true, false, All, IfOk, OnOk};
+ghost use Rattle.disk_io.specs.Disk.{Honestly, IsIn};
+ghost use Rattle.disk_io.specs.Runs.{HasCause, LeavesOnly, OneStepOn};
+ghost use Rattle.disk_atomic.specs.Changes.{ChangesOnly};
+ghost use Rattle.disk_atomic.specs.Finishing.{AreLeftIn, AreNamed, Finishes, FinishesEach, IsFreeOf, IsLeftIn, IsOfLeft, IsOver, IsThere, KeepsFile};
+
+use crate::naming::name_packet;
+use disk_io::{Disk, DiskError, sync_folder_of};
+use std::alloc::Global;
+
+/// A packet in a staging file, and how many messages were scanned before it.
+#[derive(Clone, Copy)]
+pub struct Left<'a> {
+    pub path: &'a [u8],
+    pub beside: &'a [u8],
+    pub before: u32,
+}
+
+// Names or removes one packet.
+fn finish_one<D: Disk>(
+    alloc: Global,
+    disk: &mut D,
+    folder: &[u8],
+    left: &Left<'_>,
+    cursor: u32,
+) -> Result<bool, DiskError>
+    requires placed { IsLeftIn folder.now left.now }
+    requires there { Honestly (D.state disk.old) (IsThere (D.state disk.old) left.now) }
+    requires named { AreNamed (D.state disk.old) left.now }
+    ensures over { Honestly (D.state disk.new) (IfOk result (λ over. over ≡ true → IsOver cursor (D.state disk.old) (D.state disk.new) left.now)) }
+    ensures kept { Honestly (D.state disk.new) (OnOk result (KeepsFile (D.state disk.old) (D.state disk.new) left.now)) }
+    ensures taken { Honestly (D.state disk.new) (IfOk result (λ over. over ≡ false → IsFreeOf (D.state disk.old) left.now → ⊥)) }
+    ensures any_moment { Honestly (D.state disk.new) (LeavesOnly (D.state disk.old) (D.state disk.new) (OneStepOn (Finishes cursor left.now) (D.state disk.old))) }
+    ensures changes { ChangesOnly (λ m. (m ≡ left.now.beside.now) ⊎ (m ≡ left.now.path.now)) (D.state disk.old) (D.state disk.new) }
+    ensures cause { HasCause (D.failures disk.old) (D.failures disk.new) result }
+{
+    if left.before >= cursor {
+        disk.remove(left.beside)?;
+        return Ok(true);
+    }
+    disk.sync(left.beside)?;
+    name_packet(alloc, disk, folder, left.beside, left.path)
+}
+
+/// Names or removes packets in staging files. If the cursor is past the number that was scanned before a packet, its
+/// scan was committed, and the packet gets its path; else it is removed. Returns whether all of them ended so: a
+/// packet whose path another file has keeps its staging file.
+pub fn finish_stopped<D: Disk>(
+    alloc: Global,
+    disk: &mut D,
+    folder: &[u8],
+    found: &[Left<'_>],
+    cursor: u32,
+) -> Result<bool, DiskError>
+    requires found { AreLeftIn folder.now found.now }
+    requires there { Honestly (D.state disk.old) (All (IsThere (D.state disk.old)) found.now) }
+    ensures over { Honestly (D.state disk.new) (IfOk result (λ all. all ≡ true → All (IsOver cursor (D.state disk.old) (D.state disk.new)) found.now)) }
+    ensures kept { Honestly (D.state disk.new) (OnOk result (All (KeepsFile (D.state disk.old) (D.state disk.new)) found.now)) }
+    ensures taken { Honestly (D.state disk.new) (IfOk result (λ all. all ≡ false → All (IsFreeOf (D.state disk.old)) found.now → ⊥)) }
+    ensures named { OnOk result ((m : List ℕ) → IsIn folder.now m → (D.state disk.new).is_named m) }
+
+    // A crash at any time leaves each packet of a committed scan at one of its two paths at least, and no other
+    // packet at its path.
+    ensures any_moment { Honestly (D.state disk.new) (LeavesOnly (D.state disk.old) (D.state disk.new) (OneStepOn (FinishesEach cursor found.now) (D.state disk.old))) }
+    ensures changes { ChangesOnly (IsOfLeft found.now) (D.state disk.old) (D.state disk.new) }
+    ensures cause { HasCause (D.failures disk.old) (D.failures disk.new) result }
+{
+    sync_folder_of(disk, folder)?;
+    let mut all = true;
+    'found: for left in found {
+        all &= finish_one(alloc, disk, folder, left, cursor)?;
+    }
+    sync_folder_of(disk, folder)?;
+    Ok(all)
+}

@@ -1,0 +1,158 @@
+//! Packets get their paths: each a second path by a hard link, and then its staging path goes.
+ghost use Rattle.std.specs.Prelude.{◌≡◌, ◌≢◌, ◌⊎◌, ◌↔◌, ℕ, List, true, false, All, IfOk, IsTrue, None, OnOk, IsSome};
+ghost use Rattle.disk_io.specs.Disk.{Honestly, IsIn};
+ghost use Rattle.disk_io.specs.Runs.{ChangesNothing, HasCause, LeavesOnly, OneStepOn};
+ghost use Rattle.disk_atomic.specs.Changes.{ChangesOnly};
+ghost use Rattle.disk_atomic.specs.Naming.{Gives, HasItsPath, HasMoved, IsTaken, Names, NamesEach, StaysThere};
+ghost use Rattle.disk_atomic.specs.Outgoing.{ArePlaced, IsFree, IsOfOne, IsStaged};
+
+use crate::outgoing::Outgoing;
+use disk_io::{Disk, DiskError, read_file, sync_folder_of};
+use std::alloc::Global;
+
+// Whether two files have the same bytes.
+fn are_same<D: Disk>(
+    alloc: Global,
+    disk: &mut D,
+    one: &[u8],
+    other: &[u8],
+) -> Result<bool, DiskError>
+    requires one { Honestly (D.state disk.old) (IsSome ((D.state disk.old).seen one.now)) }
+    requires other { Honestly (D.state disk.old) (IsSome ((D.state disk.old).seen other.now)) }
+    ensures same { Honestly (D.state disk.new) (IfOk result (λ same. (same ≡ true) ↔ ((D.state disk.old).seen one.now ≡ (D.state disk.old).seen other.now))) }
+    ensures quiet { ChangesNothing (D.state disk.old) (D.state disk.new) }
+    ensures cause { HasCause (D.failures disk.old) (D.failures disk.new) result }
+{
+    let first = read_file(alloc, disk, one)?;
+    let second = read_file(alloc, disk, other)?;
+    Ok(first.as_slice() == second.as_slice())
+}
+
+// Whether the file at a staging path also has the packet's path. Then its bytes are synced at both.
+fn has_both<D: Disk>(
+    alloc: Global,
+    disk: &mut D,
+    beside: &[u8],
+    path: &[u8],
+) -> Result<bool, DiskError>
+    requires beside_there { Honestly (D.state disk.old) (IsSome ((D.state disk.old).seen beside.now)) }
+    requires path_there { Honestly (D.state disk.old) (IsSome ((D.state disk.old).seen path.now)) }
+    ensures same { Honestly (D.state disk.new) (IfOk result (λ both. (both ≡ true) ↔ ((D.state disk.old).seen beside.now ≡ (D.state disk.old).seen path.now))) }
+    ensures durable { IfOk result (λ both. both ≡ true → (D.state disk.new).is_flushed path.now) }
+    ensures quiet { ChangesNothing (D.state disk.old) (D.state disk.new) }
+    ensures cause { HasCause (D.failures disk.old) (D.failures disk.new) result }
+{
+    if !are_same(alloc, disk, beside, path)? {
+        return Ok(false);
+    }
+    disk.sync(path)?;
+    Ok(true)
+}
+
+/// Gives the file at a staging path the packet's path too. Returns `false` if a file has that path.
+pub(crate) fn link_path<D: Disk>(
+    disk: &mut D,
+    beside: &[u8],
+    path: &[u8],
+) -> Result<bool, DiskError>
+    requires other { beside.now ≢ path.now }
+    requires there { Honestly (D.state disk.old) (IsSome ((D.state disk.old).seen beside.now)) }
+    requires durable { (D.state disk.old).is_flushed beside.now }
+    requires beside_named { (D.state disk.old).is_named beside.now }
+    requires path_named { (D.state disk.old).is_named path.now }
+    ensures linked { IfOk result (λ linked. linked ≡ true → (D.state disk.new).seen path.now ≡ (D.state disk.old).seen beside.now) }
+    ensures kept { IfOk result (λ linked. linked ≡ true → (D.state disk.new).is_flushed path.now) }
+    ensures free { Honestly (D.state disk.new) (IfOk result (λ linked. IsTrue linked ↔ ((D.state disk.old).seen path.now ≡ None))) }
+    ensures taken { IfOk result (λ linked. linked ≡ false → (D.state disk.new).seen path.now ≡ (D.state disk.old).seen path.now) }
+    ensures gives { Gives (D.state disk.old) (D.state disk.new) path.now beside.now }
+    ensures cause { HasCause (D.failures disk.old) (D.failures disk.new) result }
+{
+    disk.link(beside, path)
+}
+
+// Gives the file at a staging path the packet's path too, unless another file has it. The file may have it already.
+fn give_path<D: Disk>(
+    alloc: Global,
+    disk: &mut D,
+    beside: &[u8],
+    path: &[u8],
+) -> Result<bool, DiskError>
+    requires other { beside.now ≢ path.now }
+    requires there { Honestly (D.state disk.old) (IsSome ((D.state disk.old).seen beside.now)) }
+    requires durable { (D.state disk.old).is_flushed beside.now }
+    requires beside_named { (D.state disk.old).is_named beside.now }
+    requires path_named { (D.state disk.old).is_named path.now }
+    ensures given { Honestly (D.state disk.new) (IfOk result (λ given. given ≡ true → (D.state disk.new).seen path.now ≡ (D.state disk.old).seen beside.now)) }
+    ensures durable { IfOk result (λ given. given ≡ true → (D.state disk.new).is_flushed path.now) }
+    ensures over_none { Honestly (D.state disk.new) (OnOk result (IsSome ((D.state disk.old).seen path.now) → (D.state disk.new).seen path.now ≡ (D.state disk.old).seen path.now)) }
+    ensures taken { Honestly (D.state disk.new) (IfOk result (λ given. given ≡ false → IsTaken (D.state disk.old) path.now beside.now)) }
+    ensures gives { Gives (D.state disk.old) (D.state disk.new) path.now beside.now }
+    ensures cause { HasCause (D.failures disk.old) (D.failures disk.new) result }
+{
+    if link_path(disk, beside, path)? {
+        return Ok(true);
+    }
+    has_both(alloc, disk, beside, path)
+}
+
+/// Gives the file at a staging path the packet's path, and removes the staging path. If another file has the path it
+/// returns `false`, and both stay.
+pub fn name_packet<D: Disk>(
+    alloc: Global,
+    disk: &mut D,
+    folder: &[u8],
+    beside: &[u8],
+    path: &[u8],
+) -> Result<bool, DiskError>
+    requires path_in { IsIn folder.now path.now }
+    requires beside_in { IsIn folder.now beside.now }
+    requires other { beside.now ≢ path.now }
+    requires there { Honestly (D.state disk.old) (IsSome ((D.state disk.old).seen beside.now)) }
+    requires durable { (D.state disk.old).is_flushed beside.now }
+    requires beside_named { (D.state disk.old).is_named beside.now }
+    requires path_named { (D.state disk.old).is_named path.now }
+    ensures named { Honestly (D.state disk.new) (IfOk result (λ named. named ≡ true → HasMoved (D.state disk.old) (D.state disk.new) path.now beside.now)) }
+    ensures over_none { Honestly (D.state disk.new) (OnOk result (IsSome ((D.state disk.old).seen path.now) → (D.state disk.new).seen path.now ≡ (D.state disk.old).seen path.now)) }
+    ensures taken { Honestly (D.state disk.new) (IfOk result (λ named. named ≡ false → IsTaken (D.state disk.old) path.now beside.now)) }
+    ensures stays { IfOk result (λ named. named ≡ false → StaysThere (D.state disk.old) (D.state disk.new) beside.now) }
+
+    // A crash at any time leaves the file at one of the two paths at least.
+    ensures any_moment { Honestly (D.state disk.new) (LeavesOnly (D.state disk.old) (D.state disk.new) (OneStepOn (Names path.now beside.now) (D.state disk.old))) }
+    ensures changes { ChangesOnly (λ m. (m ≡ beside.now) ⊎ (m ≡ path.now)) (D.state disk.old) (D.state disk.new) }
+    ensures cause { HasCause (D.failures disk.old) (D.failures disk.new) result }
+{
+    let given = give_path(alloc, disk, beside, path)?;
+    if !given {
+        return Ok(false);
+    }
+    sync_folder_of(disk, folder)?;
+    disk.remove(beside)?;
+    Ok(true)
+}
+
+/// Gives each packet its path, and returns whether all have theirs. A packet whose path another file has keeps its
+/// staging path.
+pub fn name_packets<D: Disk>(
+    alloc: Global,
+    disk: &mut D,
+    folder: &[u8],
+    packets: &[Outgoing<'_>],
+) -> Result<bool, DiskError>
+    requires placed { ArePlaced folder.now packets.now }
+    requires staged { All (IsStaged (D.state disk.old)) packets.now }
+    ensures named { Honestly (D.state disk.new) (IfOk result (λ all. all ≡ true → All (HasItsPath (D.state disk.new)) packets.now)) }
+    ensures taken { Honestly (D.state disk.new) (IfOk result (λ all. all ≡ false → All (IsFree (D.state disk.old)) packets.now → ⊥)) }
+    ensures settled { OnOk result ((m : List ℕ) → IsIn folder.now m → (D.state disk.new).is_named m) }
+
+    // A crash at any time leaves each packet whole at one of its two paths at least.
+    ensures any_moment { Honestly (D.state disk.new) (LeavesOnly (D.state disk.old) (D.state disk.new) (OneStepOn (NamesEach packets.now) (D.state disk.old))) }
+    ensures changes { ChangesOnly (IsOfOne packets.now) (D.state disk.old) (D.state disk.new) }
+    ensures cause { HasCause (D.failures disk.old) (D.failures disk.new) result }
+{
+    let mut all = true;
+    'packets: for packet in packets {
+        all &= name_packet(alloc, disk, folder, packet.beside, packet.path)?;
+    }
+    sync_folder_of::<D>(disk, folder)?;
+    Ok(all)
+}

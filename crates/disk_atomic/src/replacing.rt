@@ -1,0 +1,35 @@
+//! A file is replaced by another, written at a staging path.
+ghost use Rattle.std.specs.Prelude.{◌≡◌, ◌≢◌, ◌⊎◌, None, OnOk};
+ghost use Rattle.disk_io.specs.Disk.{IsIn};
+ghost use Rattle.disk_io.specs.Runs.{HasCause, LeavesOnly, OneStepOn};
+ghost use Rattle.disk_atomic.specs.Changes.{ChangesOnly, HasOnDisk};
+ghost use Rattle.disk_atomic.specs.Replacing.{Replaces};
+
+use crate::staging::stage_file;
+use disk_io::{Disk, DiskError, sync_folder_of};
+
+/// Replaces the bytes of a file by these, or makes the file. The bytes are written at a staging path first. At `Ok`
+/// they are synced.
+pub fn replace_file<D: Disk>(
+    disk: &mut D,
+    folder: &[u8],
+    path: &[u8],
+    beside: &[u8],
+    bytes: &[u8],
+) -> Result<(), DiskError>
+    requires path_in { IsIn folder.now path.now }
+    requires beside_in { IsIn folder.now beside.now }
+    requires other { beside.now ≢ path.now }
+    ensures replaced { OnOk result (HasOnDisk (D.state disk.new) path.now bytes.now) }
+    ensures moved { OnOk result ((D.state disk.new).seen beside.now ≡ None) }
+
+    // A crash at any time leaves what it might have left before, except at the staging path, and at the path the old
+    // file or these bytes.
+    ensures any_moment { LeavesOnly (D.state disk.old) (D.state disk.new) (OneStepOn (Replaces path.now beside.now bytes.now) (D.state disk.old)) }
+    ensures changes { ChangesOnly (λ m. (m ≡ beside.now) ⊎ (m ≡ path.now)) (D.state disk.old) (D.state disk.new) }
+    ensures cause { HasCause (D.failures disk.old) (D.failures disk.new) result }
+{
+    stage_file(disk, folder, beside, bytes)?;
+    disk.rename(beside, path)?;
+    sync_folder_of(disk, folder)
+}

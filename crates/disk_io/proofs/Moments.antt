@@ -1,0 +1,76 @@
+-- How a run of calls goes on, and what a crash may leave at each moment of it.
+use Rattle.std.proofs.Common.{◌≤◌, ◌∙◌, inl, inr, ⊎_elim, arith}
+use Rattle.disk_io.specs.Disk.{DiskState, Files}
+use Rattle.disk_io.specs.Runs.{Elapses, LeavesOnly, OneStepOn, LeavesOneStepOn, ChangesNothing}
+
+-- what a crash may leave at the end of a run has what it might leave at any moment of it
+pub left_now : (old new : DiskState) (P : Files → Type 0) → LeavesOnly old new P → (c : Files) → new.may_leave c → P c
+left_now old new P run c left = run.each c (new.counts_now old.moment c run.later left)
+
+-- a run of no call
+pub no_call : (old : DiskState) (P : Files → Type 0) → ((c : Files) → old.may_leave c → P c) → LeavesOnly old old P
+no_call old P now = record {
+  later = omega arith;
+  each = λ c left. now c (old.only_now c left);
+  before = λ t c le left. inl left;
+}
+
+-- one run after another; what is so of each moment of the second gives what is asked
+pub then_run : (old mid new : DiskState) (P Q : Files → Type 0) → LeavesOnly old mid P → LeavesOnly mid new Q → ((c : Files) → Q c → P c) → LeavesOnly old new P
+then_run old mid new P Q first second gives =
+    let one : old.moment ≤ mid.moment = first.later in
+    let two : mid.moment ≤ new.moment = second.later in
+    record {
+      later = omega arith;
+      each = λ c left. ⊎_elim (first.each c) (gives c) (second.before old.moment c one left);
+      before = λ t c le left. ⊎_elim (first.before t c le) (λ q. inr (gives c q)) (second.before t c (omega arith) left);
+    }
+
+pub then_nothing : (old mid new : DiskState) (P : Files → Type 0) → LeavesOnly old mid P → ChangesNothing mid new → LeavesOnly old new P
+then_nothing old mid new P run quiet = then_run old mid new P mid.may_leave run quiet.run (left_now old mid P run)
+
+-- one call that changes something
+pub then_call : (old mid new : DiskState) (P : Files → Type 0) (step : Files → Files → Type 0) → LeavesOnly old mid P → Elapses mid new → LeavesOneStepOn step mid new
+    → ((a c : Files) → P a → step a c → P c) → LeavesOnly old new P
+then_call old mid new P step run time steps keeps =
+    let one : old.moment ≤ mid.moment = run.later in
+    let two : mid.moment ≤ new.moment = time.later in
+    let now : (c : Files) → new.may_leave c → P c = λ c left. let from = steps c left in keeps from.0 c (left_now old mid P run from.0 from.1) from.2 in
+    record {
+      later = omega arith;
+      each = λ c left. ⊎_elim (run.each c) (now c) (time.nothing_else old.moment c one left);
+      before = λ t c le left. ⊎_elim (run.before t c le) (λ l. inr (now c l)) (time.nothing_else t c (omega arith) left);
+    }
+
+pub weaker_run : (old new : DiskState) (P Q : Files → Type 0) → LeavesOnly old new P → ((c : Files) → P c → Q c) → LeavesOnly old new Q
+weaker_run old new P Q run gives = record {
+  later = run.later;
+  each = λ c left. gives c (run.each c left);
+  before = λ t c le left. ⊎_elim (λ was. inl was) (λ p. inr (gives c p)) (run.before t c le left);
+}
+
+-- the first call of a run, where the step may also not have happened
+pub one_call : (old new : DiskState) (step : Files → Files → Type 0) → ((c : Files) → step c c) → Elapses old new → LeavesOneStepOn step old new → LeavesOnly old new (OneStepOn step old)
+one_call old new step none time steps =
+    let two : old.moment ≤ new.moment = time.later in
+    let was : (c : Files) → old.may_leave c → OneStepOn step old c = λ c left. (c, left, none c) in
+    record {
+      later = two;
+      each = λ c left. ⊎_elim (λ before. was c (old.only_now c before)) (steps c) (time.nothing_else old.moment c (omega arith) left);
+      before = λ t c le left. ⊎_elim (λ before. inl before) (λ now. inr (steps c now)) (time.nothing_else t c le left);
+    }
+
+-- two runs that change nothing
+pub nothing_twice : (old mid new : DiskState) → ChangesNothing old mid → ChangesNothing mid new → ChangesNothing old new
+nothing_twice old mid new first second =
+    let one : old.moment ≤ mid.moment = first.run.later in
+    record {
+      seen = λ m. second.seen m ∙ first.seen m;
+      no_more = λ c left. first.no_more c (second.no_more c left);
+      named = λ m none is. second.named m none (first.named m none is);
+      flushed = λ m none is. second.flushed m none (first.flushed m none is);
+      alone = λ m none is. second.alone m none (first.alone m none is);
+      run = then_run old mid new old.may_leave mid.may_leave first.run second.run first.no_more;
+      keeps = λ t c le was. second.keeps t c (omega arith) (first.keeps t c le was);
+      honest = λ is. first.honest (second.honest is);
+    }

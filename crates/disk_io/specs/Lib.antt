@@ -1,0 +1,9 @@
+pub mod Device
+pub mod Watched
+pub mod Buffered
+pub mod Trial
+pub mod Fixed
+pub mod Disk
+pub mod Runs
+pub mod Steps
+pub mod Synced

@@ -1,0 +1,50 @@
+-- The effect of one call on one file, as it is seen and after a crash.
+use Rattle.std.specs.Prelude.{◌≡◌, ◌≢◌, ◌≤◌, ◌⊎◌, ℕ, ◌+◌, max, min, List, [], ◌++◌, length, take, drop, Option, Some, None, IsSome}
+use Rattle.disk_io.specs.Disk.{Files, DiskState, bytes_in}
+
+-- these bytes are written at this offset, over the old bytes and past their end
+abbrev pub IsWrittenAt : List ℕ → ℕ → List ℕ → List ℕ → Type 0
+IsWrittenAt old at bytes new = new ≡ take at old ++ bytes ++ drop (at + length bytes) old
+
+-- A write of this many bytes that a crash cuts short: the bytes before and after it are unchanged, and nothing is
+-- past its end.
+pub record TornWrite (at count : ℕ) (old new : Option (List ℕ)) : Type 0 where
+  pub there : IsSome old → IsSome new
+  pub before : take (min at (length (bytes_in old))) (bytes_in new) ≡ take at (bytes_in old)
+  pub behind : drop (at + count) (bytes_in new) ≡ drop (at + count) (bytes_in old)
+  pub no_shorter : length (bytes_in old) ≤ length (bytes_in new)
+  pub no_longer : length (bytes_in new) ≤ max (length (bytes_in old)) (at + count)
+
+-- A cut that a crash cuts short: some length between the old one and the new one.
+pub record TornCut (len : ℕ) (old new : Option (List ℕ)) : Type 0 where
+  pub there : IsSome old → IsSome new
+  pub no_shorter : min len (length (bytes_in old)) ≤ length (bytes_in new)
+  pub front : take (length (bytes_in new)) (bytes_in old) ≡ bytes_in new
+
+-- a file made instead of another: a crash leaves the old one, none, or the new one, which is empty
+abbrev pub TornMaking : Option (List ℕ) → Option (List ℕ) → Type 0
+TornMaking old new = (new ≡ old) ⊎ ((new ≡ None) ⊎ (new ≡ Some []))
+
+-- a file removed, or still there
+abbrev pub TornRemoval : Option (List ℕ) → Option (List ℕ) → Type 0
+TornRemoval old new = (new ≡ old) ⊎ (new ≡ None)
+
+-- a path that got this file, or did not
+abbrev pub TornNaming : Option (List ℕ) → Option (List ℕ) → Option (List ℕ) → Type 0
+TornNaming file old new = (new ≡ old) ⊎ (new ≡ file)
+
+-- the other paths lead to the same files
+abbrev pub SameBeside : List ℕ → Files → Files → Type 0
+SameBeside path old new = (m : List ℕ) → m ≢ path → new m ≡ old m
+
+-- A crash after a step at one path. If neither that path nor another one is named, the other may have any file: both
+-- may lead to one file on the disk.
+pub record ChangesFile (old : DiskState) (path : List ℕ) (step : Option (List ℕ) → Option (List ℕ) → Type 0) (before after : Files) : Type 0 where
+  pub beside : (m : List ℕ) → m ≢ path → old.is_named path ⊎ old.is_named m → after m ≡ before m
+  pub within : old.is_named path → step (before path) (after path)
+
+-- A crash after a rename that is not synced: it happened, or it did not.
+pub record RenamesFile (old : DiskState) (from to : List ℕ) (before after : Files) : Type 0 where
+  pub beside : (m : List ℕ) → m ≢ from → m ≢ to → (old.is_named from × old.is_named to) ⊎ old.is_named m → after m ≡ before m
+  pub target : old.is_named to → (after to ≡ before to) ⊎ (after to ≡ old.seen from)
+  pub both : old.is_named from → old.is_named to → ((after from ≡ before from) × (after to ≡ before to)) ⊎ ((after from ≡ None) × (after to ≡ old.seen from))

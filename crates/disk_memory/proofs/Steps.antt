@@ -1,0 +1,44 @@
+-- The steps of a disk in memory, and what one more does to it.
+use Rattle.std.proofs.Common.{◌≡◌, ◌+◌, List, [], ◌∷◌, ◌++◌, refl, ◌∙◌, ap, inl, inr, ⊎_elim, arith}
+use Rattle.std.specs.Prelude.{false, reverse}
+use Rattle.std.proofs.lemmas.List.{reverse-append}
+use Rattle.disk_io.specs.Disk.{DiskState}
+use Rattle.disk_io.specs.Runs.{Elapses}
+use Rattle.disk_memory.specs.Memory.{AreTogether, MayLeave, disk_after}
+use Rattle.disk_memory.specs.declared.step.Step.{Step}
+use Rattle.disk_memory.specs.declared.step.Step.TheVariants.{Changed, Made, Removed, Renamed, Linked, Synced, FolderSynced, Crashed}
+
+-- the newest comes first
+pub reversed : (old new : List Step) (x : Step) → new ≡ old ++ x ∷ [] → reverse new ≡ x ∷ reverse old
+reversed old new x e = ap (λ (l : List Step). reverse l) e ∙ reverse-append old (x ∷ [])
+
+-- a crash leaves what is kept
+pub none_came : (steps : List Step) → AreTogether steps (λ m. false)
+none_came [] = tt
+none_came (Changed path contents ∷ steps) = none_came steps
+none_came (Made path making ∷ steps) = none_came steps
+none_came (Removed path done ∷ steps) = none_came steps
+none_came (Renamed from to file done ∷ steps) = (refl, none_came steps)
+none_came (Linked from to file done ∷ steps) = none_came steps
+none_came (Synced path ∷ steps) = none_came steps
+none_came (FolderSynced folder ∷ steps) = tt
+none_came (Crashed ∷ steps) = tt
+
+pub left_by_crash : (steps : List Step) → MayLeave steps (disk_after (Crashed ∷ steps)).seen
+left_by_crash steps = record { came = λ m. false; together = none_came steps; files = λ m. refl }
+
+pub one_elapses : (steps : List Step) (x : Step) → Elapses (disk_after steps) (disk_after (x ∷ steps))
+one_elapses steps x = record {
+  later = omega arith;
+  nothing_else = λ t c le left. ⊎_elim (λ now. inr now) (λ was. inl was.1) left;
+  keeps = λ t c le was. inr (le, was);
+  honest = λ is. is;
+}
+
+pub same_elapses : (d : DiskState) → Elapses d d
+same_elapses d = record {
+  later = omega arith;
+  nothing_else = λ t c le left. inl left;
+  keeps = λ t c le was. was;
+  honest = λ is. is;
+}

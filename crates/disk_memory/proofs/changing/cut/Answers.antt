@@ -1,0 +1,28 @@
+use Rattle.std.proofs.Common.{◌≡◌, List, [], ◌∷◌, ◌++◌, ◌∙◌, ap, subst, rules}
+use Rattle.std.specs.Prelude.{Vec}
+use Rattle.std.specs.declared.alloc.Global.{Global}
+use Rattle.disk_io.specs.Disk.{bytes_in}
+use Rattle.disk_io.specs.Steps.{TornCut}
+use Rattle.disk_memory.specs.Calls.{IsCutTo}
+use Rattle.disk_memory.specs.Memory.{seen_at, kept_at}
+use Rattle.disk_memory.specs.Shown.{file_of}
+use Rattle.disk_memory.specs.declared.step.Step.{Step}
+use Rattle.disk_memory.specs.declared.step.Step.TheVariants.{Changed}
+use Rattle.disk_memory.proofs.changing.cut.Goals as goal
+
+pub returns-clause-adds : goal.returns-clause-adds
+returns-clause-adds c =
+    let at = c.in_ok-path.path in
+    let contents = c.in_ok-contents.contents in
+    let path = c.args.path.now in
+    let same = c.next_tear-tear.ensures.same ∙ c.in_ok-begin.ensures.same in
+    let steps : c.deref.result.now ≡ c.args.disk.now.steps.items = c.deref.ensures.value ∙ ap (λ (v : Vec Step Global). v.items) same in
+    let at_path : at.items ≡ path = search rules in
+    record {
+      at = at;
+      contents = contents;
+      at_path = at_path;
+      adds = c.in_ok-push.ensures.items ∙ ap (λ (v : Vec Step Global). v.items ++ Changed at contents ∷ []) same;
+      now_seen = subst (λ (l : List Step). IsCutTo c.args.len (bytes_in (seen_at l path)) contents.seen.items) steps c.in_ok-contents.ensures.seen;
+      now_kept = subst (λ (l : List Step). TornCut c.args.len (kept_at l path) (file_of contents.kept)) steps c.in_ok-contents.ensures.kept;
+    }

@@ -1,0 +1,32 @@
+use Rattle.std.proofs.Common.{◌≡◌, List, [], ◌∷◌, ◌++◌, ◌∙◌, ap, rules}
+use Rattle.std.specs.Prelude.{Vec}
+use Rattle.std.specs.declared.alloc.Global.{Global}
+use Rattle.disk_io.specs.Disk.{bytes_in}
+use Rattle.disk_memory.specs.Memory.{seen_at}
+use Rattle.disk_memory.specs.declared.step.Step.{Step}
+use Rattle.disk_memory.specs.declared.step.Step.TheVariants.{Renamed}
+use Rattle.disk_memory.proofs.Effects.{some_bytes}
+use Rattle.disk_memory.proofs.changing.rename.Goals as goal
+
+pub returns-clause-adds : goal.returns-clause-adds
+returns-clause-adds c =
+    let at = c.in_ok-from.from in
+    let target = c.in_ok-to.to in
+    let file = c.in_ok-file.file in
+    let same = c.next_tear.ensures.same ∙ c.in_ok-begin.ensures.same in
+    let at_path : at.items ≡ c.args.from.now = search rules in
+    let target_path : target.items ≡ c.args.to.now = search rules in
+    let copied : file.items ≡ c.seen.result.now = search rules in
+    let steps : c.deref.result.now ≡ c.args.disk.now.steps.items = c.deref.ensures.value ∙ ap (λ (v : Vec Step Global). v.items) same in
+    let bytes : file.items ≡ bytes_in (seen_at c.args.disk.now.steps.items c.args.from.now) =
+    copied ∙ c.seen.ensures ∙ ap (λ (l : List Step). bytes_in (seen_at l c.args.from.now)) steps in
+    record {
+      at = at;
+      target = target;
+      bytes = file;
+      came = c.has_come-came.result;
+      at_path = at_path;
+      target_path = target_path;
+      file_is = some_bytes (seen_at c.args.disk.now.steps.items c.args.from.now) file.items c.requires bytes;
+      adds = c.in_ok-push.ensures.items ∙ ap (λ (v : Vec Step Global). v.items ++ Renamed at target file c.has_come-came.result ∷ []) same;
+    }

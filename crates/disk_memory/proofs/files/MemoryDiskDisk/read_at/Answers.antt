@@ -1,0 +1,18 @@
+use Rattle.std.proofs.Common.{reverse, sym, subst}
+use Rattle.std.specs.Prelude.{Vec}
+use Rattle.std.specs.declared.alloc.Global.{Global}
+use Rattle.disk_io.specs.Runs.{ChangesNothing}
+use Rattle.disk_memory.specs.Memory.{disk_after, steps_of}
+use Rattle.disk_memory.specs.declared.step.Step.{Step}
+use Rattle.disk_memory.proofs.Effects.{nothing_done}
+use Rattle.disk_memory.proofs.files.MemoryDiskDisk.read_at.Goals as goal
+
+pub returns-in_err-begin-clause-quiet : goal.returns-in_err-begin-clause-quiet
+returns-in_err-begin-clause-quiet c =
+    subst (λ (v : Vec Step Global). ChangesNothing (disk_after (steps_of c.args.self.now)) (disk_after (reverse v.items))) (sym c.in_err-begin.ensures.same)
+    (nothing_done (steps_of c.args.self.now))
+
+pub returns-clause-quiet : goal.returns-clause-quiet
+returns-clause-quiet c =
+    subst (λ (v : Vec Step Global). ChangesNothing (disk_after (steps_of c.args.self.now)) (disk_after (reverse v.items))) (sym c.in_ok-begin.ensures.same)
+    (nothing_done (steps_of c.args.self.now))

@@ -1,0 +1,16 @@
+use Rattle.std.proofs.Common.{◌≡◌, [], ◌∷◌, ◌++◌, ◌∙◌, ap, rules}
+use Rattle.std.specs.Prelude.{Vec}
+use Rattle.std.specs.declared.alloc.Global.{Global}
+use Rattle.disk_memory.specs.declared.step.Step.{Step}
+use Rattle.disk_memory.specs.declared.step.Step.TheVariants.{Synced}
+use Rattle.disk_memory.proofs.syncing.sync_file.Goals as goal
+
+pub returns-clause-adds : goal.returns-clause-adds
+returns-clause-adds c =
+    let at = c.in_ok-path.path in
+    let at_path : at.items ≡ c.args.path.now = search rules in
+    record {
+      at = at;
+      at_path = at_path;
+      adds = c.in_ok-push.ensures.items ∙ ap (λ (v : Vec Step Global). v.items ++ Synced at ∷ []) c.in_ok-begin.ensures.same;
+    }

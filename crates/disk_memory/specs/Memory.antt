@@ -1,0 +1,91 @@
+-- A disk in memory, as a disk: what a crash may leave after its steps, the newest first.
+use Rattle.std.specs.Prelude.{◌≡◌, ◌≤◌, ◌⊎◌, ℕ, Bool, true, false, cond, List, [], ◌∷◌, length, reverse, Option}
+use Rattle.std.proofs.Common.{inl, inr, ◌∙◌, refl}
+use Rattle.std.proofs.Math.Nat.{lt_irrefl}
+use Rattle.disk_io.specs.Disk.{DiskState, Files}
+use Rattle.disk_memory.specs.Shown.{shown}
+use Rattle.disk_memory.specs.declared.memory_disk.MemoryDisk.{MemoryDisk}
+use Rattle.disk_memory.specs.declared.step.Step.{Step}
+use Rattle.disk_memory.specs.declared.step.Step.TheVariants.{Changed, Made, Removed, Renamed, Linked, Synced, FolderSynced, Crashed}
+
+-- The two paths of a renaming reach the disk together, where no folder was synced since.
+abbrev pub AreTogether : List Step → (List ℕ → Bool) → Type 0
+AreTogether [] came = Unit {0}
+AreTogether (Changed path contents ∷ steps) came = AreTogether steps came
+AreTogether (Made path making ∷ steps) came = AreTogether steps came
+AreTogether (Removed path done ∷ steps) came = AreTogether steps came
+AreTogether (Renamed from to file done ∷ steps) came = (came from.items ≡ came to.items) × AreTogether steps came
+AreTogether (Linked from to file done ∷ steps) came = AreTogether steps came
+AreTogether (Synced path ∷ steps) came = AreTogether steps came
+AreTogether (FolderSynced folder ∷ steps) came = Unit {0}
+AreTogether (Crashed ∷ steps) came = Unit {0}
+
+-- the files if all seen bytes have reached the disk at some paths, and at the others what a crash keeps
+abbrev pub left_where : List Step → (List ℕ → Bool) → Files
+left_where steps came m = cond (came m) (shown steps m).seen (shown steps m).kept
+
+-- The files that a crash leaves now, or would leave if more of the seen bytes had reached the disk.
+pub record MayLeave (steps : List Step) (c : Files) : Type 0 where
+  pub came : List ℕ → Bool
+  pub together : AreTogether steps came
+  pub files : (m : List ℕ) → c m ≡ left_where steps came m
+
+-- after this many steps, or later
+abbrev pub LeftSince : List Step → ℕ → Files → Type 0
+LeftSince [] t c = MayLeave [] c
+LeftSince (step ∷ steps) t c = MayLeave (step ∷ steps) c ⊎ ((t ≤ length steps) × LeftSince steps t c)
+
+abbrev pub IsNamed : List Step → List ℕ → Type 0
+IsNamed steps m = (shown steps m).named ≡ true
+
+-- its bytes were synced, and a crash keeps them where it keeps the path
+pub record IsFlushed (steps : List Step) (m : List ℕ) : Type 0 where
+  pub synced : (shown steps m).flushed ≡ true
+  pub whole : (shown steps m).named ≡ true → (shown steps m).kept ≡ (shown steps m).seen
+
+abbrev pub IsAlone : List Step → List ℕ → Type 0
+IsAlone steps m = (shown steps m).alone ≡ true
+
+either_is : {A : Type 0} (b : Bool) (x y : A) → y ≡ x → cond b x y ≡ x
+either_is true x y same = refl
+either_is false x y same = same
+
+pub kept_is_seen : (steps : List Step) (m : List ℕ) → IsNamed steps m → IsFlushed steps m → (c : Files) → MayLeave steps c → c m ≡ (shown steps m).seen
+kept_is_seen steps m named flushed c left =
+    left.files m ∙ either_is (left.came m) (shown steps m).seen (shown steps m).kept (flushed.whole named)
+
+pub now_counts : (steps : List Step) (t : ℕ) (c : Files) → t ≤ length steps → MayLeave steps c → LeftSince steps t c
+now_counts [] t c le left = left
+now_counts (step ∷ steps) t c le left = inl left
+
+pub now_alone : (steps : List Step) (c : Files) → LeftSince steps (length steps) c → MayLeave steps c
+now_alone [] c left = left
+now_alone (step ∷ steps) c (inl left) = left
+now_alone (step ∷ steps) c (inr was) = absurd (lt_irrefl (length steps) was.0)
+
+-- the disk after these steps
+abbrev pub disk_after : List Step → DiskState
+disk_after steps = record {
+  seen = λ m. (shown steps m).seen;
+  may_leave = MayLeave steps;
+  moment = length steps;
+  left_since = LeftSince steps;
+  is_named = IsNamed steps;
+  is_flushed = IsFlushed steps;
+  is_alone = IsAlone steps;
+  on_disk = kept_is_seen steps;
+  counts_now = now_counts steps;
+  only_now = now_alone steps;
+  is_honest = Unit {0};
+}
+
+-- a disk keeps its steps with the newest last
+abbrev pub steps_of : MemoryDisk → List Step
+steps_of disk = reverse disk.steps.items
+
+-- the seen file at a path after steps, the oldest first, and the one that a crash leaves
+abbrev pub seen_at : List Step → List ℕ → Option (List ℕ)
+seen_at steps m = (shown (reverse steps) m).seen
+
+abbrev pub kept_at : List Step → List ℕ → Option (List ℕ)
+kept_at steps m = (shown (reverse steps) m).kept

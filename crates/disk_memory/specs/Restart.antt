@@ -1,0 +1,13 @@
+-- A disk after a crash.
+use Rattle.std.specs.Prelude.{ℕ, List}
+use Rattle.disk_io.specs.Disk.{DiskState}
+
+-- an earlier crash might have left the files that are seen now
+abbrev pub IsCrashOf : DiskState → DiskState → Type 0
+IsCrashOf old new = old.may_leave new.seen
+
+-- all that is seen is on the disk, so a crash leaves it unchanged
+pub record IsAllOnDisk (disk : DiskState) : Type 0 where
+  pub named : (m : List ℕ) → disk.is_named m
+  pub flushed : (m : List ℕ) → disk.is_flushed m
+  pub alone : (m : List ℕ) → disk.is_alone m

@@ -1,0 +1,2 @@
+pub mod Inputs
+mod Silent

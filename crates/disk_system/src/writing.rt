@@ -1,0 +1,157 @@
+//! Writes whole files. The bytes go to a temporary file (`beside`) and are flushed to the disk. Then the file
+//! gets its name at once. If a step fails, the temporary file is removed, and the old file is unchanged.
+ghost use Rattle.std.specs.Prelude.{◌≡◌, take, IfErr, OnOk};
+ghost use Rattle.std.specs.Io.KnownBytes.{Appends};
+ghost use Rattle.disk_io.specs.Device.{Failed};
+ghost use Rattle.disk_system.specs.declared.writing.OutputFault.TheVariants.{Device, Memory};
+
+use crate::beside::{make_beside, name_beside};
+use crate::reading::is_missing;
+use disk_io::{Failure, Sink, Watched, send};
+use std::alloc::{AllocError, Global};
+use std::fs::OpenFile;
+use std::io::{ErrorKind, Write};
+use std::rt::Files;
+use std::{fs, io};
+
+/// Why a file was not written.
+#[derive(Clone, Copy, Debug, PartialEq, Eq)]
+pub enum OutputFault {
+    /// The file system failed, or something has the name of a file that was to be new.
+    Device,
+    Memory,
+}
+
+/// A file to be written: its path, its bytes, and how many first bytes show its kind. The temporary name has
+/// the address of the system that writes it, such as `1.10.2`, so that no other system writes that file.
+#[derive(Clone, Copy)]
+pub struct NewFile<'a> {
+    pub path: &'a str,
+    pub own: &'a str,
+    pub bytes: &'a [u8],
+    pub known_by: usize,
+}
+
+impl From<AllocError> for OutputFault {
+    ghost from_gives = { λ _ fault. fault ≡ Memory };
+
+    fn from(_refused: AllocError) -> OutputFault {
+        OutputFault::Memory
+    }
+}
+
+impl From<Failure> for OutputFault {
+    ghost from_gives = { λ _ fault. fault ≡ Device };
+
+    fn from(_failed: Failure) -> OutputFault {
+        OutputFault::Device
+    }
+}
+
+impl From<io::Error> for OutputFault {
+    fn from(error: io::Error) -> OutputFault {
+        match error.kind() {
+            ErrorKind::OutOfMemory => OutputFault::Memory,
+            _ => OutputFault::Device,
+        }
+    }
+}
+
+/// Makes a file of these bytes. If the path exists, that is a fault, and it stays. It does not flush the
+/// folder: `flush_folder` does, once for many files.
+pub fn create_file<R: Files>(
+    alloc: Global,
+    files: &R,
+    new: NewFile<'_>,
+) -> Result<(), OutputFault> {
+    let beside = name_beside(alloc, new.path, new.own)?;
+    let file = make_beside(
+        alloc,
+        files,
+        beside.as_str(),
+        start_of(new.bytes, new.known_by),
+    )?;
+    let done = match write_flushed(file, new.bytes) {
+        Ok(()) => give_new_name(files, beside.as_str(), new.path),
+        failed => failed,
+    };
+    tidied(files, beside.as_str(), done)
+}
+
+/// Flushes a folder to the disk, so that a power cut removes no name from it.
+pub fn flush_folder<R: Files>(files: &R, folder: &str) -> Result<(), OutputFault> {
+    fs::open(files, folder)?.sync_all()?;
+    Ok(())
+}
+
+/// Flushes the folder of the file with this path, or of the one that a symbolic link leads to. Then a power cut
+/// leaves the present file at the path.
+pub fn flush_path<R: Files>(alloc: Global, files: &R, path: &str) -> Result<(), OutputFault> {
+    let target = target_of(alloc, files, path)?;
+    flush_folder(files, folder_of(target.as_str()))
+}
+
+// The bytes by which a file of its kind is known.
+fn start_of(bytes: &[u8], known_by: usize) -> &[u8]
+    ensures { result.now ≡ take known_by bytes.now }
+{
+    &bytes[..known_by.min(bytes.len())]
+}
+
+// The folder of the file with this path.
+fn folder_of(path: &str) -> &str {
+    match path.rsplit_once('/') {
+        Some(("", _)) => "/",
+        Some((folder, _)) => folder,
+        None => ".",
+    }
+}
+
+// Gives the temporary file a new name.
+fn give_new_name<R: Files>(files: &R, beside: &str, path: &str) -> Result<(), OutputFault> {
+    fs::hard_link(files, beside, path)?;
+    fs::remove_file(files, beside)?;
+    Ok(())
+}
+
+// Writes a file that was just made, and flushes it to the disk.
+fn write_flushed<F: Write + OpenFile + Drop>(file: F, bytes: &[u8]) -> Result<(), OutputFault> {
+    let mut device = Watched::new(file);
+    put_bytes(&mut device, bytes)?;
+    device.into_inner().sync_all()?;
+    Ok(())
+}
+
+// Writes all the bytes.
+fn put_bytes<W: Sink>(device: &mut W, bytes: &[u8]) -> Result<(), OutputFault>
+    ensures bytes { OnOk result (Appends (W.contents device.old) (W.contents device.new) bytes.now) }
+    ensures err { IfErr result (λ fault. (fault ≡ Device) × Failed (W.failures device.old) (W.failures device.new)) }
+{
+    let mut sent = 0;
+    send(device, bytes, &mut sent)?;
+    Ok(())
+}
+
+// Removes the temporary file, unless it got the name.
+fn tidied<R: Files>(
+    files: &R,
+    beside: &str,
+    done: Result<(), OutputFault>,
+) -> Result<(), OutputFault>
+    ensures { result ≡ done }
+{
+    if done.is_err() {
+        let _ = fs::remove_file(files, beside);
+    }
+    done
+}
+
+/// The path of the file that is to be written: that which a symbolic link leads to, else the path.
+pub fn target_of<R: Files>(alloc: Global, files: &R, path: &str) -> Result<String, OutputFault> {
+    match fs::symlink_metadata(files, path) {
+        Ok(found) if found.is_symlink() => Ok(files.canonicalize(alloc, path)?.into_string()),
+        Ok(_) => Ok(String::from_str(alloc, path)?),
+        Err(error) if is_missing(&error) => Ok(String::from_str(alloc, path)?),
+        Err(error) => Err(OutputFault::from(error)),
+    }
+}

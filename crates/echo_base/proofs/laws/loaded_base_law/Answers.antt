@@ -1,5 +1,0 @@
-use Rattle.echo_base.proofs.Loaded.{loaded_is_base}
-use Rattle.echo_base.proofs.laws.loaded_base_law.Goals as goal
-
-pub returns : goal.returns
-returns c = loaded_is_base

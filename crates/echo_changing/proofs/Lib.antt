@@ -1,2 +1,0 @@
-pub mod FreeSerials
-pub mod Tossings

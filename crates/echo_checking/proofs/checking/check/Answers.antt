@@ -1,7 +1,0 @@
-use Rattle.std.specs.Option.{option_copied}
-use Rattle.echo_checking.proofs.Checks.{headline}
-use Rattle.echo_checking.proofs.checking.check.Goals as goal
-
-pub returns-clause-headline : goal.returns-clause-headline
-returns-clause-headline g c =
-    headline (option_copied c.args.nodelist) c.args.tag.now c.args.files.now c.args.stopped _ _ c.check_given.result c.check_given.ensures

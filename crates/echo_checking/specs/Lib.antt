@@ -1,4 +1,0 @@
-pub mod AreaTags
-pub mod Checking
-pub mod CheckingAll
-pub mod Picturing

@@ -1,6 +1,0 @@
--- An interruption changes no bytes.
-use Rattle.std.specs.Io.KnownBytes.{Keeps}
-use Rattle.echo_device.proofs.watched.flush_retrying.Given as goal
-
-abbrev pub invariant-tries : goal.invariant-tries
-invariant-tries g l = Keeps (g.D.Write.contents l.initial.device) (g.D.Write.contents l.device)

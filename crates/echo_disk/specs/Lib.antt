@@ -1,4 +1,0 @@
-pub mod Disk
-pub mod Runs
-pub mod Steps
-pub mod Synced

@@ -1,6 +1,0 @@
-use Rattle.std.proofs.Common.{◌≡◌, ◌++◌}
-use Rattle.echo_escape.specs.Words.{spelled}
-use Rattle.echo_escape.proofs.word.push_spelled.Given as goal
-
-abbrev pub invariant-loop-i : goal.invariant-loop-i
-invariant-loop-i l = l.text.items ≡ l.initial.text.items ++ spelled l.word l.i

@@ -1,8 +1,0 @@
-use Rattle.std.proofs.Common.{◌<◌, ℕ, length}
-use Rattle.echo_graph.specs.Rows.{linked}
-use Rattle.echo_graph.specs.Blocks.{block_of, top_of, rank_of, IsInBlock}
-use Rattle.echo_graph.proofs.division.are_blocks.Given as goal
-
-abbrev pub invariant-members : goal.invariant-members
-invariant-members l =
-    (x : ℕ) → x < l.member → IsInBlock (linked l.graph) (length l.graph) (block_of l.blocks) (top_of l.blocks) (rank_of l.blocks) x

@@ -1,8 +1,0 @@
-use Rattle.std.proofs.Common.{◌≡◌, ◌<◌, ℕ, vec_len}
-use Rattle.echo_graph.specs.Rows.{linked}
-use Rattle.echo_graph.specs.Forest.{IsParentAt, parent_of}
-use Rattle.echo_graph.proofs.forest.parents.Given as goal
-
-abbrev pub invariant-members : goal.invariant-members
-invariant-members l =
-    (vec_len l.parents ≡ l.member) × ((a : ℕ) → a < l.member → IsParentAt (linked l.graph) l.levels a (parent_of l.parents.items a))

@@ -1,8 +1,0 @@
-use Rattle.std.proofs.Common.{◌<◌, ℕ, get_or}
-use Rattle.echo_graph.specs.Rows.{linked}
-use Rattle.echo_graph.specs.Pinches.{IsPinch}
-use Rattle.echo_graph.proofs.pinching.first_other.Given as goal
-
-abbrev pub invariant-others : goal.invariant-others
-invariant-others l =
-    (k : ℕ) → k < l.other-index → ¬ IsPinch (linked l.graph) l.at l.one (get_or l.other-items k 0)

@@ -1,8 +1,0 @@
-use Rattle.std.proofs.Common.{◌<◌, ℕ, get_or}
-use Rattle.echo_graph.specs.Rows.{linked}
-use Rattle.echo_graph.specs.Pinches.{IsPinch}
-use Rattle.echo_graph.proofs.pinching.first_pinch_at.Given as goal
-
-abbrev pub invariant-links : goal.invariant-links
-invariant-links l =
-    (k c : ℕ) → k < l.one-index → ¬ IsPinch (linked l.graph) l.at (get_or l.one-items k 0) c

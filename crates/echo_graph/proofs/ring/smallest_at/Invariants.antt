@@ -1,7 +1,0 @@
-use Rattle.std.proofs.Common.{◌≡◌, ◌<◌, ℕ, Some, get_or}
-use Rattle.echo_graph.specs.Levels.{level_of}
-use Rattle.echo_graph.proofs.ring.smallest_at.Given as goal
-
-abbrev pub invariant-links : goal.invariant-links
-invariant-links l =
-    (k : ℕ) → k < l.other-index → ¬ (level_of l.levels (get_or l.other-items k 0) ≡ Some l.level)

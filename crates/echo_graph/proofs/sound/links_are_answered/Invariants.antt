@@ -1,6 +1,0 @@
-use Rattle.std.proofs.Common.{◌<◌, ℕ}
-use Rattle.echo_graph.specs.Rows.{EachAnswered}
-use Rattle.echo_graph.proofs.sound.links_are_answered.Given as goal
-
-abbrev pub invariant-members : goal.invariant-members
-invariant-members l = (a : ℕ) → a < l.member → EachAnswered l.rows a

@@ -1,6 +1,0 @@
-use Rattle.std.proofs.Common.{◌<◌, ℕ, get_or}
-use Rattle.echo_graph.specs.Rows.{Answered}
-use Rattle.echo_graph.proofs.sound.row_is_answered.Given as goal
-
-abbrev pub invariant-links : goal.invariant-links
-invariant-links l = (k : ℕ) → k < l.other-index → Answered l.rows l.member (get_or l.other-items k 0)

@@ -1,5 +1,0 @@
-use Rattle.echo_harm.proofs.PostAndScan.{listed-sent}
-use Rattle.echo_harm.proofs.laws.own_links_show_at_once.Goals as goal
-
-pub returns : goal.returns
-returns c = λ files tag fit. listed-sent files (c.runs_are_known.ensures files fit) tag

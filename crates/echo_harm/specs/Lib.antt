@@ -1,6 +1,0 @@
-pub mod Harms
-pub mod Grave
-pub mod LawsOfRuns
-pub mod Postings
-pub mod Rounds
-pub mod Shown

@@ -1,5 +1,0 @@
-pub mod Digests
-pub mod Found
-pub mod Indexed
-pub mod Placed
-pub mod Told

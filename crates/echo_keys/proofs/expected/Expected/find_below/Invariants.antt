@@ -1,5 +1,0 @@
-use Rattle.echo_keys.specs.Expected.{IsLastSeen}
-use Rattle.echo_keys.proofs.expected.Expected.find_below.Given as goal
-
-abbrev pub invariant-places : goal.invariant-places
-invariant-places l = IsLastSeen l.keys l.self.places.items l.digest l.below l.i l.last

@@ -1,5 +1,0 @@
-use Rattle.echo_keys.proofs.Placed.{stand_where_told}
-use Rattle.echo_keys.proofs.laws.each_message_stands_where_told.Goals as goal
-
-pub returns : goal.returns
-returns c = stand_where_told

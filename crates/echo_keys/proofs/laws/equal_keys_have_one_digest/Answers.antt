@@ -1,5 +1,0 @@
-use Rattle.echo_keys.proofs.Digests.{of_key}
-use Rattle.echo_keys.proofs.laws.equal_keys_have_one_digest.Goals as goal
-
-pub returns : goal.returns
-returns c = of_key

@@ -1,4 +1,0 @@
-pub mod Expected
-pub mod Index
-pub mod Keys
-pub mod Sip

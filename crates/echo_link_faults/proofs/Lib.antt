@@ -1,4 +1,0 @@
-pub mod Judging
-pub mod WrongWords
-pub mod Told
-pub mod TagKeys

@@ -1,9 +1,0 @@
-use Rattle.std.proofs.Common.{subst, sym}
-use Rattle.echo_links.specs.LinkReading.{IsWordOf}
-use Rattle.echo_links.proofs.LinkBytes.{word_read}
-use Rattle.echo_link_faults.proofs.words.address.Goals as goal
-
-pub returns : goal.returns
-returns c =
-    subst (IsWordOf c.args.word.now) (sym c.ok.ensures.value)
-    (word_read c.args.word.now c.parse.result (λ a. (c.parse.ensures.ok a).0) (λ f. (c.parse.ensures.err f).0))

@@ -1,3 +1,0 @@
-pub mod FaultyLines
-pub mod Before
-pub mod Judging

@@ -1,3 +1,0 @@
-pub mod Notes
-pub mod NotedPacket
-pub mod NotedIn

@@ -1,7 +1,0 @@
--- What the messages so far add.
-use Rattle.std.proofs.Common.{◌≡◌}
-use Rattle.echo_numbered.specs.JamAdded.{added_in, added_of}
-use Rattle.echo_numbered.proofs.adding.added_of.Given as goal
-
-abbrev pub invariant-messages : goal.invariant-messages
-invariant-messages g l = added_in l.adding ≡ added_of l.area l.first l.base.cursor l.end l.base.messages l.i

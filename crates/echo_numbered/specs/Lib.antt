@@ -1,4 +1,0 @@
-pub mod Names
-pub mod Numbered
-pub mod Told
-pub mod JamAdded

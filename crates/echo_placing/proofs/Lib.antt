@@ -1,9 +1,0 @@
-pub mod Anchors
-pub mod Changes
-pub mod Each
-pub mod Ended
-pub mod Named
-pub mod Packets
-pub mod Replaced
-pub mod Tried
-pub mod Whole

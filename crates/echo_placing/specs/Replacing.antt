@@ -1,9 +1,0 @@
--- A file that is replaced by way of a path beside it.
-use Rattle.std.specs.Prelude.{◌≡◌, ◌⊎◌, List, ℕ, Some}
-use Rattle.echo_disk.specs.Disk.{Files}
-use Rattle.echo_placing.specs.Changes.{DifferAt}
-
--- under the path what was there or these bytes; what is beside it may be anything, and all else is as it was
-pub record Replaces (path beside bytes : List ℕ) (before after : Files) : Type 0 where
-  pub others : DifferAt (λ m. (m ≡ beside) ⊎ (m ≡ path)) before after
-  pub either : (after path ≡ before path) ⊎ (after path ≡ Some bytes)

@@ -1,7 +1,0 @@
-use Rattle.std.proofs.Common.{◌≡◌, ◌++◌, take}
-use Rattle.std.specs.List.{flat_map}
-use Rattle.echo_print.specs.Pictured.{later_step}
-use Rattle.echo_print.proofs.picture_text.push_later.Given as goal
-
-abbrev pub invariant-steps : goal.invariant-steps
-invariant-steps l = l.lines.items ≡ l.initial.lines.items ++ flat_map later_step (take l.step-index l.steps)

@@ -1,7 +1,0 @@
-use Rattle.std.proofs.Common.{◌≡◌, ◌++◌, take}
-use Rattle.std.specs.List.{flat_map}
-use Rattle.echo_print.specs.Pictured.{quoted_byte}
-use Rattle.echo_print.proofs.picture_text.push_quoted_bytes.Given as goal
-
-abbrev pub invariant-bytes : goal.invariant-bytes
-invariant-bytes l = l.lines.items ≡ l.initial.lines.items ++ flat_map quoted_byte (take l.byte-index l.bytes)

@@ -1,7 +1,0 @@
-use Rattle.std.proofs.Common.{◌≡◌, ◌++◌, take}
-use Rattle.std.specs.List.{flat_map}
-use Rattle.echo_print.specs.Pictured.{system_line}
-use Rattle.echo_print.proofs.picture_text.push_systems.Given as goal
-
-abbrev pub invariant-systems : goal.invariant-systems
-invariant-systems l = l.lines.items ≡ l.initial.lines.items ++ flat_map system_line (take l.system-index l.systems)

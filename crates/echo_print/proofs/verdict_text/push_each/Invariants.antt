@@ -1,8 +1,0 @@
--- The lines of the systems so far are there.
-use Rattle.std.proofs.Common.{◌≡◌, ◌++◌, take}
-use Rattle.std.specs.List.{flat_map}
-use Rattle.echo_print.specs.Checked.{absence_line}
-use Rattle.echo_print.proofs.verdict_text.push_each.Given as goal
-
-abbrev pub invariant-absent : goal.invariant-absent
-invariant-absent l = l.lines.items ≡ l.initial.lines.items ++ flat_map absence_line (take l.one-index l.absent)

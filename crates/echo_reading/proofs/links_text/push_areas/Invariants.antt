@@ -1,8 +1,0 @@
--- The lines of the areas so far are there.
-use Rattle.std.proofs.Common.{◌≡◌, ◌++◌, take}
-use Rattle.std.specs.List.{flat_map}
-use Rattle.echo_reading.specs.LinksShown.{area_line}
-use Rattle.echo_reading.proofs.links_text.push_areas.Given as goal
-
-abbrev pub invariant-areas : goal.invariant-areas
-invariant-areas l = l.lines.items ≡ l.initial.lines.items ++ flat_map (area_line l.path l.file) (take l.k l.file.areas)

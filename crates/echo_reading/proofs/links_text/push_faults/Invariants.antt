@@ -1,8 +1,0 @@
--- The lines of the faults so far are there.
-use Rattle.std.proofs.Common.{◌≡◌, ◌++◌, take}
-use Rattle.std.specs.List.{flat_map}
-use Rattle.echo_reading.specs.LinksShown.{faulty_text}
-use Rattle.echo_reading.proofs.links_text.push_faults.Given as goal
-
-abbrev pub invariant-faults : goal.invariant-faults
-invariant-faults l = l.lines.items ≡ l.initial.lines.items ++ flat_map (faulty_text l.path) (take l.fault-index l.faults)

@@ -1,4 +1,0 @@
-use Rattle.echo_reading.proofs.listing.list.Goals as goal
-
-pub returns : goal.returns
-returns g c = c.list_read.ensures _ c.in_ok-base.ensures.ok

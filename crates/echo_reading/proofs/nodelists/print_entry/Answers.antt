@@ -1,6 +1,0 @@
-use Rattle.echo_status.proofs.Lines.{none_begun}
-use Rattle.echo_reading.proofs.Pushed.{at_error}
-use Rattle.echo_reading.proofs.nodelists.print_entry.Goals as goal
-
-pub returns-in_err-push_entry-clause-begun : goal.returns-in_err-push_entry-clause-begun
-returns-in_err-push_entry-clause-begun g c = at_error c.from_residual.result (none_begun _ _)

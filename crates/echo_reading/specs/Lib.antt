@@ -1,7 +1,0 @@
-pub mod Written
-pub mod Showing
-pub mod Nodelists
-pub mod Listing
-pub mod LinksShown
-pub mod Linking
-pub mod Exporting

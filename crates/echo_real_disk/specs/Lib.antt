@@ -1,4 +1,0 @@
-pub mod Next
-pub mod Noted
-pub mod Replay
-pub mod Unknown

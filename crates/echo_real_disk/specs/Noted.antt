@@ -1,7 +1,0 @@
--- The record of one call in the trace.
-use Rattle.std.specs.Prelude.{ℕ, List, [], ◌∷◌}
-use Rattle.echo_real_disk.specs.declared.trace.Call.{Call}
-
--- its numbers, with the answer last, a path, another path, and bytes
-abbrev pub note_of : Call → List ℕ × (List ℕ × (List ℕ × List ℕ))
-note_of call = (call.what ∷ call.at ∷ call.asked ∷ call.answer ∷ [], (call.path.now, (call.other.now, call.bytes.now)))

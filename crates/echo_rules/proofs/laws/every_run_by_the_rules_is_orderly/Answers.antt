@@ -1,6 +1,0 @@
-use Rattle.std.proofs.Common.{IsTrue}
-use Rattle.echo_rules.proofs.Runs.{every_run-orderly}
-use Rattle.echo_rules.proofs.laws.every_run_by_the_rules_is_orderly.Goals as goal
-
-pub returns : goal.returns
-returns g c = λ can can_keys net tidy same compares run. every_run-orderly can can_keys net tidy (λ a b. IsTrue (same a b)) compares run

@@ -1,5 +1,0 @@
-use Rattle.echo_rules.proofs.Telling.{told-plainly}
-use Rattle.echo_rules.proofs.laws.plain_telling_is_enough.Goals as goal
-
-pub returns : goal.returns
-returns g c = λ net tidy m to x seen link plain. told-plainly net tidy m to x seen link plain

@@ -1,4 +1,0 @@
-pub mod Nets
-pub mod Events
-pub mod Rules
-pub mod Orderly

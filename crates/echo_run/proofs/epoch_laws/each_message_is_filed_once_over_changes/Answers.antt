@@ -1,9 +1,0 @@
-use Rattle.echo_run.specs.Epochs.{nothing_yet, run_of_epochs}
-use Rattle.echo_run.proofs.TosserLaws.{the_laws}
-use Rattle.echo_run.proofs.WellFormed.{filed-once}
-use Rattle.echo_run.proofs.OverChanges.{epochs-ok}
-use Rattle.echo_run.proofs.epoch_laws.each_message_is_filed_once_over_changes.Goals as goal
-
-pub returns : goal.returns
-returns c = λ epochs fit s h key.
-    filed-once (run_of_epochs epochs) (epochs-ok the_laws epochs nothing_yet fit (record { systems = λ t i. absurd i; packets = λ p i. absurd i })) s h key

@@ -1,8 +1,0 @@
-use Rattle.echo_run.proofs.DeliveredOnce.{run-delivered}
-use Rattle.echo_run.proofs.laws.delivered_packets_are_a_set.Goals as goal
-
-pub returns : goal.returns
-returns c = record {
-  once = λ files events. (run-delivered files events).once;
-  there = λ files events. (run-delivered files events).there;
-}

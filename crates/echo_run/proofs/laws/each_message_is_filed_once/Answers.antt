@@ -1,8 +1,0 @@
-use Rattle.echo_run.specs.Run.{run_of}
-use Rattle.echo_run.proofs.TosserLaws.{the_laws}
-use Rattle.echo_run.proofs.WellFormed.{filed-once}
-use Rattle.echo_run.proofs.WholeRuns.{run-ok}
-use Rattle.echo_run.proofs.laws.each_message_is_filed_once.Goals as goal
-
-pub returns : goal.returns
-returns c = λ files fit events s h key. filed-once (run_of files events) (run-ok the_laws files fit events) s h key

@@ -1,6 +1,0 @@
-use Rattle.echo_run.proofs.TosserLaws.{the_laws}
-use Rattle.echo_run.proofs.Headline.{every_run-orderly}
-use Rattle.echo_run.proofs.laws.every_run_of_a_tidy_area_is_orderly.Goals as goal
-
-pub returns : goal.returns
-returns c = every_run-orderly the_laws

@@ -1,7 +1,0 @@
-use Rattle.std.proofs.Common.{sym}
-use Rattle.echo_run.specs.Run.{start}
-use Rattle.echo_run.proofs.ExportLists.{events-packets}
-use Rattle.echo_run.proofs.laws.packets_are_exports.Goals as goal
-
-pub returns : goal.returns
-returns c = λ files events. sym (events-packets events (start files) 0)

@@ -1,5 +1,0 @@
-use Rattle.echo_run.proofs.TidyNets.{tidy-net}
-use Rattle.echo_run.proofs.rules_laws.tidy_files_are_a_tidy_net.Goals as goal
-
-pub returns : goal.returns
-returns c = tidy-net

@@ -1,8 +1,0 @@
--- A property of every link file that was read.
-use Rattle.std.specs.Prelude.{List}
-use Rattle.echo_graph.specs.Walk.{Among}
-use Rattle.echo_links.specs.Links.{IsFile, LinkFile}
-
--- each of the files is one that was read
-abbrev pub FilesFit : List LinkFile → Type 0
-FilesFit files = (file : LinkFile) → Among file files → IsFile file

@@ -1,3 +1,0 @@
-pub mod BesidePaths
-pub mod Failures
-pub mod Sizes

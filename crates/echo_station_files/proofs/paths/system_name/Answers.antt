@@ -1,7 +1,0 @@
-use Rattle.std.proofs.Common.{List, ℕ, All, subst, sym}
-use Rattle.echo_station_files.proofs.BesidePaths.{IsPlain, plain_address}
-use Rattle.echo_station_files.proofs.paths.system_name.Goals as goal
-
-pub returns-clause-plain : goal.returns-clause-plain
-returns-clause-plain c =
-    subst (λ (l : List ℕ). All IsPlain l) (sym c.in_ok-name.ensures) (plain_address c.system.result _ c.system.ensures.own c.system.ensures.file.address)

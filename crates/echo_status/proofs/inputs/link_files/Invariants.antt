@@ -1,7 +1,0 @@
--- The inputs so far are link files.
-use Rattle.std.proofs.Common.{take}
-use Rattle.echo_status.specs.Inputs.{AreLinkFiles}
-use Rattle.echo_status.proofs.inputs.link_files.Given as goal
-
-abbrev pub invariant-inputs : goal.invariant-inputs
-invariant-inputs l = AreLinkFiles (take l.input-index l.inputs) l.files.items

@@ -1,5 +1,0 @@
-use Rattle.echo_steps.proofs.Copies.{scanned_accepted}
-use Rattle.echo_steps.proofs.laws.scan_law.Goals as goal
-
-pub returns : goal.returns
-returns c = scanned_accepted

@@ -1,8 +1,0 @@
-use Rattle.std.proofs.Common.{arith, rules}
-use Rattle.echo_steps.proofs.Encoding.{header_size}
-use Rattle.echo_steps.proofs.packet.size_beside.Goals as goal
-
-pub returns : goal.returns
-returns c =
-    let size = header_size c.args.header (search rules) (search rules) in
-    omega (arith, size)

@@ -1,7 +1,0 @@
-pub mod Stamps
-pub mod SystemState
-pub mod Posting
-pub mod Tossing
-pub mod Scanning
-pub mod Purging
-pub mod PacketFiles

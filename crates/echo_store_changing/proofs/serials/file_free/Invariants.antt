@@ -1,7 +1,0 @@
--- The serials so far are taken, and nothing was filed.
-use Rattle.echo_store_changing.proofs.FreePostings.{HasLooked}
-use Rattle.echo_store_changing.proofs.serials.file_free.Given as goal
-
-abbrev pub invariant-serials : goal.invariant-serials
-invariant-serials g l =
-    HasLooked l.links (g.T.Store.state l.initial.store) (g.T.Store.state l.store) (g.T.Store.failures l.initial.store) (g.T.Store.failures l.store) l.words.serial l.serial l._steps

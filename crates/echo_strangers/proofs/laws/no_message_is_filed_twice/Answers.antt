@@ -1,7 +1,0 @@
-use Rattle.echo_strangers.specs.Lone.{lone_run}
-use Rattle.echo_run.proofs.TosserLaws.{the_laws}
-use Rattle.echo_strangers.proofs.WellFiled.{base-once, run-ok}
-use Rattle.echo_strangers.proofs.laws.no_message_is_filed_twice.Goals as goal
-
-pub returns : goal.returns
-returns c = λ file fits events plain key. base-once the_laws (lone_run file events).system (run-ok the_laws file fits events plain) key

@@ -1,7 +1,0 @@
-use Rattle.echo_run.proofs.TosserLaws.{the_laws}
-use Rattle.echo_strangers.proofs.Filings.{run-new, run-posted}
-use Rattle.echo_strangers.proofs.WellFiled.{run-due}
-use Rattle.echo_strangers.proofs.laws.what_is_due_is_filed.Goals as goal
-
-pub returns : goal.returns
-returns c = record { postings = run-posted; from_links = run-due the_laws; new_keys = run-new }

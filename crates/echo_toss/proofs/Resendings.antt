@@ -1,0 +1,68 @@
+-- What is sent again, message by message.
+use Rattle.std.proofs.Common.{◌≡◌, ℕ, zero, suc, ◌+◌, ◌<◌, ◌≤◌, List, [], ◌∷◌, ◌++◌, length, get_or, take, drop, map, refl, sym, ap, ◌∙◌, Some, append_assoc, append-nil, length-take, arith, add-one}
+use Rattle.std.specs.Prelude.{Bool, true, false, cond, filter, min, ◌&&◌}
+use Rattle.std.proofs.lemmas.List.{drop_all, map-append}
+use Rattle.std.proofs.lemmas.List.Elements.{filter-append}
+use Rattle.std.proofs.lemmas.Option.{get_or_from_slice_get, slice_get_within}
+use Rattle.echo_addr.specs.declared.address.Address.{Address}
+use Rattle.echo_packet.specs.Message.{Message}
+use Rattle.echo_links.specs.Links.{LinkFile}
+use Rattle.echo_filed.specs.Filed.{Filed}
+use Rattle.model_steps.specs.Resending.{is_resent, is_whole_in}
+use Rattle.model_steps.specs.Scanning.{copy_to, goes_to}
+use Rattle.echo_toss.specs.Exports.{IsResentAt, Outgoing, copy_out, goes_out, outgoing_of}
+use Rattle.echo_toss.proofs.Exports.{same_copies}
+
+-- the copies of those of some messages that are sent again
+abbrev pub copies_of : LinkFile → List ℕ → Address → List Filed → List Message
+copies_of file area to ms = map (copy_to file to) (filter (is_resent file area to) ms)
+
+-- the first items, from one of them on
+front_at : {X : Type 0} (c i : ℕ) (xs : List X) (d : X) → i < c → i < length xs → drop i (take c xs) ≡ get_or xs i d ∷ drop (suc i) (take c xs)
+front_at zero i xs d h w = absurd (omega arith)
+front_at (suc c) i [] d h w = absurd (omega arith)
+front_at (suc c) zero (x ∷ xs) d h w = refl
+front_at (suc c) (suc i) (x ∷ xs) d h w = front_at c i xs d (omega arith) (omega arith)
+
+one_more : {X Y : Type 0} (p : X → Bool) (f : X → Y) (x : X) (xs : List X) → map f (filter p (x ∷ [])) ++ map f (filter p xs) ≡ map f (filter p (x ∷ xs))
+one_more p f x xs = sym (ap (map f) (filter-append p (x ∷ []) xs) ∙ map-append f (filter p (x ∷ [])) (filter p xs))
+
+-- one message more was looked at
+pub next_resent : (file : LinkFile) (area : List ℕ) (to : Address) (messages : List Filed) (cursor i end : ℕ) (old new all : List Message)
+    → end ≡ min cursor (length messages) → i < end → IsResentAt file area to messages i old new
+    → old ++ copies_of file area to (drop i (take cursor messages)) ≡ all
+    → new ++ copies_of file area to (drop (i + 1) (take cursor messages)) ≡ all
+next_resent file area to messages cursor i end old new all bound within (m, here, grown) so_far =
+    let rest = drop (suc i) (take cursor messages) in
+    let front : drop i (take cursor messages) ≡ m ∷ rest =
+    front_at cursor i messages m (omega (arith, bound, within)) (slice_get_within messages i m here)
+    ∙ ap (λ (x : Filed). x ∷ rest) (get_or_from_slice_get messages i m m here) in
+    rw add-one
+    (ap (λ (l : List Message). l ++ copies_of file area to rest) grown
+    ∙ (append_assoc old (copies_of file area to (m ∷ [])) (copies_of file area to rest)
+    ∙ (ap (λ (l : List Message). old ++ l)
+    (one_more (is_resent file area to) (copy_to file to) m rest ∙ ap (λ (l : List Filed). copies_of file area to l) (sym front))
+    ∙ so_far)))
+
+-- all messages that were scanned were looked at
+pub all_resent : (file : LinkFile) (area : List ℕ) (to : Address) (messages : List Filed) (cursor i end : ℕ) (found all : List Message)
+    → end ≡ min cursor (length messages) → end ≤ i → found ++ copies_of file area to (drop i (take cursor messages)) ≡ all → found ≡ all
+all_resent file area to messages cursor i end found all bound past so_far =
+    let none : drop i (take cursor messages) ≡ [] = drop_all i (take cursor messages) (omega (arith, bound, past, length-take cursor messages)) in
+    sym (append-nil found) ∙ (ap (λ (l : List Filed). found ++ copies_of file area to l) (sym none) ∙ so_far)
+
+-- a message of another area, or a purged one
+pub not_whole : (file : LinkFile) (area : List ℕ) (to : Address) (m : Filed) (old : List Message) → is_whole_in area m ≡ false
+    → old ≡ old ++ copies_of file area to (m ∷ [])
+not_whole file area to m old other =
+    sym (append-nil old) ∙ ap (λ (b : Bool). old ++ map (copy_to file to) (cond (b && goes_to file to m) (m ∷ []) [])) (sym other)
+
+-- another one: it is sent again where it goes to the address
+pub whole : (file : LinkFile) (area : List ℕ) (to : Address) (m : Filed) (one : Outgoing) (old new : List Message) → is_whole_in area m ≡ true
+    → one ≡ outgoing_of file m → new ≡ old ++ map (copy_out to) (filter (goes_out to) (one ∷ []))
+    → new ≡ old ++ copies_of file area to (m ∷ [])
+whole file area to m one old new asked is out =
+    out
+    ∙ (ap (λ (o : Outgoing). old ++ map (copy_out to) (filter (goes_out to) (o ∷ []))) is
+    ∙ (ap (λ (l : List Message). old ++ l) (same_copies file to (m ∷ []))
+    ∙ ap (λ (b : Bool). old ++ map (copy_to file to) (cond (b && goes_to file to m) (m ∷ []) [])) (sym asked)))

@@ -1,5 +1,0 @@
-use Rattle.law_crashes.proofs.Whole.{whole-are-among}
-use Rattle.law_crashes.proofs.laws.whole_commands_are_among_them.Goals as goal
-
-pub returns : goal.returns
-returns c = whole-are-among

@@ -1,4 +1,0 @@
-pub mod Disks
-pub mod Stopping
-pub mod CanEnd
-pub mod OverCrashes

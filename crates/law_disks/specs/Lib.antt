@@ -1,4 +1,0 @@
-pub mod Kinds
-pub mod OnDisks
-pub mod Scans
-pub mod Neighbours

@@ -1,9 +1,0 @@
-pub mod Tosses
-pub mod Purgings
-pub mod Alone
-pub mod Steps
-pub mod Shown
-pub mod Stays
-pub mod Crashes
-pub mod Grown
-pub mod OverCrashes

@@ -1,5 +1,0 @@
-use Rattle.law_lone_station.proofs.Stays.{alone-in-order}
-use Rattle.law_lone_station.proofs.laws.lone_stations_are_in_order.Goals as goal
-
-pub returns : goal.returns
-returns c = alone-in-order

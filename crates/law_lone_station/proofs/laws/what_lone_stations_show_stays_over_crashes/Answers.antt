@@ -1,5 +1,0 @@
-use Rattle.law_lone_station.proofs.OverCrashes.{alone-stays-over}
-use Rattle.law_lone_station.proofs.laws.what_lone_stations_show_stays_over_crashes.Goals as goal
-
-pub returns : goal.returns
-returns c = alone-stays-over

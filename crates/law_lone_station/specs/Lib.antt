@@ -1,4 +1,0 @@
-pub mod LoneStations
-pub mod AloneInOrder
-pub mod LoneDisks
-pub mod AloneOverCrashes

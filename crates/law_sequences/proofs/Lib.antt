@@ -1,4 +1,0 @@
-pub mod Seated
-pub mod Sequence
-pub mod GoingOn
-pub mod Scanning

@@ -1,0 +1,64 @@
+-- A command changes the base of its own station alone.
+use Rattle.std.proofs.Common.{◌≡◌, ◌≢◌, ◌⊎◌, inl, inr, refl, ap, ◌∙◌, ℕ, zero, suc, Bool, true, false, List, [], ◌∷◌}
+use Rattle.base_file.specs.Base.{Base}
+use Rattle.model_steps.specs.declared.stamp.Stamp.{Stamp}
+use Rattle.model_run.specs.Run.{change, nth}
+use Rattle.base_store.specs.Store.{all_scanned, purged}
+use Rattle.law_stations.specs.Commands.{Command, CommandEvent, Post, Purge, Scan, Toss}
+use Rattle.law_stations.specs.Nets.{Net, with_base}
+use Rattle.law_stations.specs.Disks.{Disks, naming}
+use Rattle.law_stations.specs.Stopping.{Ends, EndsOne, EndsSome, LeadsFar, MayHappen, Moves, ScansFar, Writes}
+
+-- an item of another index
+pub change-other : {X : Type 0} (f : X → X) (i j : ℕ) (xs : List X) → j ≢ i → nth j (change i f xs) ≡ nth j xs
+change-other f i j [] other = refl
+change-other f zero zero (x ∷ xs) other = absurd (other refl)
+change-other f zero (suc j) (x ∷ xs) other = refl
+change-other f (suc i) zero (x ∷ xs) other = refl
+change-other f (suc i) (suc j) (x ∷ xs) other = change-other f i j xs (λ e. other (ap suc e))
+
+-- a name changes no station
+naming-stations : (net : Net) (bytes : List ℕ) (b : Bool) → (naming net bytes b).stations ≡ net.stations
+naming-stations net bytes true = refl
+naming-stations net bytes false = refl
+
+pub one-stations : (i : ℕ) (d new : Disks) → EndsOne i d new → new.net.stations ≡ d.net.stations
+one-stations i d new e = by e.ends
+  where
+    by : Ends e.cursor d.net e.file new.net e.left → new.net.stations ≡ d.net.stations
+    by (inl (less, same, left)) = ap (λ (n : Net). n.stations) same ∙ naming-stations d.net e.file.bytes e.file.named
+    by (inr (least, same, left)) = ap (λ (n : Net). n.stations) same
+
+pub some-stations : (n i : ℕ) (d new : Disks) → EndsSome n i d new → new.net.stations ≡ d.net.stations
+some-stations zero i d new same = ap (λ (x : Disks). x.net.stations) same
+some-stations (suc n) i d new (next, first, later) = some-stations n i next new later ∙ one-stations i d next first
+
+pub written-stations : (i : ℕ) (d new : Disks) → Writes i d new → new.net.stations ≡ d.net.stations
+written-stations i d new w = ap (λ (x : Disks). x.net.stations) w.becomes
+
+-- what another base in one place leaves elsewhere
+left-elsewhere : (net new : Net) (i j : ℕ) (base : Base) → new.stations ≡ change i (with_base base) net.stations → j ≢ i → nth j new.stations ≡ nth j net.stations
+left-elsewhere net new i j base same other = ap (nth j) same ∙ change-other (with_base base) i j net.stations other
+
+far-elsewhere : (stamp : Stamp) (i j : ℕ) (d new : Disks) → j ≢ i → ScansFar stamp i d new → nth j new.net.stations ≡ nth j d.net.stations
+far-elsewhere stamp i j d new other (n, ended, ends, rest) = by rest ∙ ap (nth j) (some-stations n i d ended ends)
+  where
+    by : (new ≡ ended) ⊎ (Writes i ended new ⊎ ((m : ℕ) × (moved : Disks) × Moves stamp i ended moved × EndsSome m i moved new)) → nth j new.net.stations ≡ nth j ended.net.stations
+    by (inl same) = ap (λ (x : Disks). nth j x.net.stations) same
+    by (inr (inl writes)) = ap (nth j) (written-stations i ended new writes)
+    by (inr (inr (m, moved, moves, names))) =
+        ap (nth j) (some-stations m i moved new names)
+        ∙ left-elsewhere ended.net moved.net i j (all_scanned moves.scans.station.base) (ap (λ (x : Disks). x.net.stations) moves.becomes) other
+
+led-elsewhere : (command : Command) (i j : ℕ) (d new : Disks) → j ≢ i → LeadsFar command d i new → nth j new.net.stations ≡ nth j d.net.stations
+led-elsewhere (Post words body) i j d new other (posts, beside) =
+    left-elsewhere d.net new.net i j posts.next (ap (λ (n : Net). n.stations) posts.becomes) other
+led-elsewhere (Scan stamp) i j d new other scan = far-elsewhere stamp i j d new other scan
+led-elsewhere Purge i j d new other (purges, beside) =
+    left-elsewhere d.net new.net i j (purged purges.station.base) (ap (λ (n : Net). n.stations) purges.becomes) other
+led-elsewhere (Toss indexes) i j d new other (n, tosses, beside) =
+    left-elsewhere d.net new.net i j tosses.next (ap (λ (x : Net). x.stations) tosses.becomes) other
+
+pub elsewhere : (event : CommandEvent) (j : ℕ) (d new : Disks) → j ≢ event.station → MayHappen event d new → nth j new.net.stations ≡ nth j d.net.stations
+elsewhere event j d new other (inl same) = ap (λ (x : Disks). nth j x.net.stations) same
+elsewhere event j d new other (inr leads) = led-elsewhere event.command event.station j d new other leads

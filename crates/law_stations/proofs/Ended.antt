@@ -1,0 +1,61 @@
+-- What stands beside names of a station is brought to its end, one file after another.
+use Rattle.std.proofs.Common.{◌≡◌, ◌≢◌, inl, inr, ⊎_elim, ◌∙◌, ℕ, zero, suc, ◌<◌, ◌≤◌, Bool, true, false, List, [], ◌∷◌, ◌++◌, append-nil, append_assoc, refl, sym, subst, ap}
+use Rattle.std.proofs.lemmas.Bool.{cases_eq, cases_lt}
+use Rattle.model_graph.specs.Walk.{Among}
+use Rattle.model_graph.proofs.Reached.{Among-push_cases}
+use Rattle.law_stations.specs.Nets.{Net}
+use Rattle.law_stations.specs.CanEnd.{CanEnd, LeftCanEnd}
+use Rattle.law_stations.specs.Disks.{Beside, HasCursor, naming}
+use Rattle.law_stations.specs.Stopping.{EndsOne, HasNoneBeside}
+use Rattle.law_stations.proofs.Whole.{disks_with}
+
+-- a packet that got its name changed no cursor
+cursor-stays : (net : Net) (i cursor : ℕ) (bytes : List ℕ) (named : Bool) → HasCursor net i cursor → HasCursor (naming net bytes named) i cursor
+cursor-stays net i cursor bytes true has = has
+cursor-stays net i cursor bytes false has = has
+
+-- one file of the station behind others is brought to its end
+record OneEnds (i cursor : ℕ) (net : Net) (before : List Beside) (file : Beside) (after : List Beside) : Type 0 where
+  next : Net
+  has : HasCursor next i cursor
+  one : EndsOne i (disks_with net (before ++ file ∷ after)) (disks_with next (before ++ after))
+
+one-ends : (i cursor : ℕ) (net : Net) (before : List Beside) (file : Beside) (after : List Beside) → file.station ≡ i → HasCursor net i cursor → OneEnds i cursor net before file after
+one-ends i cursor net before file after own has = ⊎_elim
+    (λ (less : file.number < cursor). record {
+      next = naming net file.bytes file.named;
+      has = cursor-stays net i cursor file.bytes file.named has;
+      one = record { before = before; file = file; after = after; stood = refl; own = own; cursor = cursor; is_cursor = has; left = []; ends = inl (less, refl, inl refl); stands = refl };
+    })
+    (λ (most : cursor ≤ file.number). record {
+      next = net;
+      has = has;
+      one = record { before = before; file = file; after = after; stood = refl; own = own; cursor = cursor; is_cursor = has; left = []; ends = inr (most, refl, refl); stands = refl };
+    })
+    (cases_lt file.number cursor)
+
+-- one file more of another station
+none-more : (i : ℕ) (before : List Beside) (file : Beside) → HasNoneBeside i before → file.station ≢ i → HasNoneBeside i (before ++ file ∷ [])
+none-more i before file none other f is =
+    ⊎_elim (λ (was : Among f before). none f was) (λ (same : f ≡ file) e. other (ap (λ (b : Beside). b.station) (sym same) ∙ e)) (Among-push_cases f file before is)
+
+-- those behind files of other stations
+can-end : (i cursor : ℕ) (after before : List Beside) (net : Net) → HasNoneBeside i before → HasCursor net i cursor → CanEnd i (disks_with net (before ++ after))
+can-end i cursor [] before net none has = record {
+  steps = zero;
+  ended = disks_with net (before ++ []);
+  ends = refl;
+  none = subst (HasNoneBeside i) (sym (append-nil before)) none;
+}
+can-end i cursor (file ∷ rest) before net none has = ⊎_elim
+    (λ (own : file.station ≡ i).
+    let first = one-ends i cursor net before file rest own has in
+    let later = can-end i cursor rest before first.next none first.has in
+    record { steps = suc later.steps; ended = later.ended; ends = (disks_with first.next (before ++ rest), first.one, later.ends); none = later.none })
+    (λ (other : file.station ≢ i).
+    let later = can-end i cursor rest (before ++ file ∷ []) net (none-more i before file none other) has in
+    subst (λ (l : List Beside). CanEnd i (disks_with net l)) (append_assoc before (file ∷ []) rest) later)
+    (cases_eq file.station i)
+
+pub left-can-end : LeftCanEnd
+left-can-end i d cursor has = can-end i cursor d.beside [] d.net (λ file is. absurd is) has

@@ -1,0 +1,183 @@
+-- A command that was run on a station leads to a net in which the station has the base that it made.
+use Rattle.std.proofs.Common.{◌≡◌, ◌⊎◌, inl, inr, ⊎_elim, ◌∙◌, ℕ, List, Result, Ok, Err, refl, sym, subst, ap}
+use Rattle.std.specs.Prelude.{IfErr, OnOk}
+use Rattle.base_file.specs.Base.{Base}
+use Rattle.disk_io.specs.Disk.{DiskState, Files}
+use Rattle.disk_io.specs.Runs.{LeavesOnly}
+use Rattle.echo_links.specs.Links.{LinkFile}
+use Rattle.echo_links.specs.LinkLines.{LinksOf}
+use Rattle.model_run.specs.Run.{change, nth}
+use Rattle.model_run.proofs.Lists.{some_same}
+use Rattle.cmd_status.specs.declared.fault.Fault.{Fault}
+use Rattle.cmd_status.specs.Devices.{Output}
+use Rattle.cmd_store.specs.declared.stop.Stop.{Stop}
+use Rattle.cmd_store.specs.declared.stop.Stop.TheVariants.{Met, Store}
+use Rattle.station.specs.Place.{KeepsElsewhere, Place, SameElsewhere, StandsOrWasLeft}
+use Rattle.station.specs.Running.{IsKept, IsRun, IsRunOn, MadeOrWasLeft, RunsIn, StandsAsBefore, StandsWhereMet}
+use Rattle.law_stations.specs.Commands.{Command}
+use Rattle.law_stations.specs.Nets.{with_base}
+use Rattle.law_stations.proofs.Pairs.{changed-there}
+use Rattle.law_stations.specs.Disks.{Disks}
+use Rattle.law_stations.specs.Stopping.{LeadsFar}
+use Rattle.law_stations.specs.OnDisks.{AreAsMay, DoesAsMay, IsAfter, IsAsBefore, IsLinkedOn, IsStationAt, LeadsFarBy, ReadsLinks, ShowsStation}
+
+-- disks to which a command of this kind leads, on which the station has this base
+pub record LeadsTo (IsCommand : Command → Type 0) (i : ℕ) (d : Disks) (next : Base) : Type 0 where
+  pub after : Disks
+  pub stations : after.net.stations ≡ change i (with_base next) d.net.stations
+  pub command : Command
+  pub is : IsCommand command
+  pub leads : LeadsFar command d i after
+
+-- what is made may be what was held
+abbrev pub MadeOrHeld : (Command → Type 0) → ℕ → Disks → Base → Base → Type 0
+MadeOrHeld IsCommand i d base next = (next ≡ base) ⊎ LeadsTo IsCommand i d next
+
+module _ (place : Place) (links : List ℕ) (i : ℕ) (d : Disks) (old new : DiskState) (at : IsStationAt place links i old d) (kept : KeepsElsewhere place old new) where
+  -- the base of the station
+  abbrev pub base : Base
+  base = at.shows.station.base
+
+  -- what the link file of the station says
+  abbrev pub SaysIn : LinkFile → Type 0
+  SaysIn file = LinksOf at.shows.station.links (Ok file)
+
+  -- files that a crash left show the station as it was
+  as-it-was : (c : Files) → c links ≡ old.seen links → place.stands_for base c → ShowsStation place links i c d
+  as-it-was c linked stands =
+      record { station = at.shows.station; there = at.shows.there; of_links = linked ∙ at.shows.of_links; stands = stands }
+
+  -- what a link file says that was read
+  pub says-so : (Reads : LinkFile → Type 0) → ReadsLinks Reads links old → (file : LinkFile) → Reads file → SaysIn file
+  says-so Reads read file is =
+      let of_links = read file is in subst (λ (b : List ℕ). LinksOf b (Ok file)) (some_same (sym of_links.seen ∙ at.shows.of_links)) of_links.judged
+
+  -- the link file, which was on the disk elsewhere
+  outside-links : (c : Files) → SameElsewhere place old c → c links ≡ old.seen links
+  outside-links c same = same links at.outside at.linked.named at.linked.flushed
+
+  pub same-links : new.seen links ≡ old.seen links
+  same-links = kept.seen links at.outside
+
+  pub still-linked : IsLinkedOn links new
+  still-linked = record { named = kept.named links at.outside at.linked.named; flushed = kept.flushed links at.outside at.linked.flushed }
+
+  pub left-links : (c : Files) → new.may_leave c → c links ≡ old.seen links
+  left-links c left = new.on_disk links still-linked.named still-linked.flushed c left ∙ same-links
+
+  -- a crash that left the base as it was, or what one before might have left
+  was-left : (c : Files) → StandsOrWasLeft place old base c → old.may_leave c ⊎ ShowsStation place links i c d
+  was-left c (inl alone) = inr (as-it-was c (outside-links c alone.elsewhere) alone.stands)
+  was-left c (inr was) = inl was
+
+  -- the disk after a command that left the base as it was
+  is-as-before : StandsAsBefore place old new base → IsAsBefore place links i d new
+  is-as-before it = record {
+    at = record { shows = as-it-was new.seen same-links it.seen; linked = still-linked; outside = at.outside };
+    on_disk = λ c left. as-it-was c (left-links c left) (it.stands c left);
+  }
+
+  -- where a command met a fault
+  module _ {A : Type 0} (IsAnswer : LinkFile → Base → Type 0) (Makes May : LinkFile → Base → Base → Type 0) (Reads : LinkFile → Type 0) (IsShut Stops : Fault → Type 0) (failed : Type 0) (result : Result A Stop) where
+    stands-so : IsRun IsAnswer Makes May place Reads failed old new result → (fault : Fault) → result ≡ Err (Met fault) → StandsAsBefore place old new base
+    stands-so run fault is = subst (λ (r : Result A Stop). IfErr r (StandsWhereMet place old new base)) is (run.runs base at.shows.stands).met
+
+    abbrev is-shut-by : Stop → Type 0
+    is-shut-by (Met fault) = IsShut fault
+    is-shut-by (Store cause) = Unit {0}
+
+    pub stays : (out out_now : Output) → RunsIn IsAnswer Makes May place Reads IsShut Stops failed old new out out_now result → (fault : Fault) → result ≡ Err (Met fault)
+        → IsAsBefore place links i d new ⊎ IsShut fault
+    stays out out_now (inl run) fault is = inl (is-as-before (stands-so run fault is))
+    stays out out_now (inr (inl shut)) fault is = inr (subst (λ (r : Result A Stop). IfErr r is-shut-by) (sym shut.is ∙ is) shut.cause)
+    stays out out_now (inr (inr stopped)) fault is = inl (is-as-before (stopped.stands base at.shows.stands))
+
+  module _ (IsCommand : Command → Type 0) where
+    -- that command
+    pub led : (next : Base) (to : LeadsTo IsCommand i d next) → LeadsFarBy IsCommand i d to.after
+    led next to = record { command = to.command; is = to.is; leads = to.leads }
+
+    -- or after a command that made another base
+    pub after-it : (next : Base) (to : LeadsTo IsCommand i d next) (c : Files) → c links ≡ old.seen links → place.stands_for next c → ShowsStation place links i c to.after
+    after-it next to c linked stands = record {
+      station = with_base next at.shows.station;
+      there = ap (nth i) to.stations ∙ changed-there i (with_base next) at.shows.station d.net.stations at.shows.there;
+      of_links = linked ∙ at.shows.of_links;
+      stands = stands;
+    }
+
+    -- the disk after a command that made this base and committed it
+    abbrev pub is-after : (next : Base) (to : LeadsTo IsCommand i d next) → place.stands_for next new.seen → ((c : Files) → new.may_leave c → place.stands_for next c) → IsAfter IsCommand place links i d new
+    is-after next to seen stands = record {
+      after = to.after;
+      leads = led next to;
+      at = record { shows = after-it next to new.seen same-links seen; linked = still-linked; outside = at.outside };
+      on_disk = λ c since. after-it next to c (left-links c since) (stands c since);
+    }
+
+    may-be : (c : Files) → old.may_leave c ⊎ ShowsStation place links i c d → old.may_leave c ⊎ AreAsMay IsCommand place links i d c
+    may-be c (inl was) = inl was
+    may-be c (inr shows) = inr (record { after = d; leads = inl refl; shows = shows })
+
+    module _ {A : Type 0} (IsAnswer : LinkFile → Base → Type 0) (Makes May : LinkFile → Base → Base → Type 0) (Reads : LinkFile → Type 0) (read : ReadsLinks Reads links old) (IsShut Stops : Fault → Type 0) (failed : Type 0) (result : Result A Stop)
+        (may : (file : LinkFile) (next : Base) → SaysIn file → May file base next → MadeOrHeld IsCommand i d base next)
+        (makes : (file : LinkFile) (next : Base) → SaysIn file → Makes file base next → LeadsTo IsCommand i d next) where
+      -- what a command does that ran
+      ran : IsRun IsAnswer Makes May place Reads failed old new result → DoesAsMay IsCommand place links i d old new result
+      ran run = record {
+        crash = left;
+        done = well;
+        stopped = λ fault is c since. was-left c ((stands-so IsAnswer Makes May Reads IsShut Stops failed result run fault is).crash.each c since);
+        same_links = same-links;
+        linked = still-linked;
+        elsewhere = record { crash = beside; keeps = kept };
+      }
+        where
+          on : IsRunOn (IsAnswer run.file base) (Makes run.file base) (May run.file base) place old new base result
+          on = run.runs base at.shows.stands
+
+          says : SaysIn run.file
+          says = says-so Reads read run.file run.read
+
+          made-so : (c : Files) (next : Base) → c links ≡ old.seen links → place.stands_for next c → MadeOrHeld IsCommand i d base next → AreAsMay IsCommand place links i d c
+          made-so c next linked stands (inl same) =
+              record { after = d; leads = inl refl; shows = as-it-was c linked (subst (λ (b : Base). place.stands_for b c) same stands) }
+          made-so c next linked stands (inr to) =
+              record { after = to.after; leads = inr (led next to); shows = after-it next to c linked stands }
+
+          left : (c : Files) → new.left_since old.moment c → old.may_leave c ⊎ AreAsMay IsCommand place links i d c
+          left c since = by (on.crash.each c since)
+            where
+              by : MadeOrWasLeft place old (May run.file base) base c → old.may_leave c ⊎ AreAsMay IsCommand place links i d c
+              by (inr was) = inl was
+              by (inl alone) =
+                  let linked = outside-links c alone.elsewhere in
+                  ⊎_elim
+                  (λ (stands : place.stands_for base c). inr (record { after = d; leads = inl refl; shows = as-it-was c linked stands }))
+                  (λ (now : (next : Base) × May run.file base next × place.stands_for next c). inr (made-so c now.0 linked now.2 (may run.file now.0 says now.1)))
+                  alone.stands
+
+          well : (value : A) → result ≡ Ok value → IsAfter IsCommand place links i d new
+          well value ok =
+              let it : IsKept place (Makes run.file base) new = subst (λ (r : Result A Stop). OnOk r (IsKept place (Makes run.file base) new)) ok on.kept in
+              is-after it.next (makes run.file it.next says it.made) it.seen it.stands
+
+          beside : (c : Files) → new.left_since old.moment c → old.may_leave c ⊎ SameElsewhere place old c
+          beside c since = ⊎_elim (λ alone. inr alone.elsewhere) (λ was. inl was) (on.crash.each c since)
+
+      -- what one does that did not
+      not-run : (fault : Fault) → result ≡ Err (Met fault) → LeavesOnly old new (StandsOrWasLeft place old base) → DoesAsMay IsCommand place links i d old new result
+      not-run fault is leaves = record {
+        crash = λ c since. may-be c (was-left c (leaves.each c since));
+        done = λ value ok. absurd (cc (sym ok ∙ is));
+        stopped = λ other met c since. was-left c (leaves.each c since);
+        same_links = same-links;
+        linked = still-linked;
+        elsewhere = record { crash = λ c since. ⊎_elim (λ alone. inr alone.elsewhere) (λ was. inl was) (leaves.each c since); keeps = kept };
+      }
+
+      -- what a command does
+      pub does : (out out_now : Output) → RunsIn IsAnswer Makes May place Reads IsShut Stops failed old new out out_now result → DoesAsMay IsCommand place links i d old new result
+      does out out_now (inl run) = ran run
+      does out out_now (inr (inl shut)) = not-run shut.fault shut.is (shut.crash base at.shows.stands)
+      does out out_now (inr (inr stopped)) = not-run stopped.fault stopped.is (stopped.stands base at.shows.stands).crash

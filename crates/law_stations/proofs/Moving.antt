@@ -1,0 +1,166 @@
+-- A scan is stopped before its base is committed, or comes to that: then its packets wait for their names.
+use Rattle.std.proofs.Common.{◌≡◌, ◌≢◌, inl, inr, refl, sym, subst, ap, ◌∙◌, ℕ, zero, suc, ◌+◌, ◌≤◌, ◌<◌, arith, append-nil, append_assoc, length-append, List, [], ◌∷◌, ◌++◌, length, map, Option, Some, None}
+use Rattle.std.specs.List.{AllByRecursion}
+use Rattle.std.proofs.lemmas.Bool.{cases_lt}
+use Rattle.std.proofs.lemmas.List.{drop_all, length-map}
+use Rattle.base_file.specs.Base.{Base}
+use Rattle.model_graph.specs.Walk.{Among}
+use Rattle.echo_links.specs.Links.{LinkFile}
+use Rattle.echo_filed.specs.Filed.{Filed}
+use Rattle.model_steps.specs.declared.stamp.Stamp.{Stamp}
+use Rattle.model_steps.specs.PacketFiles.{PacketFile}
+use Rattle.model_steps.specs.Scanning.{packets_of, recipients, scanned}
+use Rattle.echo_filed.specs.Sets.{address_set}
+use Rattle.model_run.specs.Run.{change, nth}
+use Rattle.model_run.proofs.Lists.{nth-append, some_same}
+use Rattle.base_store.specs.Store.{all_scanned}
+use Rattle.cmd_report.specs.Scanned.{file_sent}
+use Rattle.law_stations.specs.Commands.{Scans}
+use Rattle.law_stations.specs.Nets.{Net, Paired, Station, bytes_of, with_base, with_left}
+use Rattle.law_stations.proofs.Pairs.{changed-there, paired-append}
+use Rattle.law_stations.specs.Disks.{Beside, Disks, HasCursor, cursor_of, cursors}
+use Rattle.law_stations.specs.Stopping.{IsOfNext, Moves, Writes, beside_of}
+use Rattle.law_stations.proofs.Counting.{IsItem, below, from, nones, waits-append, waits-from, waits-nones}
+use Rattle.law_stations.proofs.Tracking.{IsTagged, Tracks, cursor-too, has-cursor, paired-so}
+
+-- files that a stopped scan wrote have no packet that waits
+unfinished-tagged : (packets : List (List ℕ)) (at : List ℕ) (i c : ℕ) (files : List Beside) → nth i at ≡ Some c → AllByRecursion (IsOfNext i c) files
+    → Paired (IsTagged packets at) files (nones files)
+unfinished-tagged packets at i c [] there are = tt
+unfinished-tagged packets at i c (file ∷ files) there are = (
+  inr (λ n is.
+      let own : nth i at ≡ Some n = subst (λ (j : ℕ). nth j at ≡ Some n) are.0.own is in
+      let one = some_same (sym there ∙ own) in
+      let number = are.0.number in
+      omega (arith, one, number)),
+  unfinished-tagged packets at i c files there are.1,
+)
+
+pub written : (i : ℕ) (d new : Disks) (net : Net) → Tracks d net → Writes i d new → Tracks new net
+written i d new net t w = subst (λ (x : Disks). Tracks x net) (sym w.becomes) (record {
+  stations = t.stations;
+  postings = t.postings;
+  places = t.places;
+  named = t.named;
+  tags = t.tags ++ nones w.files;
+  beside = paired-append (IsTagged net.packets (cursors net)) d.beside w.files t.tags (nones w.files) t.beside
+      (unfinished-tagged net.packets (cursors net) i w.cursor w.files (cursor-too d.net net i w.cursor t.stations w.is_cursor) w.are);
+  each = λ k. let was = t.each k in let split = waits-append k t.tags (nones w.files) in let none = waits-nones k w.files in omega (arith, was, split, none);
+  tossed = t.tossed;
+})
+
+nth-middle : {X : Type 0} (before : List X) (x : X) (after : List X) → nth (length before) (before ++ x ∷ after) ≡ Some x
+nth-middle [] x after = refl
+nth-middle (y ∷ before) x after = nth-middle before x after
+
+-- the packets of a scan wait for their names, each under its own index
+waiting-tagged : (front : List (List ℕ)) (at : List ℕ) (i c : ℕ) (ps : List PacketFile) → ((q : PacketFile) → Among q ps → (n : ℕ) × (nth i at ≡ Some n) × (c < n))
+    → Paired (IsTagged (front ++ map bytes_of ps) at) (map (beside_of i c) ps) (from (length front) ps)
+waiting-tagged front at i c [] less = tt
+waiting-tagged front at i c (p ∷ ps) less =
+    let rest = waiting-tagged (front ++ p.bytes ∷ []) at i c ps (λ q h. less q (inr h)) in
+    let long : length (front ++ p.bytes ∷ []) ≡ suc (length front) = let e = length-append front (p.bytes ∷ []) in omega (arith, e) in
+    let P : List (List ℕ) → Type 0 = λ all. Paired (IsTagged all at) (map (beside_of i c) ps) (from (suc (length front)) ps) in
+    let Q : ℕ → Type 0 = λ n. Paired (IsTagged ((front ++ p.bytes ∷ []) ++ map bytes_of ps) at) (map (beside_of i c) ps) (from n ps) in
+    ((nth-middle front p.bytes (map bytes_of ps), refl, less p (inl refl)), subst P (append_assoc front (p.bytes ∷ []) (map bytes_of ps)) (subst Q long rest))
+
+-- a change of another station
+map-beside : {X Y : Type 0} (g : X → Y) (f : X → X) (i j : ℕ) (xs : List X) → j ≢ i → nth j (map g (change i f xs)) ≡ nth j (map g xs)
+map-beside g f i j [] other = refl
+map-beside g f zero zero (x ∷ xs) other = absurd (other refl)
+map-beside g f zero (suc j) (x ∷ xs) other = refl
+map-beside g f (suc i) zero (x ∷ xs) other = refl
+map-beside g f (suc i) (suc j) (x ∷ xs) other = map-beside g f i j xs (λ e. other (ap suc e))
+
+-- where nothing waits there are no packets
+none-scanned : (file : LinkFile) (base : List Filed) (cursor : ℕ) (stamp : Stamp) → length base ≤ cursor → scanned file base cursor stamp ≡ []
+unfolding scanned packets_of recipients address_set
+none-scanned file base cursor stamp past = ap (packets_of file stamp) (drop_all cursor base past)
+
+-- where there are packets something waited
+pub some-waits : (file : LinkFile) (base : List Filed) (cursor : ℕ) (stamp : Stamp) (packets : List PacketFile) → packets ≡ map (file_sent cursor) (scanned file base cursor stamp)
+    → (q : PacketFile) → Among q packets → cursor < length base
+some-waits file base cursor stamp packets made q h = elim (cases_lt cursor (length base)) [
+  | inl less ↦ less
+  | inr past ↦ (
+      let P : List PacketFile → Type 0 = λ qs. Among q qs in
+      absurd (subst P (made ∙ ap (map (file_sent cursor)) (none-scanned file base cursor stamp past)) h))
+]
+
+-- the cursors of a station before a scan, and after it, where it has packets
+pub scans-less : (stamp : Stamp) (net new : Net) (i : ℕ) → (scans : Scans stamp net i new) → (q : PacketFile) → Among q scans.packets
+    → scans.station.base.cursor < length scans.station.base.messages
+scans-less stamp net new i scans =
+    let base = scans.station.base in
+    some-waits scans.file base.messages base.cursor stamp scans.packets scans.made.sent
+
+pub now-cursor : (net : Net) (i : ℕ) (station : Station) (next : Base) (packets : List PacketFile) → nth i net.stations ≡ Some station
+    → HasCursor (with_left net i packets next) i next.cursor
+now-cursor net i station next packets there =
+    has-cursor (with_left net i packets next) i (with_base next station) (changed-there i (with_base next) station net.stations there)
+
+module _ (stamp : Stamp) (i : ℕ) (d new : Disks) (net : Net) (t : Tracks d net) (m : Moves stamp i d new) where
+  abbrev packets : List PacketFile
+  packets = m.scans.packets
+
+  abbrev next : Base
+  next = all_scanned m.scans.station.base
+
+  -- the net after the scan
+  abbrev pub then : Net
+  then = with_left net i packets next
+
+  there : nth i net.stations ≡ Some m.scans.station
+  there = subst (λ (ss : List Station). nth i ss ≡ Some m.scans.station) t.stations m.scans.at.there
+
+  -- the scan of the disks is one of the net
+  pub scans : Scans stamp net i then
+  scans = record {
+    station = m.scans.station;
+    file = m.scans.file;
+    at = record { there = there; links = m.scans.at.links };
+    packets = packets;
+    made = m.scans.made;
+    becomes = refl;
+  }
+
+  abbrev files : List (List ℕ)
+  files = net.packets ++ map bytes_of packets
+
+  same : (x : Beside) → Among x d.beside → nth x.station (cursors then) ≡ nth x.station (cursors net)
+  same x h = map-beside cursor_of (with_base next) i x.station net.stations (m.none x h)
+
+  -- a file of another station
+  others : (x : Beside) (o : Option ℕ) → Among x d.beside → IsTagged net.packets (cursors net) x o → IsTagged files (cursors then) x o
+  others x None h (inl named) = inl named
+  others x None h (inr late) = inr (λ c is. late c (sym (same x h) ∙ is))
+  others x (Some k) h (at, unnamed, (c, is, less)) = (nth-append k x.bytes net.packets (map bytes_of packets) at, unnamed, (c, same x h ∙ is, less))
+
+  own : (q : PacketFile) → Among q packets → (n : ℕ) × (nth i (cursors then) ≡ Some n) × (m.cursor < n)
+  own q h =
+      let one = some_same (sym m.is_cursor ∙ has-cursor d.net i m.scans.station m.scans.at.there) in
+      let less = scans-less stamp d.net m.scanned i m.scans q h in
+      (next.cursor, now-cursor net i m.scans.station next packets there, omega (arith, one, less))
+
+  pub moved : Tracks new then
+  moved = subst (λ (x : Disks). Tracks x then) (sym m.becomes) (record {
+    stations = ap (change i (with_base next)) t.stations;
+    postings = t.postings;
+    places = t.places;
+    named =
+        let P : List (List ℕ) → Type 0 = λ ps. Paired (IsItem files) ps t.places in
+        subst P (sym (append-nil d.net.packets)) (paired-so (IsItem net.packets) (IsItem files) d.net.packets t.places
+        (λ bytes k h is. nth-append k bytes net.packets (map bytes_of packets) is) t.named);
+    tags = t.tags ++ from (length net.packets) packets;
+    beside = paired-append (IsTagged files (cursors then)) d.beside (map (beside_of i m.cursor) packets) t.tags (from (length net.packets) packets)
+        (paired-so (IsTagged net.packets (cursors net)) (IsTagged files (cursors then)) d.beside t.tags others t.beside)
+        (waiting-tagged net.packets (cursors then) i m.cursor packets own);
+    each = λ k.
+        let was = t.each k in
+        let split = waits-append k t.tags (from (length net.packets) packets) in
+        let more = waits-from k (length net.packets) packets in
+        let long : length net.packets + length packets ≡ length files =
+        let a = length-append net.packets (map bytes_of packets) in let b = length-map packets bytes_of in omega (arith, a, b) in
+        omega (arith, was, split, more, ap (below k) long);
+    tossed = t.tossed;
+  })

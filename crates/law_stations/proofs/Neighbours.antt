@@ -1,0 +1,50 @@
+-- What a command leaves elsewhere leaves other stations as they were.
+use Rattle.std.proofs.Common.{◌≡◌, ◌≢◌, ◌⊎◌, inl, inr, ◌∙◌, ℕ, List}
+use Rattle.disk_io.specs.Disk.{DiskState, Files}
+use Rattle.station.specs.Place.{Place, SameElsewhere}
+use Rattle.law_stations.specs.Commands.{CommandEvent}
+use Rattle.law_stations.specs.Disks.{Disks}
+use Rattle.law_stations.specs.Stopping.{MayHappen}
+use Rattle.law_stations.proofs.Elsewhere.{elsewhere}
+use Rattle.law_stations.specs.Neighbours.{IsApart, OthersStay, SameOnDisk, StandsOnDisk, StaysOnDisk}
+use Rattle.law_stations.specs.OnDisks.{LeavesElsewhere, ShowsStation}
+
+module _ (place other : Place) (old new : DiskState) (links : List ℕ) (i : ℕ) (event : CommandEvent) (d after : Disks) (left : LeavesElsewhere place old new) (apart : IsApart other links place)
+    (was : StandsOnDisk other links i old d) (off : i ≢ event.station) (happens : MayHappen event d after) where
+  -- files in which what was on the disk elsewhere is as it was show the station
+  abbrev shows : (c : Files) → c links ≡ old.seen links → SameOnDisk other old c → ShowsStation other links i c after
+  shows c linked same = record {
+    station = was.at.shows.station;
+    there = elsewhere event i d after off happens ∙ was.at.shows.there;
+    of_links = linked ∙ was.at.shows.of_links;
+    stands = was.kept c same;
+  }
+
+  left-so : (c : Files) → old.may_leave c ⊎ SameElsewhere place old c → ShowsStation other links i c after
+  left-so c (inl before) = shows c (old.on_disk links was.at.linked.named was.at.linked.flushed c before) (λ m own named flushed. old.on_disk m named flushed c before)
+  left-so c (inr same) = shows c (same links apart.outside was.at.linked.named was.at.linked.flushed) (λ m own. same m (apart.own m own))
+
+  still-on-disk : (c : Files) → SameOnDisk other new c → SameOnDisk other old c
+  still-on-disk c same m own named flushed =
+      let out = apart.own m own in
+      same m own (left.keeps.named m out named) (left.keeps.flushed m out flushed) ∙ left.keeps.seen m out
+
+  stays : StaysOnDisk other links i old new d after
+  stays = record {
+    same = elsewhere event i d after off happens;
+    crash = λ c since. left-so c (left.crash c since);
+    at = record {
+      at = record {
+        shows = shows new.seen (left.keeps.seen links apart.outside) (λ m own named flushed. left.keeps.seen m (apart.own m own));
+        linked = record {
+          named = left.keeps.named links apart.outside was.at.linked.named;
+          flushed = left.keeps.flushed links apart.outside was.at.linked.flushed;
+        };
+        outside = was.at.outside;
+      };
+      kept = λ c same. was.kept c (still-on-disk c same);
+    };
+  }
+
+pub others-stay : (place other : Place) (old new : DiskState) → OthersStay place other old new
+others-stay place other old new links i event d after left apart was off happens = stays place other old new links i event d after left apart was off happens

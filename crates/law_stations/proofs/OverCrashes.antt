@@ -1,0 +1,85 @@
+-- What one station shows without crashes its disks show over them.
+use Rattle.std.proofs.Common.{◌≡◌, inl, inr, refl, sym, subst, List, [], ◌∷◌}
+use Rattle.model_graph.specs.Walk.{Among}
+use Rattle.law_stations.specs.Nets.{Paired, first_net}
+use Rattle.law_stations.specs.AloneInOrder.{IsInOrderAlone, ShowsStill}
+use Rattle.law_stations.specs.LoneStations.{LoneCommand, LoneStation, PostAlone, PurgeAlone, ScanAlone, TossAny}
+use Rattle.law_stations.proofs.Stays.{alone-in-order, alone-stays}
+use Rattle.law_stations.proofs.EachCommand.{first-tracks, has-net}
+use Rattle.law_stations.specs.AloneOverCrashes.{AloneIsInOrderOverCrashes, AloneStaysOverCrashes}
+use Rattle.law_stations.specs.LoneDisks.{lone_disks_at_first, on_net}
+use Rattle.law_stations.proofs.Grown.{all-grow}
+use Rattle.law_stations.proofs.Crashes.{IsLikeAlone, followed-all-alone}
+
+like-purge : (command : LoneCommand) → IsLikeAlone command PurgeAlone → command ≡ PurgeAlone
+like-purge (PostAlone words body) like = cc
+like-purge (ScanAlone stamp) like = cc
+like-purge PurgeAlone like = refl
+like-purge (TossAny files) (others, like) = cc
+
+-- where a purge was called among the commands of the net, one was on the disks
+purged-too : (commands plain : List LoneCommand) → Paired IsLikeAlone commands plain → Among PurgeAlone plain → Among PurgeAlone commands
+purged-too [] [] like h = h
+purged-too [] (p ∷ plain) like h = absurd like
+purged-too (c ∷ commands) [] like h = absurd h
+purged-too (c ∷ commands) (p ∷ plain) like h = elim h [
+  | inl e ↦ (let P : LoneCommand → Type 0 = λ x. IsLikeAlone c x in inl (sym (like-purge c (subst P (sym e) like.0))))
+  | inr t ↦ inr (purged-too commands plain like.1 t)
+]
+
+in-order-too : (commands plain : List LoneCommand) (s : LoneStation) → Paired IsLikeAlone commands plain → IsInOrderAlone plain s → IsInOrderAlone commands s
+in-order-too commands plain s like is = record {
+  packets = is.packets;
+  base = is.base;
+  filed_once = is.filed_once;
+  only_come = λ file messages cursor holds m h.
+      let (o, come, form) = is.only_come file messages cursor holds m h in (
+        o,
+        come,
+        (elim form [
+          | inl same ↦ inl same
+          | inr left ↦ inr (record { purged = purged-too commands plain like left.purged; scanned_before = left.scanned_before; stub = left.stub })
+        ]),
+      );
+  all_posted = is.all_posted;
+  all_come = is.all_come;
+  sent_once = is.sent_once;
+  never = is.never;
+  waiting = is.waiting;
+  owed = is.owed;
+  echomail = is.echomail;
+  copied_from = is.copied_from;
+}
+
+pub alone-in-order-over : AloneIsInOrderOverCrashes
+alone-in-order-over links file of_links commands s happen =
+    let f = followed-all-alone commands (lone_disks_at_first links) s (first_net (links ∷ [])) (first-tracks (links ∷ [])) happen in
+    record {
+      net = f.next;
+      has = has-net s.disks f.next f.tracks;
+      in_order = in-order-too commands f.plain (on_net s f.next) f.like (alone-in-order links file of_links f.plain (on_net s f.next) f.happen);
+    }
+
+stays-too : (commands plain : List LoneCommand) (s new : LoneStation) → Paired IsLikeAlone commands plain → ShowsStill plain s new → ShowsStill commands s new
+stays-too commands plain s new like is = record {
+  cursors = is.cursors;
+  messages = λ f f' messages messages' cursor cursor' holds holds' i m e. elim (is.messages f f' messages messages' cursor cursor' holds holds' i m e) [
+    | inl same ↦ inl same
+    | inr left ↦ inr (purged-too commands plain like left.0, left.1, left.2)
+  ];
+  packets = is.packets;
+}
+
+pub alone-stays-over : AloneStaysOverCrashes
+alone-stays-over links file of_links earlier later s new first rest =
+    let f = followed-all-alone earlier (lone_disks_at_first links) s (first_net (links ∷ [])) (first-tracks (links ∷ [])) first in
+    let g = followed-all-alone later s new f.next f.tracks rest in
+    record {
+      net = f.next;
+      has = has-net s.disks f.next f.tracks;
+      next = g.next;
+      has_next = has-net new.disks g.next g.tracks;
+      shows = stays-too later g.plain (on_net s f.next) (on_net new g.next) g.like
+          (alone-stays links file of_links f.plain g.plain (on_net s f.next) (on_net new g.next) f.happen g.happen);
+      packets = all-grow later s new rest;
+    }

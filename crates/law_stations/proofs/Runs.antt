@@ -1,0 +1,133 @@
+-- Each command that was run on a station does what its command event may do.
+use Rattle.std.proofs.Common.{◌≡◌, inl, inr, ◌∙◌, sym, subst, ap, arith, ℕ, Bool, List, length, take, Option, Result, Ok, slice_get}
+use Rattle.std.specs.Prelude.{OnOk}
+use Rattle.std.proofs.lemmas.List.{take_all}
+use Rattle.base_file.specs.Base.{Base}
+use Rattle.cmd_report.specs.declared.posting.NewMessage.{NewMessage}
+use Rattle.cmd_report.specs.declared.replying.Answer.{Answer}
+use Rattle.cmd_report.specs.Coming.{Coming}
+use Rattle.disk_io.specs.Disk.{DiskState}
+use Rattle.echo_links.specs.Links.{LinkFile}
+use Rattle.echo_links.specs.LinkLines.{LinksOf}
+use Rattle.cmd_store.specs.declared.letter.Letter.{Letter}
+use Rattle.cmd_store.specs.declared.mailed.MailWords.{MailWords}
+use Rattle.cmd_store.specs.MailPosted.{Mails, MailsOn}
+use Rattle.echo_packet.specs.declared.limits.Limits.{Limits}
+use Rattle.cmd_status.specs.declared.fault.Fault.{Fault}
+use Rattle.cmd_status.specs.Devices.{Device, Output}
+use Rattle.cmd_store.specs.declared.stop.Stop.{Stop}
+use Rattle.cmd_store.specs.FreeSerial.{PostsAs, PostsAsOn}
+use Rattle.cmd_store.specs.Purged.{HoldsOrPurges, Purges, PurgesOn}
+use Rattle.cmd_store.specs.Replied.{Replies, RepliesOn}
+use Rattle.cmd_store.specs.Tossed.{Tosses, TossesIn, TossesTo}
+use Rattle.echo_toss.specs.PacketsIn.{state_in}
+use Rattle.station.specs.Place.{KeepsElsewhere, Place}
+use Rattle.station.specs.Running.{IsKept, RunsIn}
+use Rattle.law_stations.specs.Commands.{IsPacketAt, TossesAll, whole_of}
+use Rattle.law_stations.specs.Kinds.{IsPurge, IsToss}
+use Rattle.law_stations.specs.Nets.{Paired, with_indexes}
+use Rattle.law_stations.specs.Disks.{Disks}
+use Rattle.law_stations.specs.DiskKinds.{IsMail, IsPostAs, IsReplyAs}
+use Rattle.law_stations.specs.OnDisks.{AsMay, IsAfterToss, IsStationAt, ReadsLinks, StaysWhereMet, TossesAsEvent, TossesAsMay}
+use Rattle.law_stations.proofs.Events.{holding-or-purging, mailing, posting-as, purging, replying, tossing}
+use Rattle.law_stations.proofs.Leading.{does, is-after, says-so, stays}
+
+-- the packets that were tossed whole, by what the toss answered
+delivered-so : (indexes delivered : List ℕ) (stopped answer : Option Fault) (behind left : List Coming) → stopped ≡ answer → behind ≡ left
+    → with_indexes (whole_of (take (length indexes) indexes) stopped behind) delivered ≡ with_indexes (whole_of indexes answer left) delivered
+delivered-so indexes delivered stopped answer behind left is is_left =
+    ap (λ (l : List ℕ). with_indexes (whole_of l stopped behind) delivered) (take_all (length indexes) indexes (omega arith))
+    ∙ ap (λ (s : Option Fault). with_indexes (whole_of indexes s behind) delivered) is
+    ∙ ap (λ (l : List Coming). with_indexes (whole_of indexes answer l) delivered) is_left
+
+module _ (place : Place) (Reads : LinkFile → Type 0) (IsShut Stops : Fault → Type 0) (failed : Type 0) (old new : DiskState) (kept : KeepsElsewhere place old new) (out out_now : Output) where
+  -- where a command met a fault
+  pub stays-where-met : {A : Type 0} (IsAnswer : LinkFile → Base → Type 0) (Makes May : LinkFile → Base → Base → Type 0) (result : Result A Stop)
+      → RunsIn IsAnswer Makes May place Reads IsShut Stops failed old new out out_now result → StaysWhereMet place IsShut old new result
+  stays-where-met IsAnswer Makes May result runs i d links at =
+      stays place links i d old new at kept IsAnswer Makes May Reads IsShut Stops failed result out out_now runs
+
+  pub purge-does : (result : Result (Unit {0}) Stop) → RunsIn (λ file base. PurgesOn base out out_now result) (λ file. Purges) (λ file. HoldsOrPurges) place Reads IsShut Stops failed old new out out_now result
+      → AsMay (λ base. IsPurge) place Reads old new result
+  purge-does result runs i d links read at =
+      does place links i d old new at kept IsPurge
+      (λ file base. PurgesOn base out out_now result) (λ file. Purges) (λ file. HoldsOrPurges) Reads read IsShut Stops failed result
+      (λ file next says may. holding-or-purging at.shows.station file i d at.shows.there says next may)
+      (λ file next says purges. purging at.shows.station file i d at.shows.there says next purges) out out_now runs
+
+  pub post-does : (free : Bool) (words : NewMessage) (body : List ℕ) (result : Result (Unit {0}) Stop)
+      → RunsIn (λ file base. PostsAsOn free words (state_in file base) body out out_now result) (λ file. PostsAs free file words body) (λ file. PostsAs free file words body) place Reads IsShut Stops failed old new out out_now result
+      → AsMay (λ base. IsPostAs free words body) place Reads old new result
+  post-does free words body result runs i d links read at =
+      let leads = λ (file : LinkFile) (next : Base) (says : LinksOf at.shows.station.links (Ok file)) (posts : PostsAs free file words body at.shows.station.base next).
+      posting-as at.shows.station file i d at.shows.there says (IsPostAs free words body) free words body next (λ command is. is) posts in
+      does place links i d old new at kept (IsPostAs free words body)
+      (λ file base. PostsAsOn free words (state_in file base) body out out_now result) (λ file. PostsAs free file words body) (λ file. PostsAs free file words body) Reads read IsShut Stops failed result
+      (λ file next says posts. inr (leads file next says posts)) leads out out_now runs
+
+  pub reply-does : (index : ℕ) (answer : Answer) (body : List ℕ) (result : Result (Unit {0}) Stop)
+      → RunsIn (λ file base. RepliesOn (slice_get base.messages index) answer (state_in file base) body out out_now result) (λ file. Replies file index answer body) (λ file. Replies file index answer body)
+      place Reads IsShut Stops failed old new out out_now result → AsMay (IsReplyAs index answer body) place Reads old new result
+  reply-does index answer body result runs i d links read at =
+      let leads = λ (file : LinkFile) (next : Base) (says : LinksOf at.shows.station.links (Ok file)) (replies : Replies file index answer body at.shows.station.base next).
+      replying at.shows.station file i d at.shows.there says index answer body next replies in
+      does place links i d old new at kept (IsReplyAs index answer body at.shows.station.base)
+      (λ file base. RepliesOn (slice_get base.messages index) answer (state_in file base) body out out_now result) (λ file. Replies file index answer body) (λ file. Replies file index answer body)
+      Reads read IsShut Stops failed result (λ file next says replies. inr (leads file next says replies)) leads out out_now runs
+
+  pub mail-does : (letter : Letter) (asked : MailWords) (result : Result (Unit {0}) Stop)
+      → RunsIn (λ file base. MailsOn letter asked (state_in file base) out out_now result) (λ file. Mails file letter asked) (λ file. Mails file letter asked) place Reads IsShut Stops failed old new out out_now result
+      → AsMay (λ base. IsMail letter asked) place Reads old new result
+  mail-does letter asked result runs i d links read at =
+      let leads = λ (file : LinkFile) (next : Base) (says : LinksOf at.shows.station.links (Ok file)) (mails : Mails file letter asked at.shows.station.base next).
+      mailing at.shows.station file i d at.shows.there says letter asked next mails in
+      does place links i d old new at kept (IsMail letter asked)
+      (λ file base. MailsOn letter asked (state_in file base) out out_now result) (λ file. Mails file letter asked) (λ file. Mails file letter asked)
+      Reads read IsShut Stops failed result (λ file next says mails. inr (leads file next says mails)) leads out out_now runs
+
+  module _ {R : Type 0} (noting : Bool) (limits : Limits) (device : R → Device)
+      (known : (file : LinkFile) (files : List Coming) (base next : Base) → Tosses noting limits device file files base next → TossesAll files file base next)
+      (answered : (file : LinkFile) (files left : List Coming) (base next : Base) (answer : Option Fault) → TossesTo noting limits device file base files left out out_now (Ok answer) next
+      → (all : TossesAll files file base next) × (all.stopped ≡ answer) × (all.left ≡ left)) (files left : List Coming) (result : Result (Option Fault) Stop) where
+    -- a toss that was run
+    abbrev TossRuns : Type 0
+    TossRuns =
+        RunsIn (λ file base. TossesIn noting limits device file base files left out out_now result) (λ file base. TossesTo noting limits device file base files left out out_now result) (λ file. Tosses noting limits device file files)
+        place Reads IsShut Stops failed old new out out_now result
+
+    module _ (indexes : List ℕ) (i : ℕ) (d : Disks) (links : List ℕ) (are : Paired (IsPacketAt d.net.packets) indexes files) (read : ReadsLinks Reads links old) (at : IsStationAt place links i old d) where
+      abbrev base : Base
+      base = at.shows.station.base
+
+      -- where it ended well
+      ended : (answer : Option Fault) → result ≡ Ok answer → TossRuns → IsAfterToss indexes left place links i d new answer
+      ended answer ok (inl run) =
+          let says = says-so place links i d old new at kept Reads read run.file run.read in
+          let on = run.runs base at.shows.stands in
+          let it : IsKept place (TossesTo noting limits device run.file base files left out out_now result) new =
+          subst (λ (r : Result (Option Fault) Stop). OnOk r (IsKept place (TossesTo noting limits device run.file base files left out out_now result) new)) ok on.kept in
+          let (all, stopped, behind) =
+          answered run.file files left base it.next answer (subst (λ (r : Result (Option Fault) Stop). TossesTo noting limits device run.file base files left out out_now r it.next) ok it.made) in
+          record {
+            at = is-after place links i d old new at kept (IsToss indexes) it.next (tossing at.shows.station run.file i d at.shows.there says files indexes it.next are all) it.seen it.stands;
+            delivered = delivered-so indexes d.net.delivered all.stopped answer all.left left stopped behind;
+          }
+      ended answer ok (inr (inl shut)) = absurd (cc (sym ok ∙ shut.is))
+      ended answer ok (inr (inr stopped)) = absurd (cc (sym ok ∙ stopped.is))
+
+      toss-at : TossRuns → TossesAsEvent indexes left place links i d old new result
+      toss-at runs =
+          let leads = λ (file : LinkFile) (next : Base) (says : LinksOf at.shows.station.links (Ok file)) (tosses : Tosses noting limits device file files base next).
+          tossing at.shows.station file i d at.shows.there says files indexes next are (known file files base next tosses) in
+          record {
+            does =
+                does place links i d old new at kept (IsToss indexes)
+                (λ file b. TossesIn noting limits device file b files left out out_now result) (λ file b. TossesTo noting limits device file b files left out out_now result) (λ file. Tosses noting limits device file files)
+                Reads read IsShut Stops failed result
+                (λ file next says tosses. inr (leads file next says tosses))
+                (λ file next says to. leads file next says (record { stopped = to.tossed.stopped; left = left; run = to.tossed.run; each = to.tossed.each; state = to.state })) out out_now runs;
+            ends = λ answer ok. ended answer ok runs;
+          }
+
+    pub toss-does : TossRuns → TossesAsMay files left place Reads old new result
+    toss-does runs indexes i d links are read at = toss-at indexes i d links are read at runs

@@ -1,0 +1,94 @@
+-- A net goes on by a scan, and by a toss that ended well.
+use Rattle.std.proofs.Common.{◌∙◌, inl, inr, ⊎_elim, refl, append_assoc, ℕ, List, ◌++◌, Some, None, Result}
+use Rattle.std.specs.Prelude.{codes}
+use Rattle.base_file.specs.Base.{Base}
+use Rattle.disk_io.specs.Disk.{DiskState, Files}
+use Rattle.model_steps.specs.declared.stamp.Stamp.{Stamp}
+use Rattle.station.specs.Place.{Place}
+use Rattle.station_scan.specs.Scanning.{IsTouched}
+use Rattle.station_scan.specs.declared.scan_stop.ScanStop.{ScanStop}
+use Rattle.law_stations.specs.Commands.{Scan}
+use Rattle.law_stations.specs.Disks.{Disks}
+use Rattle.law_stations.specs.OnDisks.{LeavesElsewhere, ShowsStation}
+use Rattle.law_stations.specs.Scans.{AreAfterScan, ScansAsEvent, with_packets_in}
+use Rattle.law_stations.specs.Asked.{GoesOnCut}
+use Rattle.law_stations.specs.Scanned.{IsScan, ScanGoesOn, ScansGoOn, TossesGoOn}
+use Rattle.law_stations.specs.Seats.{Seat, reach}
+use Rattle.law_stations.specs.Steps.{IsAllOnDisk}
+use Rattle.law_stations.proofs.GoingOn.{reaches-by}
+
+-- what a scan touches is the base or in the folder of packets
+touched : {Kept : Type 0} (place : Kept → Place) (seat : Seat Kept) (m : List ℕ) → IsTouched (place seat.kept).is_own seat.outbound m → (reach place seat).is_own m
+touched place seat m (inl own) = inl own
+touched place seat m (inr (own, (name, plain, inl beside))) = inr (record {
+  rest = name ++ (codes ".~" ++ (own ++ codes "~.new"));
+  parts = beside ∙ append_assoc seat.outbound name (codes ".~" ++ (own ++ codes "~.new"));
+})
+touched place seat m (inr (own, (name, plain, inr path))) = inr (record { rest = name; parts = path })
+
+module _ {D Kept : Type 0} (state : D → DiskState) (place : Kept → Place) (seats : List (Seat Kept)) (seat : Seat Kept) (i : ℕ) (stamp : Stamp) (d ended : Disks) (base : Base) (old whole : D)
+    (result : Result (Unit {0}) ScanStop) (does : ScansAsEvent stamp (place seat.kept) seat.links seat.outbound i d ended base (state old) (state whole) result)
+    (on_disk : (c : Files) → (state old).may_leave c → ShowsStation (place seat.kept) seat.links i c d) where
+  elsewhere : LeavesElsewhere (reach place seat) (state old) (state whole)
+  elsewhere = reaches-by (with_packets_in seat.outbound (place seat.kept)) (reach place seat) (state old) (state whole) (touched place seat) does.elsewhere
+
+  module _ (begun : D) (left : (state whole).left_since (state old).moment (state begun).seen) (all : IsAllOnDisk (state begun)) where
+    still : ShowsStation (place seat.kept) seat.links i (state begun).seen d → GoesOnCut (IsScan stamp) place seat i d (state old) (state whole) (state begun)
+    still shows =
+        record { command = None; is = tt; next = d; cut = record { left = left; begins = all; may = refl; shows = shows; elsewhere = elsewhere } }
+
+    cut : GoesOnCut (IsScan stamp) place seat i d (state old) (state whole) (state begun)
+    cut = elim (does.crash (state begun).seen left) [
+      | inl was ↦ still (on_disk (state begun).seen was)
+      | inr since ↦ ⊎_elim still
+          (λ (may : AreAfterScan stamp (place seat.kept) seat.links seat.outbound i d ended base (state begun).seen). record {
+            command = Some (Scan stamp);
+            is = refl;
+            next = may.after;
+            cut = record { left = left; begins = all; may = may.leads; shows = may.shows; elsewhere = elsewhere };
+          })
+          since
+    ]
+
+  goes-on : ScanGoesOn state place seats seat i stamp d old whole result
+  goes-on = record {
+    cut = cut;
+    ended = λ ok kept.
+        let after = does.done ok in
+        record {
+          command = Scan stamp;
+          is = refl;
+          next = after.scan.after;
+          ended = record {
+            may = after.scan.leads;
+            stands = record { at = after.at; on_disk = after.on_disk; kept = λ shared. kept shared after.at.shows.station.base after.at.shows.stands };
+            elsewhere = elsewhere;
+          };
+        };
+    none = λ was kept. record {
+      may = refl;
+      stands = record { at = was.at; on_disk = was.on_disk; kept = λ shared. kept shared was.at.shows.station.base was.at.shows.stands };
+      elsewhere = elsewhere;
+    };
+  }
+
+pub scans-go-on : {D Kept : Type 0} (state : D → DiskState) (place : Kept → Place) → ScansGoOn state place
+scans-go-on state place seats seat i stamp d ended old whole result stands does =
+    goes-on state place seats seat i stamp d ended stands.at.shows.station.base old whole result does stands.on_disk
+
+pub tosses-go-on : {D Kept : Type 0} (state : D → DiskState) (place : Kept → Place) → TossesGoOn state place
+tosses-go-on state place seats seat i indexes left d old new result answer tosses is kept =
+    let after = tosses.ends answer is in
+    record {
+      goes = record {
+        command = after.at.leads.command;
+        is = after.at.leads.is;
+        next = after.at.after;
+        ended = record {
+          may = after.at.leads.leads;
+          stands = record { at = after.at.at; on_disk = after.at.on_disk; kept = λ shared. kept shared after.at.at.shows.station.base after.at.at.shows.stands };
+          elsewhere = reaches-by (place seat.kept) (reach place seat) (state old) (state new) (λ m own. inl own) tosses.does.elsewhere;
+        };
+      };
+      delivered = after.delivered;
+    }

@@ -1,0 +1,180 @@
+-- What nets show without crashes the disks show over them.
+use Rattle.std.proofs.Common.{◌≡◌, inl, inr, refl, sym, subst, ap, ◌∙◌, ℕ, ◌+◌, ◌≤◌, arith, append-nil, List, [], ◌∷◌, map, Some}
+use Rattle.std.specs.Prelude.{if◌then◌else◌}
+use Rattle.echo_addr.specs.declared.address.Address.{Address}
+use Rattle.model_graph.specs.Walk.{Among, Different}
+use Rattle.echo_links.specs.Links.{LinkFile, same_address, upper}
+use Rattle.echo_filed.specs.declared.key.Key.{Key}
+use Rattle.echo_filed.specs.Filed.{Filed, key_of}
+use Rattle.model_steps.specs.declared.packet.Packet.{Packet}
+use Rattle.model_run.specs.Orderly.{copies, count, sent_count}
+use Rattle.model_run.specs.Run.{destination, nth}
+use Rattle.model_run.proofs.Histories.{among-nth}
+use Rattle.model_run.proofs.Lists.{nth-among, some_same}
+use Rattle.law_stations.specs.Commands.{Command, CommandEvent, Post, Purge, Scan, Toss}
+use Rattle.law_stations.specs.InOrder.{HasUnchanged, InOrder, IsSettled, IsSound, IsUnchanged, ReadsAs, StationHolds, WasPurged}
+use Rattle.law_stations.specs.Nets.{Net, Paired, Station}
+use Rattle.law_stations.proofs.Headline.{headline-on-nets}
+use Rattle.law_stations.proofs.Pairs.{paired-among, paired-back, paired-nth}
+use Rattle.law_stations.proofs.Readings.{one-packet}
+use Rattle.law_stations.proofs.Sound.{nets-are-sound}
+use Rattle.law_stations.specs.Disks.{Disks}
+use Rattle.law_stations.specs.OverCrashes.{HasNet, HasSettled, HeadlineOverCrashes, InOrderOverCrashes, IsLike, IsLikeEvent, SoundOverCrashes}
+use Rattle.law_stations.proofs.Counting.{IsItem, picked-total, total}
+use Rattle.law_stations.proofs.EachCommand.{crashes-are-none}
+use Rattle.law_stations.proofs.Tracking.{nth-map}
+
+-- a command that is like a purge is one
+like-purge : (command : Command) → IsLike command Purge → command ≡ Purge
+like-purge (Post words body) like = cc
+like-purge (Scan stamp) like = cc
+like-purge Purge like = refl
+like-purge (Toss indexes) (others, like) = cc
+
+-- where a purge was called among the commands of the net, one was on the disks
+purged-too : (commands plain : List CommandEvent) (i : ℕ) → Paired IsLikeEvent commands plain → WasPurged plain i → WasPurged commands i
+purged-too [] [] i like h = h
+purged-too [] (p ∷ plain) i like h = absurd like
+purged-too (c ∷ commands) [] i like h = absurd h
+purged-too (c ∷ commands) (p ∷ plain) i like h = elim h [
+  | inl e ↦ (
+      let station : c.station ≡ i = sym like.0.station ∙ ap (λ (x : CommandEvent). x.station) (sym e) in
+      let command : c.command ≡ Purge = like-purge c.command (subst (IsLike c.command) (ap (λ (x : CommandEvent). x.command) (sym e)) like.0.command) in
+      inl (λ k. record { station = sym station k; command = sym command k }))
+  | inr t ↦ inr (purged-too commands plain i like.1 t)
+]
+
+unchanged-too : (commands plain : List CommandEvent) (i : ℕ) (messages : List Filed) (cursor : ℕ) (m posting : Filed) → Paired IsLikeEvent commands plain
+    → IsUnchanged plain i messages cursor m posting → IsUnchanged commands i messages cursor m posting
+unchanged-too commands plain i messages cursor m posting like (inl same) = inl same
+unchanged-too commands plain i messages cursor m posting like (inr left) = inr (record {
+  purged = purged-too commands plain i like left.purged;
+  scanned_before = left.scanned_before;
+  filed = left.filed;
+  stub = left.stub;
+  same = left.same;
+})
+
+-- bytes are read as one packet
+reads-once : (bytes : List ℕ) (p q : Packet) → ReadsAs bytes p → ReadsAs bytes q → q ≡ p
+reads-once bytes p q (a, is) (b, other) =
+    let one = one-packet a b p.header q.header p.messages q.messages bytes bytes [] is other (sym (append-nil bytes)) in
+    λ i. record { header = one.0 i; messages = one.1 i }
+
+-- files that are packets are read as some
+all-packets : (files : List (List ℕ)) → ((bytes : List ℕ) → Among bytes files → (p : Packet) × ReadsAs bytes p) → (ps : List Packet) × Paired ReadsAs files ps
+all-packets [] are = ([], tt)
+all-packets (bytes ∷ files) are =
+    let (p, is) = are bytes (inl refl) in
+    let (ps, rest) = all-packets files (λ b h. are b (inr h)) in
+    (p ∷ ps, (is, rest))
+
+-- how often a packet has a message for an address
+abbrev weight : Address → Key → Packet → ℕ
+weight address key p = if same_address (destination p) address then count key (copies p) else 0
+
+sent-total : (address : Address) (key : Key) (ps : List Packet) → sent_count address key ps ≡ total (map (weight address key) ps)
+sent-total address key [] = refl
+sent-total address key (p ∷ ps) = ap (λ (n : ℕ). weight address key p + n) (sent-total address key ps)
+
+-- each of some packets stands at its place among others
+picked-weights : (w : Packet → ℕ) (files some : List (List ℕ)) (places : List ℕ) (ps qs : List Packet) → Paired (IsItem files) some places → Paired ReadsAs files ps
+    → Paired ReadsAs some qs → Paired (IsItem (map w ps)) (map w qs) places
+picked-weights w files [] [] ps [] picked read other = tt
+picked-weights w files [] [] ps (q ∷ qs) picked read other = absurd other
+picked-weights w files [] (k ∷ places) ps qs picked read other = absurd picked
+picked-weights w files (bytes ∷ some) [] ps qs picked read other = absurd picked
+picked-weights w files (bytes ∷ some) (k ∷ places) ps [] picked read other = absurd other
+picked-weights w files (bytes ∷ some) (k ∷ places) ps (q ∷ qs) picked read other =
+    let (p, there, is) = paired-nth ReadsAs k bytes files ps read picked.0 in
+    let same = reads-once bytes q p other.0 is in
+    (nth-map w k p ps there ∙ ap (λ (x : Packet). Some (w x)) same, picked-weights w files some places ps qs picked.1 read other.1)
+
+-- packets of different places hold a message no more often than all
+sent-less : (address : Address) (key : Key) (files some : List (List ℕ)) (places : List ℕ) (ps qs : List Packet) → Paired (IsItem files) some places → Different places
+    → Paired ReadsAs files ps → Paired ReadsAs some qs → sent_count address key qs ≤ sent_count address key ps
+sent-less address key files some places ps qs picked apart read other =
+    let w = weight address key in
+    let less = picked-total (map w ps) (map w qs) places (picked-weights w files some places ps qs picked read other) apart in
+    omega (arith, less, sent-total address key ps, sent-total address key qs)
+
+-- what a station holds is the same where the stations are
+holds-too : (net other : Net) (i : ℕ) (file : LinkFile) (messages : List Filed) (cursor : ℕ) → net.stations ≡ other.stations → StationHolds net i file messages cursor
+    → StationHolds other i file messages cursor
+holds-too net other i file messages cursor same holds = record {
+  station = holds.station;
+  there = subst (λ (ss : List Station). nth i ss ≡ Some holds.station) same holds.there;
+  says = holds.says;
+}
+
+module _ (commands plain : List CommandEvent) (d : Disks) (net : Net) (like : Paired IsLikeEvent commands plain) (has : HasNet d net) where
+  held : (i : ℕ) (file : LinkFile) (messages : List Filed) (cursor : ℕ) → StationHolds d.net i file messages cursor → StationHolds net i file messages cursor
+  held i file messages cursor = holds-too d.net net i file messages cursor has.stations
+
+  pub sound-too : IsSound plain net → IsSound commands d.net
+  sound-too sound = record {
+    packets = λ bytes among.
+        let (k, there, at) = paired-among (IsItem net.packets) bytes d.net.packets has.places has.named among in
+        sound.packets bytes (nth-among k bytes net.packets at);
+    bases = λ station among. let P : List Station → Type 0 = λ ss. Among station ss in sound.bases station (subst P has.stations among);
+    filed_once = λ i file messages cursor holds key. sound.filed_once i file messages cursor (held i file messages cursor holds) key;
+    only_posted = λ i file messages cursor holds m h.
+        let (posting, there, tag, unchanged) = sound.only_posted i file messages cursor (held i file messages cursor holds) m h in
+        let P : List Filed → Type 0 = λ ms. Among posting ms in
+        (posting, subst P (sym has.postings) there, tag, unchanged-too commands plain i messages cursor m posting like unchanged);
+  }
+
+  module _ (tag : List ℕ) (order : InOrder plain net tag) where
+    -- what is settled on the disks is so in the net
+    settled : HasSettled d tag → IsSettled net tag
+    settled is = record {
+      scanned = λ i file messages cursor holds m waits.
+          is.named.scanned i file messages cursor (holds-too net d.net i file messages cursor (sym has.stations) holds) m waits;
+      tossed = λ k bytes p at reads m in_it tagged. elim (has.all k bytes at) [
+        | inl placed ↦ (
+            let (j, place) = among-nth k has.places placed in
+            let (named, there, same) = paired-back (IsItem net.packets) j k d.net.packets has.places has.named place in
+            let one : named ≡ bytes = some_same (sym same ∙ at) in
+            let P : List ℕ → Type 0 = λ b. ReadsAs b p in
+            has.tossed j k place (is.named.tossed j named p there (subst P (sym one) reads) m in_it tagged))
+        | inr waits ↦ (
+            let (file, stands, same) = waits in
+            let P : List ℕ → Type 0 = λ b. ReadsAs b p in
+            absurd (is.beside file p stands (subst P (sym same) reads) m in_it tagged))
+      ];
+    }
+
+    unchanged : (i : ℕ) (messages : List Filed) (cursor : ℕ) (posting : Filed) → HasUnchanged plain i messages cursor posting → HasUnchanged commands i messages cursor posting
+    unchanged i messages cursor posting is = record {
+      once = is.once;
+      same = λ m h e. unchanged-too commands plain i messages cursor m posting like (is.same m h e);
+    }
+
+    pub in-order : InOrderOverCrashes commands d tag
+    in-order = record {
+      sound = sound-too order.sound;
+      sent_once = λ qs read i file messages cursor holds has_it key of_area.
+          let (ps, all) = all-packets net.packets order.sound.packets in
+          let once = order.sent_once ps all i file messages cursor (held i file messages cursor holds) has_it key of_area in
+          let less = sent-less file.system key net.packets d.net.packets has.places ps qs has.named has.once all read in
+          omega (arith, once, less);
+      never_own = λ qs read i file messages cursor holds has_it m in_it own.
+          let (ps, all) = all-packets net.packets order.sound.packets in
+          let none = order.never_own ps all i file messages cursor (held i file messages cursor holds) has_it m in_it own in
+          let less = sent-less file.system (key_of m) net.packets d.net.packets has.places ps qs has.named has.once all read in
+          omega (arith, none, less);
+      all_came = λ is posting among of_area i file messages cursor holds has_it.
+          let P : List Filed → Type 0 = λ ms. Among posting ms in
+          unchanged i messages cursor posting (order.all_came (settled is) posting (subst P has.postings among) of_area i file messages cursor
+          (held i file messages cursor holds) has_it);
+    }
+
+pub sound-over-crashes : SoundOverCrashes
+sound-over-crashes links files are apart commands d happen =
+    let (plain, net, like, plainly, has) = crashes-are-none links commands d happen in
+    sound-too commands plain d net like has (nets-are-sound links files are apart plain net plainly)
+
+pub headline-over-crashes : HeadlineOverCrashes
+headline-over-crashes nodelist tag links stopped old new good commands d happen =
+    let (plain, net, like, plainly, has) = crashes-are-none links commands d happen in
+    in-order commands plain d net like has (upper tag) (headline-on-nets nodelist tag links stopped old new good plain net plainly)

@@ -1,0 +1,209 @@
+-- A command on one station is some events of the system by itself.
+use Rattle.std.proofs.Common.{◌≡◌, inl, inr, refl, sym, subst, ap, ℕ, true, List, [], ◌∷◌, ◌++◌, length, Ok}
+use Rattle.std.specs.Prelude.{Bool, false, if◌then◌else◌}
+use Rattle.std.proofs.lemmas.List.{append-nil, append_assoc}
+use Rattle.model_graph.specs.Walk.{Among}
+use Rattle.model_graph.proofs.Members.{Among-append_cases, Among-append_left, Among-append_right}
+use Rattle.echo_links.specs.Links.{LinkFile}
+use Rattle.echo_links.specs.LinkLines.{LinksOf}
+use Rattle.model_steps.specs.declared.stamp.Stamp.{Stamp}
+use Rattle.model_steps.specs.Scanning.{scanned}
+use Rattle.model_steps.specs.Stamps.{is_stamp}
+use Rattle.model_steps.specs.SystemState.{SystemState}
+use Rattle.echo_toss.specs.PacketsIn.{state_in}
+use Rattle.model_run.specs.Run.{Run, change, nth, scanning_at, state_of}
+use Rattle.cmd_report.specs.Coming.{Coming}
+use Rattle.cmd_report.specs.Posted.{draft_given}
+use Rattle.law_stations.specs.Agreement.{Agrees, HasSystem, IsPacketFile}
+use Rattle.law_stations.specs.Nets.{Paired, Station, with_left}
+use Rattle.law_stations.proofs.FileRuns.{TossedFiles, tossed-all, wholes}
+use Rattle.law_stations.proofs.OfEvents.{post-agrees, purge-agrees, scan-agrees}
+use Rattle.law_stations.proofs.Putting.{puts-agree}
+use Rattle.law_stations.proofs.Systems.{file-fits, one-file}
+use Rattle.model_run.specs.Lone.{IsOfPackets, LoneEvent, LoneSystem, PostHere, PurgeHere, ScanHere, TossHere, after_lone, lone_run, with_scanned, with_system}
+use Rattle.model_run.proofs.Growing.{run-file}
+use Rattle.law_stations.specs.LoneStations.{HappenAlone, LeadsAlone, LoneCommand, LoneStation, NothingCame, PostAlone, PurgeAlone, ScanAlone, TossAny, TossesAny, held_in, lone_station_at_first, tossed_whole}
+use Rattle.law_stations.proofs.Tosses.{IsTossFrom, IsTossedBy, TossesFrom, files-tossed, front-plain, whole-first}
+use Rattle.law_stations.proofs.Purgings.{IsPurge}
+use Rattle.law_stations.proofs.Alone.{IsLone, first-lone, lone-more, run_alone}
+
+-- an event that is no toss
+abbrev IsNoToss : LoneEvent → Type 0
+IsNoToss (TossHere sender messages) = ⊥
+IsNoToss other = Unit {0}
+
+plain-here : (e : LoneEvent) → IsNoToss e → IsOfPackets e
+plain-here (PostHere tag draft serial stamp) h = tt
+plain-here (TossHere sender messages) h = absurd h
+plain-here (ScanHere stamp) h = tt
+plain-here PurgeHere h = tt
+
+quiet-step : (file : LinkFile) (s new : LoneStation) (events : List LoneEvent) (event : LoneEvent) → IsLone file s events → IsNoToss event → NothingCame s new →
+    Agrees new.net (run_alone (after_lone (lone_run file events) event)) → IsLone file new (events ++ event ∷ [])
+quiet-step file s new events event lone none same agrees =
+    let P : LoneEvent → Type 0 = λ e. IsOfPackets e in
+    let Q : LoneEvent → Type 0 = λ e. IsNoToss e in
+    let C : List (List ℕ) → List ℕ → Type 0 = λ files bytes. Among bytes files in
+    lone-more file s new events (event ∷ []) lone
+    (λ e h. elim h [ inl is ↦ subst P (sym is) (plain-here event none) | inr end ↦ absurd end ])
+    (λ bytes h. let R : List (List ℕ) → Type 0 = λ files. C files bytes in subst R (sym same.0) h)
+    (λ sender messages h. elim h [ inl is ↦ absurd (subst Q (sym is) none) | inr end ↦ absurd end ])
+    (λ bytes h. inl (let R : List (List ℕ) → Type 0 = λ files. C files bytes in subst R same.1 h))
+    agrees
+
+scan-same : (z : LoneSystem) (stamp : Stamp) (b : Bool) →
+    (if b then record {
+      systems = change 0 scanning_at (z.system ∷ []);
+      packets = z.sent ++ scanned z.system.file z.system.base z.system.cursor stamp;
+      delivered = [];
+    } else run_alone z) ≡ run_alone (if b then with_scanned stamp z else z)
+scan-same z stamp true = refl
+scan-same z stamp false = refl
+
+-- what a toss made of the base
+module _ (files : List Coming) (file : LinkFile) (s new : LoneStation) (events : List LoneEvent) (lone : IsLone file s events) (toss : TossesAny files s new) where
+  abbrev z : LoneSystem
+  z = lone_run file events
+
+  abbrev station : Station
+  station = toss.station
+
+  abbrev held : List (List ℕ)
+  held = held_in files
+
+  abbrev whole : List (List ℕ)
+  whole = held_in (tossed_whole files toss.tosses.stopped toss.tosses.left)
+
+  has : HasSystem station z.system
+  has = (let P : List Station → Type 0 = λ ss. Paired HasSystem ss (z.system ∷ []) in subst P toss.there lone.agrees.stations).0
+
+  pub made : TossesFrom held whole z.system (state_in toss.file toss.next)
+  made =
+      let tosses = toss.tosses in
+      let n = wholes (length files) tosses.stopped tosses.left in
+      let same : state_in toss.file station.base ≡ state_of z.system =
+      (let one = one-file station.links toss.file z.system.file toss.links has.links in λ j. state_in (one j) (has.base j)) in
+      let tossed = subst (λ (x : SystemState). TossedFiles n files x (state_in toss.file toss.next)) same (tossed-all files toss.file station.base toss.next tosses) in
+      let made = files-tossed n files z.system (state_in toss.file toss.next) toss.any (file-fits station.links z.system.file has.links) has.is_base tossed in
+      subst (λ (w : List Coming). TossesFrom held (held_in w) z.system (state_in toss.file toss.next)) (whole-first files tosses.stopped tosses.left) made
+
+  left-agrees : Agrees (with_left s.net 0 [] toss.next) (run_alone (with_system z made.now))
+  left-agrees =
+      let t = made.takes in
+      let L : LinkFile → Type 0 = λ f. LinksOf station.links (Ok f) in
+      let Q : List (List ℕ) → Type 0 = λ ps. Paired IsPacketFile ps z.sent in
+      puts-agree s.net (run_alone z) 0 toss.next (λ _. made.now) (s.net.packets ++ []) z.sent [] s.net.postings lone.agrees (record {
+        station = station;
+        at = ap (λ (ss : List Station). nth 0 ss) toss.there;
+        s = z.system;
+        there = refl;
+        now = record {
+          links = subst L (sym t.file) has.links;
+          base = ap (λ (x : SystemState). record { messages = x.base; cursor = x.cursor }) (sym t.is);
+          is_base = t.base;
+        };
+        paired = subst Q (sym (append-nil s.net.packets)) lone.agrees.packets;
+        longer = t.longer;
+        kept = λ m h. h;
+        posted = λ m h. inl h;
+        only = λ m h. inl (t.posted m h);
+      })
+
+  -- of the link file of the station
+  from-file : (e : LoneEvent) → Among e made.events → IsTossFrom file held e
+  from-file e h = (let P : LinkFile → Type 0 = λ f. IsTossFrom f held e in subst P (run-file file events) (made.from e h))
+
+  plain-from : (e : LoneEvent) → IsTossFrom file held e → IsOfPackets e
+  plain-from (PostHere tag draft serial stamp) h = absurd h
+  plain-from (TossHere sender messages) (bytes, i, front) = front-plain bytes front.limits front.header messages front.begins
+  plain-from (ScanHere stamp) h = absurd h
+  plain-from PurgeHere h = absurd h
+
+  pub toss-step : IsLone file new (events ++ made.events)
+  toss-step =
+      let target : LoneStation = record { net = with_left s.net 0 [] toss.next; came = s.came ++ held; whole = s.whole ++ whole } in
+      let A : LoneSystem → Type 0 = λ x. Agrees (with_left s.net 0 [] toss.next) (run_alone x) in
+      let N : LoneStation → Type 0 = λ x. IsLone file x (events ++ made.events) in
+      subst N (sym toss.becomes) (lone-more file s target events made.events lone
+      (λ e h. plain-from e (from-file e h))
+      (λ bytes h. Among-append_left bytes s.came held h)
+      (λ sender messages h.
+      let (bytes, i, front) = from-file (TossHere sender messages) h in
+      (bytes, Among-append_right bytes s.came held i, front))
+      (λ bytes h. elim (Among-append_cases bytes s.whole whole h) [
+        | inl old ↦ inl old
+        | inr now ↦ inr (let P : LinkFile → Type 0 = λ f. IsTossedBy f made.events bytes in subst P (run-file file events) (made.all bytes now))
+      ])
+      (subst A (sym (made.becomes z refl)) left-agrees))
+
+-- what was purged was purged by a command
+abbrev pub AreOfCommands : List LoneCommand → List LoneEvent → Type 0
+AreOfCommands commands events = (e : LoneEvent) → Among e events → IsPurge e → Among PurgeAlone commands
+
+one-of : (P : LoneEvent → Type 0) (event : LoneEvent) → P event → (e : LoneEvent) → Among e (event ∷ []) → P e
+one-of P event h e i = elim i [ inl same ↦ subst P (sym same) h | inr end ↦ absurd end ]
+
+no-purge-from : (file : LinkFile) (files : List (List ℕ)) (e : LoneEvent) → IsTossFrom file files e → IsPurge e → ⊥
+no-purge-from file files (PostHere tag draft serial stamp) from h = h
+no-purge-from file files (TossHere sender messages) from h = h
+no-purge-from file files (ScanHere stamp) from h = h
+no-purge-from file files PurgeHere from h = from
+
+-- a command that ends well
+leads-step : (file : LinkFile) (s new : LoneStation) (events : List LoneEvent) (command : LoneCommand) → IsLone file s events → LeadsAlone command s new →
+    (added : List LoneEvent) × IsLone file new (events ++ added) × AreOfCommands (command ∷ []) added
+leads-step file s new events (PostAlone words body) lone (posts, same) =
+    let z = lone_run file events in
+    let event = PostHere words.tag.now (draft_given words body) words.serial words.stamp in (
+      event ∷ [],
+      quiet-step file s new events event lone tt same (post-agrees words body s.net new.net 0 (run_alone z) lone.agrees posts),
+      one-of (λ e. IsPurge e → Among PurgeAlone (PostAlone words body ∷ [])) event (λ none. absurd none),
+    )
+leads-step file s new events (ScanAlone stamp) lone (scans, same) =
+    let z = lone_run file events in
+    let P : Run → Type 0 = λ r. Agrees new.net r in (
+      ScanHere stamp ∷ [],
+      quiet-step file s new events (ScanHere stamp) lone tt same
+          (subst P (scan-same z stamp (is_stamp stamp)) (scan-agrees stamp s.net new.net 0 (run_alone z) lone.agrees scans)),
+      one-of (λ e. IsPurge e → Among PurgeAlone (ScanAlone stamp ∷ [])) (ScanHere stamp) (λ none. absurd none),
+    )
+leads-step file s new events PurgeAlone lone (purges, same) =
+    let z = lone_run file events in (
+      PurgeHere ∷ [],
+      quiet-step file s new events PurgeHere lone tt same (purge-agrees s.net new.net 0 (run_alone z) lone.agrees purges),
+      λ e i h. inl refl,
+    )
+leads-step file s new events (TossAny files) lone tosses =
+    let t = made files file s new events lone tosses in (
+      t.events,
+      toss-step files file s new events lone tosses,
+      λ e i h. absurd (no-purge-from file (held_in files) e (from-file files file s new events lone tosses e i) h),
+    )
+
+-- and commands, one after another
+pub commands-lone : (file : LinkFile) (commands : List LoneCommand) (s new : LoneStation) (events : List LoneEvent) → IsLone file s events → HappenAlone commands s new →
+    (added : List LoneEvent) × IsLone file new (events ++ added) × AreOfCommands commands added
+commands-lone file [] s new events lone same =
+    let P : LoneStation → Type 0 = λ x. IsLone file x (events ++ []) in
+    let Q : List LoneEvent → Type 0 = λ es. IsLone file s es in
+    ([], subst P (sym same) (subst Q (sym (append-nil events)) lone), λ e i h. absurd i)
+commands-lone file (command ∷ later) s new events lone (next, happens, rest) =
+    elim happens [
+      | inl same ↦ (let P : LoneStation → Type 0 = λ x. IsLone file x events in
+          let (more, at_new, of) = commands-lone file later next new events (subst P (sym same) lone) rest in
+          (more, at_new, λ e i h. inr (of e i h)))
+      | inr leads ↦ (let (added, at_next, first) = leads-step file s next events command lone leads in
+          let (more, at_new, of) = commands-lone file later next new (events ++ added) at_next rest in
+          let P : List LoneEvent → Type 0 = λ es. IsLone file new es in (
+            added ++ more,
+            subst P (append_assoc events added more) at_new,
+            λ e i h. elim (Among-append_cases e added more i) [
+              | inl now ↦ elim (first e now h) [ inl here ↦ inl here | inr end ↦ absurd end ]
+              | inr after ↦ inr (of e after h)
+            ],
+          ))
+    ]
+
+pub run-lone : (links : List ℕ) (file : LinkFile) → LinksOf links (Ok file) → (commands : List LoneCommand) (s : LoneStation) →
+    HappenAlone commands (lone_station_at_first links) s → (events : List LoneEvent) × IsLone file s events × AreOfCommands commands events
+run-lone links file of_links commands s happen = commands-lone file commands (lone_station_at_first links) s [] (first-lone links file of_links) happen

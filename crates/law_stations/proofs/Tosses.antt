@@ -1,0 +1,192 @@
+-- The toss of any files is the toss of messages that stand in them.
+use Rattle.std.proofs.Common.{◌≡◌, inl, inr, refl, sym, subst, ap, ◌∙◌, ℕ, zero, suc, arith, List, [], ◌∷◌, ◌++◌, length, take, Option, Some, None}
+use Rattle.std.specs.List.{AllByRecursion}
+use Rattle.std.proofs.lemmas.List.{take_all}
+use Rattle.echo_addr.specs.declared.address.Address.{Address}
+use Rattle.model_graph.specs.Walk.{Among}
+use Rattle.model_graph.proofs.Members.{Among-append_cases, Among-append_left, Among-append_right}
+use Rattle.echo_packet.specs.declared.header.Header.{Header}
+use Rattle.echo_packet.specs.declared.limits.Limits.{Limits}
+use Rattle.echo_packet.specs.Message.{HasNoZero, IsMessage, Message}
+use Rattle.echo_packet.specs.Packet.{PacketOf}
+use Rattle.echo_links.specs.Links.{IsFile, LinkFile}
+use Rattle.base_file.specs.Base.{IsBase}
+use Rattle.model_steps.specs.SystemState.{SystemState}
+use Rattle.model_steps.specs.Tossing.{sender_of}
+use Rattle.echo_toss.specs.PacketSteps.{BeginsWith}
+use Rattle.model_run.specs.Run.{System, state_of, tossing_at}
+use Rattle.cmd_status.specs.declared.fault.Fault.{Fault}
+use Rattle.cmd_report.specs.Coming.{Coming, Fails, Holds, Unknown}
+use Rattle.law_stations.proofs.FileRuns.{IsPartly, TossedFiles, wholes}
+use Rattle.law_stations.proofs.Readings.{TossesFront}
+use Rattle.law_stations.proofs.Tossed.{Takes, takes-both, takes-front, takes-none}
+use Rattle.model_run.specs.Lone.{LoneEvent, LoneSystem, PostHere, PurgeHere, ScanHere, TossHere, after_all_lone, with_system}
+use Rattle.model_run.proofs.Growing.{events-append}
+use Rattle.law_stations.specs.AloneInOrder.{FaultlessTossIsWhole}
+use Rattle.law_stations.specs.LoneStations.{AreAnyFiles, LoneStation, held_in, tossed_whole}
+
+-- no text in front of bytes holds 00
+pub front-plain : (bytes : List ℕ) (limits : Limits) (header : Header) (messages : List Message) → BeginsWith limits header messages bytes
+    → (packed : Message) → Among packed messages → HasNoZero packed.text
+front-plain bytes limits header messages begins packed h = each messages begins.are_messages.each packed h
+  where
+    each : (ms : List Message) → AllByRecursion (IsMessage limits.text) ms → (q : Message) → Among q ms → HasNoZero q.text
+    each [] all q i = absurd i
+    each (m ∷ ms) all q i =
+        elim i [
+          | inl e ↦ (let P : Message → Type 0 = λ x. HasNoZero x.text in subst P (sym e) all.0.text.no_zero)
+          | inr t ↦ each ms all.1 q t
+        ]
+
+-- messages that stand in front of the bytes, of the sender that the header there names
+pub record IsInFront (file : LinkFile) (bytes : List ℕ) (sender : Address) (messages : List Message) : Type 0 where
+  pub header : Header
+  pub limits : Limits
+  pub begins : BeginsWith limits header messages bytes
+  pub sender_is : sender ≡ sender_of file header
+
+-- an event is the toss of messages in front of one of the files
+abbrev pub IsTossFrom : LinkFile → List (List ℕ) → LoneEvent → Type 0
+IsTossFrom file files (TossHere sender messages) = (bytes : List ℕ) × Among bytes files × IsInFront file bytes sender messages
+IsTossFrom file files other = ⊥
+
+-- the packet in front of the bytes was tossed whole by one of the events
+pub record IsTossedBy (file : LinkFile) (events : List LoneEvent) (bytes : List ℕ) : Type 0 where
+  pub header : Header
+  pub messages : List Message
+  pub limits : Limits
+  pub front : List ℕ
+  pub behind : List ℕ
+  pub parts : bytes ≡ front ++ behind
+  pub packet : PacketOf limits header messages front
+  pub there : Among (TossHere (sender_of file header) messages) events
+
+-- what became of a system by tosses from files, of which some were tossed whole
+pub record TossesFrom (files whole : List (List ℕ)) (z : System) (system : SystemState) : Type 0 where
+  pub events : List LoneEvent
+  pub from : (event : LoneEvent) → Among event events → IsTossFrom z.file files event
+  pub all : (bytes : List ℕ) → Among bytes whole → IsTossedBy z.file events bytes
+  pub now : System
+  pub takes : Takes z now system
+  pub becomes : (s : LoneSystem) → s.system ≡ z → after_all_lone s events ≡ with_system s now
+
+nothing : (files : List (List ℕ)) (z : System) (new : SystemState) → IsBase z.base z.cursor → new ≡ state_of z → TossesFrom files [] z new
+nothing files z new base same = record {
+  events = [];
+  from = λ event h. absurd h;
+  all = λ bytes h. absurd h;
+  now = z;
+  takes = subst (Takes z z) (sym same) (takes-none z base);
+  becomes = λ s e. ap (λ (x : System). with_system s x) e;
+}
+
+-- messages in front of bytes were tossed
+fronted : (bytes : List ℕ) (more whole : List (List ℕ)) (z : System) (new : SystemState) → IsFile z.file → IsBase z.base z.cursor → (t : TossesFront bytes (state_of z) new)
+    → ((b : List ℕ) → Among b whole → IsTossedBy z.file (TossHere (sender_of z.file t.header) t.messages ∷ []) b) → TossesFrom (bytes ∷ more) whole z new
+fronted bytes more whole z new fits base t all =
+    let sender = sender_of z.file t.header in
+    record {
+      events = TossHere sender t.messages ∷ [];
+      from = λ event h. elim h [
+        | inl e ↦ (let P : LoneEvent → Type 0 = λ x. IsTossFrom z.file (bytes ∷ more) x in
+            subst P (sym e) (bytes, inl refl, record { header = t.header; limits = t.limits; begins = t.begins; sender_is = refl }))
+        | inr none ↦ absurd none
+      ];
+      all = all;
+      now = tossing_at sender t.messages z;
+      takes = takes-front bytes z new fits base t;
+      becomes = λ s e. ap (λ (x : System). with_system s (tossing_at sender t.messages x)) e;
+    }
+
+-- with more files, and with more events
+more-files : (file : LinkFile) (files others : List (List ℕ)) (event : LoneEvent) → ((b : List ℕ) → Among b files → Among b others)
+    → IsTossFrom file files event → IsTossFrom file others event
+more-files file files others (TossHere sender messages) more (bytes, i, front) = (bytes, more bytes i, front)
+more-files file files others (PostHere tag draft serial stamp) more none = absurd none
+more-files file files others (ScanHere stamp) more none = absurd none
+more-files file files others PurgeHere more none = absurd none
+
+pub more-events : (file : LinkFile) (events others : List LoneEvent) (bytes : List ℕ) → ((e : LoneEvent) → Among e events → Among e others)
+    → IsTossedBy file events bytes → IsTossedBy file others bytes
+more-events file events others bytes more by = record {
+  header = by.header;
+  messages = by.messages;
+  limits = by.limits;
+  front = by.front;
+  behind = by.behind;
+  parts = by.parts;
+  packet = by.packet;
+  there = more (TossHere (sender_of file by.header) by.messages) by.there;
+}
+
+-- one toss after another
+joined : (bytes : List ℕ) (later first whole : List (List ℕ)) (z : System) (mid new : SystemState) → (t : TossesFrom (bytes ∷ []) first z mid)
+    → TossesFrom later whole t.now new → TossesFrom (bytes ∷ later) (first ++ whole) z new
+joined bytes later first whole z mid new t u =
+    let files = bytes ∷ later in
+    let F : LinkFile → LoneEvent → Type 0 = λ file event. IsTossFrom file later event in
+    let G : LinkFile → List ℕ → Type 0 = λ file b. IsTossedBy file u.events b in
+    record {
+      events = t.events ++ u.events;
+      from = λ event h. elim (Among-append_cases event t.events u.events h) [
+        | inl old ↦ more-files z.file (bytes ∷ []) files event (λ b i. elim i [ inl e ↦ inl e | inr none ↦ absurd none ]) (t.from event old)
+        | inr new ↦ more-files z.file later files event (λ b i. inr i)
+            (let P : LinkFile → Type 0 = λ file. F file event in subst P t.takes.file (u.from event new))
+      ];
+      all = λ b h. elim (Among-append_cases b first whole h) [
+        | inl old ↦ more-events z.file t.events (t.events ++ u.events) b (λ e i. Among-append_left e t.events u.events i) (t.all b old)
+        | inr new ↦ more-events z.file u.events (t.events ++ u.events) b (λ e i. Among-append_right e t.events u.events i)
+            (let P : LinkFile → Type 0 = λ file. G file b in subst P t.takes.file (u.all b new))
+      ];
+      now = u.now;
+      takes = takes-both z t.now u.now mid new t.takes u.takes;
+      becomes = λ s e.
+          events-append t.events u.events s
+          ∙ (ap (λ (x : LoneSystem). after_all_lone x u.events) (t.becomes s e) ∙ u.becomes (with_system s t.now) refl);
+    }
+
+-- the file that stopped the run, if one did
+last-file : (files : List Coming) (z : System) (new : SystemState) → AreAnyFiles files → IsFile z.file → IsBase z.base z.cursor → IsPartly files (state_of z) new
+    → TossesFrom (held_in files) [] z new
+last-file [] z new any fits base same = nothing [] z new base same
+last-file (Unknown ∷ files) z new any fits base partly = absurd any
+last-file (Fails why ∷ files) z new any fits base same = nothing (held_in files) z new base same
+last-file (Holds bytes ∷ files) z new any fits base (inl same) = nothing (bytes ∷ held_in files) z new base same
+last-file (Holds bytes ∷ files) z new any fits base (inr t) = fronted bytes (held_in files) [] z new fits base t (λ b h. absurd h)
+
+pub files-tossed : (n : ℕ) (files : List Coming) (z : System) (new : SystemState) → AreAnyFiles files → IsFile z.file → IsBase z.base z.cursor → TossedFiles n files (state_of z) new
+    → TossesFrom (held_in files) (held_in (take n files)) z new
+files-tossed zero files z new any fits base partly = last-file files z new any fits base partly
+files-tossed (suc n) [] z new any fits base tossed = absurd tossed
+files-tossed (suc n) (Unknown ∷ files) z new any fits base tossed = absurd any
+files-tossed (suc n) (Fails why ∷ files) z new any fits base tossed = absurd tossed.1
+files-tossed (suc n) (Holds bytes ∷ files) z new any fits base (mid, whole, more) =
+    let front = whole.tossed_front in
+    let events = TossHere (sender_of z.file front.header) front.messages ∷ [] in
+    let t = fronted bytes [] (bytes ∷ []) z mid fits base front (λ b h. elim h [
+      | inl e ↦ (let P : List ℕ → Type 0 = λ x. IsTossedBy z.file events x in
+          subst P (sym e) (record {
+            header = front.header;
+            messages = front.messages;
+            limits = front.limits;
+            front = whole.front;
+            behind = whole.behind;
+            parts = whole.parts;
+            packet = whole.packet;
+            there = inl refl;
+          }))
+      | inr none ↦ absurd none
+    ]) in
+    let rest = subst (λ (x : SystemState). TossedFiles n files x new) (sym t.takes.is) more in
+    joined bytes (held_in files) (bytes ∷ []) (held_in (take n files)) z mid new t (files-tossed n files t.now new any (subst IsFile (sym t.takes.file) fits) t.takes.base rest)
+
+-- how many were tossed whole
+pub whole-first : (files : List Coming) (stopped : Option Fault) (left : List Coming) → take (wholes (length files) stopped left) files ≡ tossed_whole files stopped left
+whole-first files None left = take_all (length files) files (omega arith)
+whole-first files (Some fault) left = refl
+
+-- all of them, where there was no fault
+pub faultless-whole : FaultlessTossIsWhole
+faultless-whole files s new toss none =
+    ap (λ (x : LoneStation). x.whole) toss.becomes
+    ∙ ap (λ (o : Option Fault). s.whole ++ held_in (tossed_whole files o toss.tosses.left)) none

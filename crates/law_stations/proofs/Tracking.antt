@@ -1,0 +1,98 @@
+-- The disks and a net without crashes that go with each other.
+use Rattle.std.proofs.Common.{◌≡◌, ◌⊎◌, inl, inr, refl, sym, subst, ap, ◌∙◌, ℕ, zero, suc, ◌+◌, ◌≤◌, ◌<◌, true, false, List, [], ◌∷◌, ◌++◌, length, map, Option, Some, None}
+use Rattle.model_graph.specs.Walk.{Among}
+use Rattle.model_run.specs.Run.{nth}
+use Rattle.model_run.proofs.Lists.{none_some, some_same}
+use Rattle.law_stations.specs.Nets.{Net, Paired, Station}
+use Rattle.law_stations.specs.Disks.{Beside, Disks, HasCursor, cursor_of, cursors}
+use Rattle.law_stations.proofs.Counting.{IsItem, below, times, waits}
+
+-- A file beside a name, and the index of the packet that waits in it for its name. One that is none of these has its name, or
+-- is of a scan that did not come to move the cursor.
+abbrev pub IsTagged : List (List ℕ) → List ℕ → Beside → Option ℕ → Type 0
+IsTagged packets at file None = (file.named ≡ true) ⊎ ((c : ℕ) → nth file.station at ≡ Some c → c ≤ file.number)
+IsTagged packets at file (Some k) = (nth k packets ≡ Some file.bytes) × (file.named ≡ false) × ((c : ℕ) × (nth file.station at ≡ Some c) × (file.number < c))
+
+-- the packet file of an index was tossed whole, and so was that of its place in the net
+abbrev pub IsTossedAt : List ℕ → List ℕ → ℕ → Type 0
+IsTossedAt places delivered j = (k : ℕ) × (nth j places ≡ Some k) × Among k delivered
+
+-- the same stations and postings; each packet of the net has its name or waits for it, just once
+pub record Tracks (d : Disks) (net : Net) : Type 0 where
+  pub stations : d.net.stations ≡ net.stations
+  pub postings : d.net.postings ≡ net.postings
+  pub places : List ℕ
+  pub named : Paired (IsItem net.packets) d.net.packets places
+  pub tags : List (Option ℕ)
+  pub beside : Paired (IsTagged net.packets (cursors net)) d.beside tags
+  pub each : (k : ℕ) → times k places + waits k tags ≡ below k (length net.packets)
+  pub tossed : (j : ℕ) → Among j d.net.delivered → IsTossedAt places net.delivered j
+
+-- an item of a list that is mapped
+pub nth-map : {X Y : Type 0} (g : X → Y) (i : ℕ) (x : X) (xs : List X) → nth i xs ≡ Some x → nth i (map g xs) ≡ Some (g x)
+nth-map g i x [] h = absurd (none_some h)
+nth-map {X} {Y} g zero x (z ∷ xs) h = ap (λ (w : X). Some (g w)) (some_same h)
+nth-map g (suc i) x (z ∷ xs) h = nth-map g i x xs h
+
+-- a station of a net has the cursor of its base
+pub has-cursor : (net : Net) (i : ℕ) (station : Station) → nth i net.stations ≡ Some station → HasCursor net i station.base.cursor
+has-cursor net i station there = nth-map cursor_of i station net.stations there
+
+-- and nets with the same stations have the same cursors
+pub cursor-too : (net other : Net) (i c : ℕ) → net.stations ≡ other.stations → HasCursor net i c → HasCursor other i c
+cursor-too net other i c same has = ap (λ (ss : List Station). nth i (map cursor_of ss)) (sym same) ∙ has
+
+-- pairs around one
+pub record PairedAround {X Y : Type 0} (R : X → Y → Type 0) (xs : List X) (x : X) (zs : List X) (ys : List Y) : Type 0 where
+  pub front : List Y
+  pub y : Y
+  pub behind : List Y
+  pub whole : ys ≡ front ++ y ∷ behind
+  pub before : Paired R xs front
+  pub here : R x y
+  pub after : Paired R zs behind
+
+pub paired-around : {X Y : Type 0} (R : X → Y → Type 0) (xs : List X) (x : X) (zs : List X) (ys : List Y) → Paired R (xs ++ x ∷ zs) ys → PairedAround R xs x zs ys
+paired-around R [] x zs [] p = absurd p
+paired-around R [] x zs (y ∷ ys) p = record { front = []; y = y; behind = ys; whole = refl; before = tt; here = p.0; after = p.1 }
+paired-around R (w ∷ xs) x zs [] p = absurd p
+paired-around {X} {Y} R (w ∷ xs) x zs (y ∷ ys) p =
+    let rest = paired-around R xs x zs ys p.1 in
+    record {
+      front = y ∷ rest.front;
+      y = rest.y;
+      behind = rest.behind;
+      whole = ap (λ (l : List Y). y ∷ l) rest.whole;
+      before = (p.0, rest.before);
+      here = rest.here;
+      after = rest.after;
+    }
+
+-- pairs that are so in another way too
+pub paired-so : {X Y : Type 0} (R S : X → Y → Type 0) (xs : List X) (ys : List Y) → ((x : X) (y : Y) → Among x xs → R x y → S x y) → Paired R xs ys → Paired S xs ys
+paired-so R S [] [] so p = tt
+paired-so R S [] (y ∷ ys) so p = absurd p
+paired-so R S (x ∷ xs) [] so p = absurd p
+paired-so R S (x ∷ xs) (y ∷ ys) so p = (so x y (inl refl) p.0, paired-so R S xs ys (λ z w h. so z w (inr h)) p.1)
+
+-- Where a command leaves packets, files beside names and cursors as they were, disks and net still go with each other.
+pub still : (d new : Disks) (net then : Net) → (t : Tracks d net)
+    → new.net.stations ≡ then.stations → new.net.postings ≡ then.postings → new.net.packets ≡ d.net.packets → then.packets ≡ net.packets → new.beside ≡ d.beside
+    → cursors then ≡ cursors net → ((j : ℕ) → Among j new.net.delivered → IsTossedAt t.places then.delivered j) → Tracks new then
+still d new net then t stations postings named packets beside at tossed = record {
+  stations = stations;
+  postings = postings;
+  places = t.places;
+  named =
+      let P : List (List ℕ) → Type 0 = λ ps. Paired (IsItem ps) new.net.packets t.places in
+      let Q : List (List ℕ) → Type 0 = λ ps. Paired (IsItem net.packets) ps t.places in
+      subst P (sym packets) (subst Q (sym named) t.named);
+  tags = t.tags;
+  beside =
+      let P : List (List ℕ) → Type 0 = λ ps. Paired (IsTagged ps (cursors then)) new.beside t.tags in
+      let Q : List ℕ → Type 0 = λ cs. Paired (IsTagged net.packets cs) new.beside t.tags in
+      let S : List Beside → Type 0 = λ fs. Paired (IsTagged net.packets (cursors net)) fs t.tags in
+      subst P (sym packets) (subst Q (sym at) (subst S (sym beside) t.beside));
+  each = λ k. t.each k ∙ ap (λ (ps : List (List ℕ)). below k (length ps)) (sym packets);
+  tossed = tossed;
+}

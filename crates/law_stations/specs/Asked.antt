@@ -1,0 +1,80 @@
+-- What the contract of a command that is run at a station says of the steps of a net.
+use Rattle.std.specs.Prelude.{◌≡◌, ℕ, Bool, List, Option, Some, None, Result, Ok}
+use Rattle.base_file.specs.Base.{Base}
+use Rattle.cmd_report.specs.declared.posting.NewMessage.{NewMessage}
+use Rattle.cmd_report.specs.declared.replying.Answer.{Answer}
+use Rattle.disk_io.specs.Disk.{DiskState}
+use Rattle.cmd_store.specs.declared.letter.Letter.{Letter}
+use Rattle.cmd_store.specs.declared.mailed.MailWords.{MailWords}
+use Rattle.cmd_status.specs.declared.fault.Fault.{Fault}
+use Rattle.cmd_store.specs.declared.stop.Stop.{Stop}
+use Rattle.station.specs.Place.{Place}
+use Rattle.law_stations.specs.Commands.{Command}
+use Rattle.law_stations.specs.Kinds.{IsPurge, IsToss}
+use Rattle.law_stations.specs.Disks.{Disks}
+use Rattle.law_stations.specs.DiskKinds.{IsMail, IsPostAs, IsReplyAs}
+use Rattle.law_stations.specs.Neighbours.{IsKeptOn}
+use Rattle.law_stations.specs.OnDisks.{DoesAsMay, IsAsBefore}
+use Rattle.law_stations.specs.Seats.{IsShared, Seat, StandsAt}
+use Rattle.law_stations.specs.Steps.{HasEnded, IsAllOnDisk, WasCut}
+
+-- what is asked of a station
+pub data Asked : Type 0 where
+  AsksPost : (free : Bool) (words : NewMessage) (body : List ℕ) → Asked
+  AsksReply : (index : ℕ) (answer : Answer) (body : List ℕ) → Asked
+  AsksMail : (letter : Letter) (words : MailWords) → Asked
+  AsksPurge : Asked
+  AsksToss : (indexes : List ℕ) → Asked
+
+-- the command events that it may be where the station has this base
+abbrev pub IsAsked : Asked → Base → Command → Type 0
+IsAsked (AsksPost free words body) base command = IsPostAs free words body command
+IsAsked (AsksReply index answer body) base command = IsReplyAs index answer body base command
+IsAsked (AsksMail letter words) base command = IsMail letter words command
+IsAsked AsksPurge base command = IsPurge command
+IsAsked (AsksToss indexes) base command = IsToss indexes command
+
+-- what the command answers where it ends well
+abbrev pub AnswerOf : Asked → Type 0
+AnswerOf (AsksToss indexes) = Option Fault
+AnswerOf asked = Unit {0}
+
+-- what came of it is one of these events, or nothing did
+abbrev pub MayBe : (Command → Type 0) → Option Command → Type 0
+MayBe IsCommand None = Unit {0}
+MayBe IsCommand (Some command) = IsCommand command
+
+-- A crash cut it, and the net goes on.
+pub record GoesOnCut {Kept : Type 0} (IsCommand : Command → Type 0) (place : Kept → Place) (seat : Seat Kept) (i : ℕ) (d : Disks) (old whole begun : DiskState) : Type 0 where
+  pub command : Option Command
+  pub is : MayBe IsCommand command
+  pub next : Disks
+  pub cut : WasCut place seat i command d next old whole begun
+
+-- It ended well, and the net goes on.
+pub record GoesOnEnded {Kept : Type 0} (IsCommand : Command → Type 0) (place : Kept → Place) (seats : List (Seat Kept)) (seat : Seat Kept) (i : ℕ) (d : Disks) (old new : DiskState) : Type 0 where
+  pub command : Command
+  pub is : IsCommand command
+  pub next : Disks
+  pub ended : HasEnded place seats seat i (Some command) d next old new
+
+-- where another station is on the disk, the base for which the files of this one stand is on that
+abbrev pub IsKeptWhereShared : {Kept : Type 0} → (Kept → Place) → List (Seat Kept) → Seat Kept → ℕ → DiskState → Type 0
+IsKeptWhereShared place seats seat i disk = IsShared seats i seat → (base : Base) → (place seat.kept).stands_for base disk.seen → IsKeptOn (place seat.kept) base disk
+
+-- Whatever crash cuts a command at a station, and where it ends well, the net goes on by a command event that it may be. Where the station
+-- is as before it, as after a fault that it met, the net goes on by none.
+pub record CommandGoesOn {D Kept : Type 0} (state : D → DiskState) (place : Kept → Place) (seats : List (Seat Kept)) (seat : Seat Kept) (i : ℕ) (asked : Asked) (base : Base) (d : Disks) (old whole : D) (result : Result (AnswerOf asked) Stop) : Type 0 where
+  pub cut : (begun : D) → (state whole).left_since (state old).moment (state begun).seen → IsAllOnDisk (state begun)
+      → GoesOnCut (IsAsked asked base) place seat i d (state old) (state whole) (state begun)
+  pub ended : (value : AnswerOf asked) → result ≡ Ok value → IsKeptWhereShared place seats seat i (state whole)
+      → GoesOnEnded (IsAsked asked base) place seats seat i d (state old) (state whole)
+  pub none : IsAsBefore (place seat.kept) seat.links i d (state whole) → IsKeptWhereShared place seats seat i (state whole)
+      → HasEnded place seats seat i None d d (state old) (state whole)
+
+-- so does each command that does on the disk what its event may do
+abbrev pub CommandsGoOn : {D Kept : Type 0} → (D → DiskState) → (Kept → Place) → Type 0
+CommandsGoOn {D} {Kept} state place = (seats : List (Seat Kept)) (seat : Seat Kept) (i : ℕ) (asked : Asked) (d : Disks) (old whole : D) (result : Result (AnswerOf asked) Stop)
+    → (stands : StandsAt place seats i seat (state old) d)
+    → DoesAsMay (IsAsked asked stands.at.shows.station.base) (place seat.kept) seat.links i d (state old) (state whole) result
+    → CommandGoesOn state place seats seat i asked stands.at.shows.station.base d old whole result

@@ -1,0 +1,31 @@
+-- Which command events of a net a command may be, where that depends on what it finds.
+use Rattle.std.specs.Prelude.{◌≡◌, ℕ, Bool, true, false, List, Some, slice_get}
+use Rattle.base_file.specs.Base.{Base}
+use Rattle.echo_filed.specs.Filed.{Filed}
+use Rattle.cmd_report.specs.declared.posting.NewMessage.{NewMessage}
+use Rattle.cmd_report.specs.declared.replying.Answer.{Answer}
+use Rattle.cmd_report.specs.Replied.{IsReply}
+use Rattle.cmd_store.specs.declared.letter.Letter.{Letter}
+use Rattle.cmd_store.specs.declared.mailed.MailWords.{MailWords}
+use Rattle.cmd_store.specs.Mailed.{IsPosting}
+use Rattle.law_stations.specs.Commands.{Command}
+use Rattle.law_stations.specs.Kinds.{IsPost, IsPostWith}
+
+-- the posting of these words, or, where a free serial is looked for, of the same with some serial
+abbrev pub IsPostAs : Bool → NewMessage → List ℕ → Command → Type 0
+IsPostAs false words body command = IsPost words body command
+IsPostAs true words body command = IsPostWith words body command
+
+-- the posting of an answer to the message of this number
+pub record IsReplyAs (index : ℕ) (answer : Answer) (body : List ℕ) (base : Base) (command : Command) : Type 0 where
+  pub message : Filed
+  pub found : slice_get base.messages index ≡ Some message
+  pub words : NewMessage
+  pub of_message : IsReply message answer words
+  pub is : IsPostAs answer.free words body command
+
+-- the posting of a letter
+pub record IsMail (letter : Letter) (asked : MailWords) (command : Command) : Type 0 where
+  pub words : NewMessage
+  pub posting : IsPosting letter asked words
+  pub is : IsPostAs asked.free words letter.body command

@@ -1,0 +1,98 @@
+-- Steps at stations: commands that come to their end, or that crashes cut, and crashes between commands.
+use Rattle.std.specs.Prelude.{◌≡◌, ℕ, List, [], ◌∷◌, Option, Some, None}
+use Rattle.disk_io.specs.Disk.{DiskState}
+use Rattle.model_run.specs.Run.{change, nth}
+use Rattle.station.specs.Place.{Place}
+use Rattle.law_stations.specs.Commands.{Command, CommandEvent}
+use Rattle.law_stations.specs.Disks.{Disks}
+use Rattle.law_stations.specs.Stopping.{LeadsFar}
+use Rattle.law_stations.specs.OnDisks.{LeavesElsewhere, ShowsStation}
+use Rattle.law_stations.specs.Seats.{Seat, StandsAt, reach}
+
+-- A command at a station comes to its end, or a crash cuts it, where it would have come to this disk, or a crash comes between
+-- commands. A command of which nothing comes is none.
+pub data Happening (D : Type 0) : Type 0 where
+  Ends : (station : ℕ) (command : Option Command) → Happening D
+  IsCut : (station : ℕ) (command : Option Command) (whole : D) → Happening D
+  Crashes : Happening D
+
+-- what may come of it
+abbrev pub MayLead : Option Command → ℕ → Disks → Disks → Type 0
+MayLead None i d next = next ≡ d
+MayLead (Some command) i d next = LeadsFar command d i next
+
+-- What happens on the disk of a number, and that disk then. After a crash it is the one with which the machine begins anew.
+pub record Step (D : Type 0) : Type 0 where
+  pub disk : ℕ
+  pub what : Happening D
+  pub then : D
+
+-- the disks after a step
+abbrev pub after : {D : Type 0} → Step D → List D → List D
+after step disks = change step.disk (λ old. step.then) disks
+
+-- all that a disk shows is on it
+pub record IsAllOnDisk (disk : DiskState) : Type 0 where
+  pub named : (m : List ℕ) → disk.is_named m
+  pub flushed : (m : List ℕ) → disk.is_flushed m
+
+-- The command came to its end. The disk shows what it may have led the net to, and what stands elsewhere is as it was.
+pub record HasEnded {Kept : Type 0} (place : Kept → Place) (seats : List (Seat Kept)) (seat : Seat Kept) (i : ℕ) (command : Option Command) (d next : Disks) (old new : DiskState) : Type 0 where
+  pub may : MayLead command i d next
+  pub stands : StandsAt place seats i seat new next
+  pub elsewhere : LeavesElsewhere (reach place seat) old new
+
+-- A crash at a moment of the command left what the disk begins with, and that shows what the command may have led the net to.
+pub record WasCut {Kept : Type 0} (place : Kept → Place) (seat : Seat Kept) (i : ℕ) (command : Option Command) (d next : Disks) (old whole begun : DiskState) : Type 0 where
+  pub left : whole.left_since old.moment begun.seen
+  pub begins : IsAllOnDisk begun
+  pub may : MayLead command i d next
+  pub shows : ShowsStation (place seat.kept) seat.links i begun.seen next
+  pub elsewhere : LeavesElsewhere (reach place seat) old whole
+
+-- a crash between commands left what the disk begins with, all of it on the disk
+pub record HasCrashed (old begun : DiskState) : Type 0 where
+  pub left : old.may_leave begun.seen
+  pub begins : IsAllOnDisk begun
+
+-- the station of a command stands on this disk
+pub record IsOn {Kept : Type 0} (seats : List (Seat Kept)) (number i : ℕ) (seat : Seat Kept) : Type 0 where
+  pub there : nth i seats ≡ Some seat
+  pub on : seat.disk ≡ number
+
+-- the net goes from these disks to the next by what happens on the disk of the number
+abbrev pub GoesBy : {D Kept : Type 0} → (D → DiskState) → (Kept → Place) → List (Seat Kept) → ℕ → Happening D → Disks → Disks → DiskState → DiskState → Type 0
+GoesBy state place seats number (Ends i command) d next old then = (seat : Seat _) × IsOn seats number i seat × HasEnded place seats seat i command d next old then
+GoesBy state place seats number (IsCut i command whole) d next old then =
+    (seat : Seat _) × IsOn seats number i seat × WasCut place seat i command d next old (state whole) then
+GoesBy state place seats number Crashes d next old then = (next ≡ d) × HasCrashed old then
+
+-- and so by a step
+pub record Goes {D Kept : Type 0} (state : D → DiskState) (place : Kept → Place) (seats : List (Seat Kept)) (step : Step D) (disks : List D) (d next : Disks) : Type 0 where
+  pub old : D
+  pub there : nth step.disk disks ≡ Some old
+  pub by : GoesBy state place seats step.disk step.what d next (state old) (state step.then)
+
+-- by some steps, one after another
+abbrev pub GoesOn : {D Kept : Type 0} → (D → DiskState) → (Kept → Place) → List (Seat Kept) → List (Step D) → List D → Disks → Disks → Type 0
+GoesOn state place seats [] disks d last = last ≡ d
+GoesOn state place seats (step ∷ later) disks d last = (next : Disks) × Goes state place seats step disks d next × GoesOn state place seats later (after step disks) next last
+
+-- the disks after some steps
+abbrev pub after_all : {D : Type 0} → List (Step D) → List D → List D
+after_all [] disks = disks
+after_all (step ∷ later) disks = after_all later (after step disks)
+
+-- the commands of some steps, but for those of which nothing came
+abbrev pub with_command : ℕ → Option Command → List CommandEvent → List CommandEvent
+with_command i None later = later
+with_command i (Some command) later = record { station = i; command = command } ∷ later
+
+abbrev pub commands_by : {D : Type 0} → Happening D → List CommandEvent → List CommandEvent
+commands_by (Ends i command) later = with_command i command later
+commands_by (IsCut i command whole) later = with_command i command later
+commands_by Crashes later = later
+
+abbrev pub commands_of : {D : Type 0} → List (Step D) → List CommandEvent
+commands_of [] = []
+commands_of (step ∷ later) = commands_by step.what (commands_of later)

@@ -1,0 +1,97 @@
+-- The effect of a command that may be stopped at any time: by a fault, a kill, or a power cut.
+use Rattle.std.specs.Prelude.{◌≡◌, ◌≢◌, ◌⊎◌, ◌<◌, ◌≤◌, ℕ, zero, suc, true, false, List, [], ◌∷◌, ◌++◌, map, take}
+use Rattle.std.specs.List.{AllByRecursion}
+use Rattle.model_graph.specs.Walk.{Among}
+use Rattle.model_steps.specs.declared.stamp.Stamp.{Stamp}
+use Rattle.model_steps.specs.PacketFiles.{PacketFile}
+use Rattle.base_store.specs.Store.{all_scanned}
+use Rattle.law_stations.specs.Commands.{Command, CommandEvent, Post, Posts, Purge, Purges, Scan, Scans, Toss, Tosses}
+use Rattle.law_stations.specs.Nets.{Net, with_left}
+use Rattle.law_stations.specs.Disks.{Beside, Disks, HasCursor, naming}
+
+-- the same temporary file, now also under the packet's name
+abbrev pub now_named : Beside → Beside
+now_named file = record { station = file.station; number = file.number; bytes = file.bytes; named = true }
+
+-- A scan finishes a temporary file. If its number is below the cursor, its scan had moved the cursor: the packet gets
+-- its name, and the temporary file is removed, unless a stop leaves it. Otherwise it is removed.
+abbrev pub Ends : ℕ → Net → Beside → Net → List Beside → Type 0
+Ends cursor net file new left =
+    ((file.number < cursor) × (new ≡ naming net file.bytes file.named) × ((left ≡ []) ⊎ (left ≡ now_named file ∷ [])))
+    ⊎ ((cursor ≤ file.number) × (new ≡ net) × (left ≡ []))
+
+-- one file of the station is finished
+pub record EndsOne (i : ℕ) (d new : Disks) : Type 0 where
+  pub before : List Beside
+  pub file : Beside
+  pub after : List Beside
+  pub stood : d.beside ≡ before ++ file ∷ after
+  pub own : file.station ≡ i
+  pub cursor : ℕ
+  pub is_cursor : HasCursor d.net i cursor
+  pub left : List Beside
+  pub ends : Ends cursor d.net file new.net left
+  pub stands : new.beside ≡ before ++ (left ++ after)
+
+-- so are some, one after another
+abbrev pub EndsSome : ℕ → ℕ → Disks → Disks → Type 0
+EndsSome zero i d new = new ≡ d
+EndsSome (suc n) i d new = (next : Disks) × EndsOne i d next × EndsSome n i next new
+
+-- a station has no temporary file
+abbrev pub HasNoneBeside : ℕ → List Beside → Type 0
+HasNoneBeside i files = (file : Beside) → Among file files → file.station ≢ i
+
+-- the file was written by the next scan of the station, whole or in part
+pub record IsOfNext (i cursor : ℕ) (file : Beside) : Type 0 where
+  pub own : file.station ≡ i
+  pub number : file.number ≡ cursor
+  pub unnamed : file.named ≡ false
+
+-- A scan with no temporary file of its station left was stopped before the commit of its base: it wrote temporary
+-- files, of any bytes.
+pub record Writes (i : ℕ) (d new : Disks) : Type 0 where
+  pub none : HasNoneBeside i d.beside
+  pub cursor : ℕ
+  pub is_cursor : HasCursor d.net i cursor
+  pub files : List Beside
+  pub are : AllByRecursion (IsOfNext i cursor) files
+  pub becomes : new ≡ record { net = d.net; beside = d.beside ++ files }
+
+-- the temporary file of a packet
+abbrev pub beside_of : ℕ → ℕ → PacketFile → Beside
+beside_of i cursor file = record { station = i; number = cursor; bytes = file.bytes; named = false }
+
+-- Its packets are temporary files, and its base is committed.
+pub record Moves (stamp : Stamp) (i : ℕ) (d new : Disks) : Type 0 where
+  pub none : HasNoneBeside i d.beside
+  pub cursor : ℕ
+  pub is_cursor : HasCursor d.net i cursor
+  pub scanned : Net
+  pub scans : Scans stamp d.net i scanned
+  pub becomes : new ≡ record {
+    net = with_left d.net i [] (all_scanned scans.station.base);
+    beside = d.beside ++ map (beside_of i cursor) scans.packets;
+  }
+
+-- How far a scan gets. It finishes some or all of the files that it finds. Then it is stopped while it writes, or its
+-- base is committed and some or all of its packets get their names.
+abbrev pub ScansFar : Stamp → ℕ → Disks → Disks → Type 0
+ScansFar stamp i d new = (n : ℕ) × (ended : Disks) × EndsSome n i d ended
+    × ((new ≡ ended) ⊎ (Writes i ended new ⊎ ((m : ℕ) × (moved : Disks) × Moves stamp i ended moved × EndsSome m i moved new)))
+
+-- The effect of a command that got this far: its base is committed; a toss may have only some first packets.
+abbrev pub LeadsFar : Command → Disks → ℕ → Disks → Type 0
+LeadsFar (Post words body) d i new = Posts words body d.net i new.net × (new.beside ≡ d.beside)
+LeadsFar (Scan stamp) d i new = ScansFar stamp i d new
+LeadsFar Purge d i new = Purges d.net i new.net × (new.beside ≡ d.beside)
+LeadsFar (Toss indexes) d i new = (n : ℕ) × Tosses (take n indexes) d.net i new.net × (new.beside ≡ d.beside)
+
+-- The possible effects of a command, whatever stops it: none, or it got this far.
+abbrev pub MayHappen : CommandEvent → Disks → Disks → Type 0
+MayHappen event d new = (new ≡ d) ⊎ LeadsFar event.command d event.station new
+
+-- the possible effects of commands in order
+abbrev pub MayHappenAll : List CommandEvent → Disks → Disks → Type 0
+MayHappenAll [] d new = new ≡ d
+MayHappenAll (event ∷ later) d new = (next : Disks) × MayHappen event d next × MayHappenAll later next new

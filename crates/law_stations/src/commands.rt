@@ -1,0 +1,155 @@
+//! Each command, run on a station of a net: it does on the disk what its command event may do.
+ghost use Rattle.disk_io.specs.Disk.{Honestly};
+ghost use Rattle.station.specs.Opening.{AreFree, HaveFailed};
+ghost use Rattle.law_stations.specs.Kinds.{IsPurge};
+ghost use Rattle.law_stations.specs.DiskKinds.{IsMail, IsPostAs, IsReplyAs};
+ghost use Rattle.law_stations.specs.OnDisks.{AsMay, StaysWhereMet, TossesAsMay};
+
+use crate::{tosses_answer_what_stopped_them, tosses_are_what_is_known};
+use cmd_report::PacketFiles;
+use cmd_status::Fault;
+use cmd_store::{Post, PostMail, Purge, Reply, Toss};
+use disk_io::{Disk, Sink};
+use station::{BeforeCommand, Ended, FileLock, Locks, OpenStation, run_command};
+use std::alloc::Global;
+
+/// `purge` on a station. A crash at any time leaves what an earlier one might have left, or the station as before the
+/// command or after it. If it ended well, each later crash leaves the station as after it, and the next command finds
+/// it so. If it met a fault on an open station, both are as before it.
+pub fn purge_as_may<
+    'a,
+    D: Disk,
+    P: OpenStation<'a, D>,
+    Q: BeforeCommand<'a, P::Kept>,
+    L: FileLock,
+    K: FileLock,
+    W: Sink,
+>(
+    alloc: Global,
+    disk: D,
+    locks: &mut Locks<L, K>,
+    station: P,
+    before: &mut Q,
+    command: &mut Purge,
+    out: &mut W,
+) -> Ended<'a, D, ()>
+    requires free { AreFree (L.held locks.old.links) (K.held locks.old.base) }
+    requires can { Honestly (D.state disk) (P.can_open station (D.state disk)) }
+    ensures does { Honestly (D.state result.disk) (AsMay (λ base. IsPurge) (P.place station) (P.reads station (D.state disk)) (D.state disk) (D.state result.disk) result.done) }
+    ensures stays { let failed = HaveFailed (D.failures disk) (D.failures result.disk) (L.failures locks.old.links) (L.failures locks.new.links) (K.failures locks.old.base) (K.failures locks.new.base) in
+        Honestly (D.state result.disk) (StaysWhereMet (P.place station) (P.is_shut station failed (D.state disk) (D.state result.disk)) (D.state disk) (D.state result.disk) result.done) }
+{
+    run_command(alloc, disk, locks, station, before, command, out)
+}
+
+/// The same of `post`. With a free serial it is the posting with some serial.
+pub fn post_as_may<
+    'a,
+    D: Disk,
+    P: OpenStation<'a, D>,
+    Q: BeforeCommand<'a, P::Kept>,
+    L: FileLock,
+    K: FileLock,
+    W: Sink,
+>(
+    alloc: Global,
+    disk: D,
+    locks: &mut Locks<L, K>,
+    station: P,
+    before: &mut Q,
+    command: &mut Post<'_>,
+    out: &mut W,
+) -> Ended<'a, D, ()>
+    requires free { AreFree (L.held locks.old.links) (K.held locks.old.base) }
+    requires can { Honestly (D.state disk) (P.can_open station (D.state disk)) }
+    ensures does { Honestly (D.state result.disk) (AsMay (λ base. IsPostAs command.old.free command.old.words command.old.body.now) (P.place station) (P.reads station (D.state disk)) (D.state disk) (D.state result.disk) result.done) }
+    ensures stays { let failed = HaveFailed (D.failures disk) (D.failures result.disk) (L.failures locks.old.links) (L.failures locks.new.links) (K.failures locks.old.base) (K.failures locks.new.base) in
+        Honestly (D.state result.disk) (StaysWhereMet (P.place station) (P.is_shut station failed (D.state disk) (D.state result.disk)) (D.state disk) (D.state result.disk) result.done) }
+{
+    run_command(alloc, disk, locks, station, before, command, out)
+}
+
+/// The same for `reply`: it is a posting of the words that it gets from its message.
+pub fn reply_as_may<
+    'a,
+    D: Disk,
+    P: OpenStation<'a, D>,
+    Q: BeforeCommand<'a, P::Kept>,
+    L: FileLock,
+    K: FileLock,
+    W: Sink,
+>(
+    alloc: Global,
+    disk: D,
+    locks: &mut Locks<L, K>,
+    station: P,
+    before: &mut Q,
+    command: &mut Reply<'_>,
+    out: &mut W,
+) -> Ended<'a, D, ()>
+    requires free { AreFree (L.held locks.old.links) (K.held locks.old.base) }
+    requires can { Honestly (D.state disk) (P.can_open station (D.state disk)) }
+    ensures does { Honestly (D.state result.disk) (AsMay (IsReplyAs command.old.index command.old.answer command.old.body.now) (P.place station) (P.reads station (D.state disk)) (D.state disk) (D.state result.disk) result.done) }
+    ensures stays { let failed = HaveFailed (D.failures disk) (D.failures result.disk) (L.failures locks.old.links) (L.failures locks.new.links) (K.failures locks.old.base) (K.failures locks.new.base) in
+        Honestly (D.state result.disk) (StaysWhereMet (P.place station) (P.is_shut station failed (D.state disk) (D.state result.disk)) (D.state disk) (D.state result.disk) result.done) }
+{
+    run_command(alloc, disk, locks, station, before, command, out)
+}
+
+/// The same for `post --mail`: it is a posting of the words of its letter.
+pub fn mail_as_may<
+    'a,
+    D: Disk,
+    P: OpenStation<'a, D>,
+    Q: BeforeCommand<'a, P::Kept>,
+    L: FileLock,
+    K: FileLock,
+    W: Sink,
+>(
+    alloc: Global,
+    disk: D,
+    locks: &mut Locks<L, K>,
+    station: P,
+    before: &mut Q,
+    command: &mut PostMail<'_>,
+    out: &mut W,
+) -> Ended<'a, D, ()>
+    requires free { AreFree (L.held locks.old.links) (K.held locks.old.base) }
+    requires can { Honestly (D.state disk) (P.can_open station (D.state disk)) }
+    ensures does { Honestly (D.state result.disk) (AsMay (λ base. IsMail command.old.letter command.old.asked) (P.place station) (P.reads station (D.state disk)) (D.state disk) (D.state result.disk) result.done) }
+    ensures stays { let failed = HaveFailed (D.failures disk) (D.failures result.disk) (L.failures locks.old.links) (L.failures locks.new.links) (K.failures locks.old.base) (K.failures locks.new.base) in
+        Honestly (D.state result.disk) (StaysWhereMet (P.place station) (P.is_shut station failed (D.state disk) (D.state result.disk)) (D.state disk) (D.state result.disk) result.done) }
+{
+    run_command(alloc, disk, locks, station, before, command, out)
+}
+
+/// The same for `toss` of packet files of the net, with or without notes, whatever reads them. If it ended well, it
+/// tossed whole exactly the packets before the one that its answer names.
+pub fn toss_as_may<
+    'a,
+    D: Disk,
+    P: OpenStation<'a, D>,
+    Q: BeforeCommand<'a, P::Kept>,
+    F: PacketFiles<'a> + 'a,
+    L: FileLock,
+    K: FileLock,
+    W: Sink,
+>(
+    alloc: Global,
+    disk: D,
+    locks: &mut Locks<L, K>,
+    station: P,
+    before: &mut Q,
+    command: &mut Toss<'a, F>,
+    out: &mut W,
+) -> Ended<'a, D, Option<Fault<'a>>>
+    requires free { AreFree (L.held locks.old.links) (K.held locks.old.base) }
+    requires can { Honestly (D.state disk) (P.can_open station (D.state disk)) }
+    ensures does { Honestly (D.state result.disk) (TossesAsMay (F.coming command.old.packets) (F.coming command.new.packets) (P.place station) (P.reads station (D.state disk)) (D.state disk) (D.state result.disk) result.done) }
+    ensures stays { let failed = HaveFailed (D.failures disk) (D.failures result.disk) (L.failures locks.old.links) (L.failures locks.new.links) (K.failures locks.old.base) (K.failures locks.new.base) in
+        Honestly (D.state result.disk) (StaysWhereMet (P.place station) (P.is_shut station failed (D.state disk) (D.state result.disk)) (D.state disk) (D.state result.disk) result.done) }
+{
+    tosses_are_what_is_known::<F::Reader>();
+    tosses_answer_what_stopped_them::<F::Reader>();
+    run_command(alloc, disk, locks, station, before, command, out)
+}

@@ -1,0 +1,40 @@
+//! Laws about the definitions. Each law is the contract of a function that does nothing.
+
+ghost use Rattle.law_stations.specs.CanEnd.{LeftCanEnd};
+ghost use Rattle.law_stations.specs.OverCrashes.{CrashesAreNone, HeadlineOverCrashes, SoundOverCrashes, WholeAreAmong};
+
+/// Whatever stops commands at any time, the disks have the bases and postings of a net with such commands, all
+/// of them whole. Each of its packets has its name, or is a temporary file that the next scan of its station
+/// will name. Nothing else has the name of a packet.
+pub fn crashes_are_none()
+    ensures { CrashesAreNone }
+{}
+
+/// The temporary files of a station's stopped scans can be finished. So the laws on scans, which begin after
+/// that, always have disks to begin from.
+pub fn left_packets_can_end()
+    ensures { LeftCanEnd }
+{}
+
+/// The effects of commands without a stop are among the possible effects: all packets of a scan get their
+/// names.
+pub fn whole_commands_are_among_them()
+    ensures { WholeAreAmong }
+{}
+
+/// On stations of different addresses, checked or not, whatever stops commands: each packet file with a name is
+/// a packet. Each base has each message at most once, and only messages that were posted, unchanged unless they
+/// were purged.
+pub fn nets_are_sound_over_crashes()
+    ensures { SoundOverCrashes }
+{}
+
+/// The headline over crashes. Let `check` have ended with 0 for the link files of the stations and an area.
+/// Then the net is sound, whatever commands are run on them, and whatever stops these. Over all packet files
+/// that have their names each station of the area was sent each message of it at most once, and none that it
+/// posted. If the area has settled, its base has each posting exactly once, unchanged unless it was purged. It
+/// has settled when nothing of it waits for a scan or for its name, and every packet with a message of it was
+/// tossed whole.
+pub fn nets_are_in_order_over_crashes()
+    ensures { HeadlineOverCrashes }
+{}

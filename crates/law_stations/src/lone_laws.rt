@@ -1,0 +1,37 @@
+//! Laws about the definitions. Each law is the contract of a function that does nothing.
+
+ghost use Rattle.law_stations.specs.AloneInOrder.{AloneIsInOrder, AloneStays, FaultlessTossIsWhole};
+ghost use Rattle.law_stations.specs.AloneOverCrashes.{AloneIsInOrderOverCrashes, AloneStaysOverCrashes};
+
+/// Let any commands be run on one station that begins with an empty base, and let `toss` get any files.
+/// Commands may be refused, and memory and devices may fail. The base has each message at most once, and
+/// exactly those that were posted or came from a link of their area. Over all packet files each address is sent
+/// each message at most once. It is a link of the area, did not send the message, and was not in its SEEN-BY.
+pub fn lone_stations_are_in_order()
+    ensures { AloneIsInOrder }
+{}
+
+/// Whatever commands are run later, each message stays at its place in the base, unchanged or as its stub, and
+/// no packet file is removed.
+pub fn what_lone_stations_show_stays()
+    ensures { AloneStays }
+{}
+
+/// A toss without a fault has tossed the packets of all its files whole: their messages from links of their
+/// area are in the base.
+pub fn faultless_tosses_are_whole()
+    ensures { FaultlessTossIsWhole }
+{}
+
+/// Let any commands be run on one station that begins with an empty base, whatever stops them, and let `toss`
+/// get any files. The base and the packets of all scans that moved the cursor are in order, as without crashes.
+/// Each of these packets has its name or will get it by the next scan. Nothing else has such a name.
+pub fn lone_stations_are_in_order_over_crashes()
+    ensures { AloneIsInOrderOverCrashes }
+{}
+
+/// Whatever commands are run later, and whatever stops them, each message stays at its place in the base,
+/// unchanged or as its stub. No packet file loses its name.
+pub fn what_lone_stations_show_stays_over_crashes()
+    ensures { AloneStaysOverCrashes }
+{}

@@ -1,0 +1,38 @@
+//! What holds of steps at stations. Each law is the contract of a function that does nothing.
+
+ghost use Rattle.law_stations.specs.Asked.{CommandsGoOn};
+ghost use Rattle.law_stations.specs.Scanned.{ScansGoOn, TossesGoOn};
+ghost use Rattle.law_stations.specs.Seats.{either};
+ghost use Rattle.law_stations.specs.Sequences.{HeadlineOverSequences, SequencesAreAmong};
+
+use disk_io::Disk;
+use station::OpenStation;
+
+/// Stations of two kinds are on disks, and several may share one. Commands run at them, and crashes cut these or come
+/// between them. At the end the disks show what these commands may lead a net to.
+pub fn sequences_are_among<'a, D: Disk, P: OpenStation<'a, D>, O: OpenStation<'a, D>>()
+    ensures { SequencesAreAmong D.state (either P.place O.place) }
+{}
+
+/// A command that does on the disk what its event may do is such a step, whatever crash cuts it: the contracts of
+/// law_stations say so. It is a step if it ended well, or met a fault and left the station as it was. Then its base must
+/// be synced if others share the disk.
+pub fn commands_go_on<'a, D: Disk, P: OpenStation<'a, D>, O: OpenStation<'a, D>>()
+    ensures { CommandsGoOn D.state (either P.place O.place) }
+{}
+
+/// The same for a toss that ended well: the packets that it tossed whole are delivered.
+pub fn tosses_go_on<'a, D: Disk, P: OpenStation<'a, D>, O: OpenStation<'a, D>>()
+    ensures { TossesGoOn D.state (either P.place O.place) }
+{}
+
+/// The same for a scan: whatever crash cuts it, if it ends well, and if it leaves the station as it was.
+pub fn scans_go_on<'a, D: Disk, P: OpenStation<'a, D>, O: OpenStation<'a, D>>()
+    ensures { ScansGoOn D.state (either P.place O.place) }
+{}
+
+/// The headline over sequences. Let `check` have ended with 0 for the link files of the stations and an area. Then after any
+/// steps from empty bases the disks show a net that is in order.
+pub fn sequences_are_in_order<'a, D: Disk, P: OpenStation<'a, D>, O: OpenStation<'a, D>>()
+    ensures { HeadlineOverSequences D.state (either P.place O.place) }
+{}

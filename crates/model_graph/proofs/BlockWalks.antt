@@ -1,0 +1,197 @@
+-- A walk around a member stays on one side of it: links of b that a walk joins around b are in one block at b.
+use Rattle.std.proofs.Common.{◌≡◌, ◌≢◌, ◌<◌, ◌≤◌, ℕ, zero, suc, Bool, IsTrue, [], ◌∷◌, refl, sym, ap, ◌∙◌, subst, arith, inl, inr}
+use Rattle.std.proofs.lemmas.Bool.{cases_eq}
+use Rattle.model_graph.specs.Walk.{Among, Simple}
+use Rattle.model_graph.specs.Beyond.{Around}
+use Rattle.model_graph.specs.Pinches.{IsPinch}
+use Rattle.model_graph.specs.Blocks.{AreBlocks, AreFull, OnOneSide, IsInFull, IsCovered}
+use Rattle.model_graph.proofs.Around.{Around-keeps, Around-sym}
+use Rattle.model_graph.proofs.Walks.{linked_differ}
+
+-- x hangs below b in the block k: so many tops up from x, none of them b, is a member of k, whose top is b
+abbrev pub Hangs : (ℕ → ℕ) → (ℕ → ℕ) → ℕ → ℕ → ℕ → ℕ → Type 0
+Hangs block top b k zero x = (x ≢ b) × (block x ≡ k) × (top x ≡ b)
+Hangs block top b k (suc n) x = (x ≢ b) × Hangs block top b k n (top x)
+
+module _ (links : ℕ → ℕ → Bool) (simple : Simple links) (members : ℕ) (within : (a b : ℕ) → IsTrue (links a b) → b < members)
+    (block top rank : ℕ → ℕ) (are : AreBlocks links members block top rank) where
+  not_b : (b k n x : ℕ) → Hangs block top b k n x → x ≢ b
+  not_b b k zero x h = h.0
+  not_b b k (suc n) x h = h.0
+
+  -- what hangs below b has its links there, but for b itself
+  hangs_next : (b k n x y : ℕ) → Hangs block top b k n x → IsTrue (links x y) → b ≢ y → (m : ℕ) × Hangs block top b k m y
+  hangs_next b k zero x y h link apart =
+      elim (are.links x y link) [
+        | inl same ↦ (0, ((λ e. apart (sym e)), sym same.0 ∙ h.1, sym same.1 ∙ h.2))
+        | inr other ↦
+            elim other [
+              | inl up ↦ absurd (apart (sym h.2 ∙ up))
+              | inr down ↦ (1, ((λ e. apart (sym e)), subst (Hangs block top b k 0) (sym down) h))
+            ]
+      ]
+  hangs_next b k (suc n) x y h link apart =
+      elim (are.links x y link) [
+        | inl same ↦ (suc n, ((λ e. apart (sym e)), subst (Hangs block top b k n) same.1 h.1))
+        | inr other ↦
+            elim other [
+              | inl up ↦ (n, subst (Hangs block top b k n) up h.1)
+              | inr down ↦ (suc (suc n), ((λ e. apart (sym e)), subst (Hangs block top b k (suc n)) (sym down) h))
+            ]
+      ]
+
+  -- and does not rank before b
+  hangs_after : (b k n x : ℕ) → x < members → Hangs block top b k n x → rank b ≤ rank x
+  hangs_after b k zero x inside h =
+      elim (are.ranks x inside).1 [
+        | inl root ↦ omega (arith, ap rank (sym h.2 ∙ root))
+        | inr before ↦ omega (arith, ap rank h.2)
+      ]
+  hangs_after b k (suc n) x inside h =
+      let above = hangs_after b k n (top x) (are.ranks x inside).0 h.1 in
+      elim (are.ranks x inside).1 [
+        | inl root ↦ omega (arith, ap rank root)
+        | inr before ↦ omega arith
+      ]
+
+  -- a link of b that hangs below it hangs there by its own block
+  hangs_by_itself : (b k n c : ℕ) → b < members → IsTrue (links b c) → Hangs block top b k n c → (block c ≡ k) × (top c ≡ b)
+  hangs_by_itself b k zero c inside link h = (h.1, h.2)
+  hangs_by_itself b k (suc n) c inside link h =
+      let apart : top c ≢ b = not_b b k n (top c) h.1 in
+      elim (are.links b c link) [
+        | inl same ↦
+            let above = hangs_after b k n (top b) (are.ranks b inside).0 (subst (Hangs block top b k n) (sym same.1) h.1) in
+            elim (are.ranks b inside).1 [
+              | inl root ↦ absurd (apart (sym same.1 ∙ root))
+              | inr before ↦ absurd (omega arith)
+            ]
+        | inr other ↦
+            elim other [
+              | inl up ↦
+                  let above = hangs_after b k (suc n) c (within b c link) h in
+                  elim (are.ranks b inside).1 [
+                    | inl root ↦ absurd (h.0 (sym up ∙ root))
+                    | inr before ↦ absurd (omega (arith, ap rank up))
+                  ]
+              | inr down ↦ absurd (apart down)
+            ]
+      ]
+
+  -- where a walk around b joins links a and c of b, and a is in a block below b, c is there too
+  joined_below : (b a c : ℕ) → IsTrue (links b a) → IsTrue (links b c) → Around links b a c → top a ≡ b → (block c ≡ block a) × (top c ≡ b)
+  joined_below b a c link_a link_c around below =
+      let apart : a ≢ b = λ e. linked_differ links simple b a link_a (sym e) in
+      let inside : b < members = within a b (simple.both_ways b a link_a) in
+      let Under : ℕ → Type 0 = λ x. (n : ℕ) × Hangs block top b (block a) n x in
+      let found : Under c = Around-keeps links b Under (λ x y h link _ other. hangs_next b (block a) h.0 x y h.1 link other) a c around (0, (apart, refl, below)) in
+      hangs_by_itself b (block a) found.0 c inside link_c found.1
+
+  -- so both are in one block at b
+  pub one_side : (b a c : ℕ) → IsTrue (links b a) → IsTrue (links b c) → Around links b a c → OnOneSide block top b a c
+  one_side b a c link_a link_c around =
+      elim (cases_eq (top a) b) [
+        | inl below ↦ let found = joined_below b a c link_a link_c around below in inl (below, found.1, sym found.0)
+        | inr apart ↦
+            inr (apart, λ (below : top c ≡ b). apart (joined_below b c a link_c link_a (Around-sym links simple b a c around) below).1)
+      ]
+
+  side_trans : (b r a c : ℕ) → OnOneSide block top b r a → OnOneSide block top b a c → OnOneSide block top b r c
+  side_trans b r a c first second =
+      elim first [
+        | inl below ↦
+            elim second [
+              | inl more ↦ inl (below.0, more.1, below.2 ∙ more.2)
+              | inr above ↦ absurd (above.0 below.1)
+            ]
+        | inr above ↦
+            elim second [
+              | inl below ↦ absurd (above.1 below.0)
+              | inr more ↦ inr (above.0, more.1)
+            ]
+      ]
+
+  -- where r covers the links of b beside it, a pinch of b there is one of r
+  pub no_pinch_covered : (b r a c : ℕ) → r < b → ((d f : ℕ) → ¬ IsPinch links r d f) → IsCovered links block top b r → OnOneSide block top b r a → ¬ IsPinch links b a c
+  no_pinch_covered b r a c before none covered side_a pinch =
+      let lt = pinch.in_order in
+      let side_c = side_trans b r a c side_a (one_side b a c pinch.one pinch.other pinch.around) in
+      elim (cases_eq a r) [
+        | inl same ↦
+            let other : c ≢ r = λ e. absurd (omega arith) in
+            pinch.not_linked (subst (λ x. IsTrue (links x c)) (sym same) (covered c pinch.other side_c other))
+        | inr apart_a ↦
+            elim (cases_eq c r) [
+              | inl same ↦ pinch.not_linked (simple.both_ways c a (subst (λ x. IsTrue (links x a)) (sym same) (covered a pinch.one side_a apart_a)))
+              | inr apart_c ↦
+                  none a c
+                  (record {
+                    one = covered a pinch.one side_a apart_a;
+                    other = covered c pinch.other side_c apart_c;
+                    in_order = lt;
+                    not_linked = pinch.not_linked;
+                    around = (b ∷ c ∷ [], (simple.both_ways b a pinch.one, (pinch.other, refl)), not_passed r a b c (λ e. apart_a (sym e)) (λ e. absurd (omega arith)) (λ e. apart_c (sym e)));
+                  })
+            ]
+      ]
+    where
+      not_passed : (r a b c : ℕ) → r ≢ a → r ≢ b → r ≢ c → ¬ Among r (a ∷ b ∷ c ∷ [])
+      not_passed r a b c apart_a apart_b apart_c (inl e) = apart_a e
+      not_passed r a b c apart_a apart_b apart_c (inr (inl e)) = apart_b e
+      not_passed r a b c apart_a apart_b apart_c (inr (inr (inl e))) = apart_c e
+      not_passed r a b c apart_a apart_b apart_c (inr (inr (inr none))) = none
+
+  -- and no pinch lies in a full block
+  pub no_pinch_in_full : (full : ℕ → Bool) → AreFull links members block top full → (b a c : ℕ) → IsInFull block top full b a → ¬ IsPinch links b a c
+  no_pinch_in_full full fully b a c in_full pinch =
+      let lt = pinch.in_order in
+      let differ : a ≢ c = λ e. absurd (omega arith) in
+      let at_a = within b a pinch.one in
+      let at_c = within b c pinch.other in
+      let side = one_side b a c pinch.one pinch.other pinch.around in
+      pinch.not_linked
+      (elim in_full [
+        | inl below ↦
+            elim side [
+              | inl together ↦ fully.each_other a c at_a at_c together.2 differ below.1
+              | inr above ↦ absurd (above.0 below.0)
+            ]
+        | inr above ↦
+            elim side [
+              | inl together ↦ absurd (above.0 together.0)
+              | inr both ↦ linked_above full fully b a c above.1 pinch.one pinch.other differ both.0 both.1
+            ]
+      ])
+    where
+      -- two links of b that are not below it
+      linked_above : (full : ℕ → Bool) → AreFull links members block top full → (b a c : ℕ) → IsTrue (full (block b)) → IsTrue (links b a) → IsTrue (links b c) → a ≢ c → top a ≢ b → top c ≢ b → IsTrue (links a c)
+      linked_above full fully b a c known link_a link_c differ up_a up_c =
+          let at_a = within b a link_a in
+          let at_c = within b c link_c in
+          let P : ℕ → Type 0 = λ k. IsTrue (full k) in
+          let L : ℕ → ℕ → Type 0 = λ x y. IsTrue (links x y) in
+          elim (are.links b a link_a) [
+            | inl same_a ↦
+                elim (are.links b c link_c) [
+                  | inl same_c ↦ fully.each_other a c at_a at_c (sym same_a.0 ∙ same_c.0) differ (subst P same_a.0 known)
+                  | inr other ↦
+                      elim other [
+                        | inl top_c ↦ subst (L a) (sym same_a.1 ∙ top_c) (fully.to_top a at_a (subst P same_a.0 known))
+                        | inr down ↦ absurd (up_c down)
+                      ]
+                ]
+            | inr other ↦
+                elim other [
+                  | inl top_a ↦
+                      elim (are.links b c link_c) [
+                        | inl same_c ↦
+                            simple.both_ways c a (subst (L c) (sym same_c.1 ∙ top_a) (fully.to_top c at_c (subst P same_c.0 known)))
+                        | inr more ↦
+                            elim more [
+                              | inl top_c ↦ absurd (differ (sym top_a ∙ top_c))
+                              | inr down ↦ absurd (up_c down)
+                            ]
+                      ]
+                  | inr down ↦ absurd (up_a down)
+                ]
+          ]

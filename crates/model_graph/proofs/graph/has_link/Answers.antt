@@ -1,0 +1,31 @@
+use Rattle.std.proofs.Common.{◌≡◌, ◌<◌, ◌≤◌, ◌==◌, ℕ, List, length, get_or, Ok, Err, Result, is_ok, MatchResult, sym, ◌∙◌, arith, subst, inl, inr}
+use Rattle.std.specs.List.{list_any}
+use Rattle.std.proofs.lemmas.List.Sorted.{searched}
+use Rattle.std.proofs.lemmas.Bool.{cases_Bool, cases_eq, cases_lt}
+use Rattle.model_graph.specs.Rows.{IsAscending}
+use Rattle.model_graph.proofs.Rows.{holds_at, place_of}
+use Rattle.model_graph.proofs.graph.has_link.Goals as goal
+
+decided : (row : List ℕ) (x : ℕ) (r : Result ℕ ℕ) → MatchResult r (λ i. (i < length row) × (get_or row i 0 ≡ x)) (λ i. (i ≤ length row) × ((k : ℕ) → k < i → get_or row k 0 < x) × ((k : ℕ) → i ≤ k → k < length row → x < get_or row k 0)) → is_ok r ≡ list_any (λ link. link == x) row
+decided row x (Ok i) h = sym (holds_at row x i h.0 h.1)
+decided row x (Err i) h =
+    elim (cases_Bool (list_any (λ link. link == x) row)) [
+      | inl e ↦
+          let p = place_of row x e in
+          elim (cases_lt p.0 i) [
+            | inl before ↦ absurd (omega (arith, h.1 p.0 before, p.2))
+            | inr after ↦ absurd (omega (arith, h.2 p.0 after p.1, p.2))
+          ]
+      | inr e ↦ sym e
+    ]
+
+rising : (row : List ℕ) → IsAscending row → (i j : ℕ) → i ≤ j → j < length row → get_or row i 0 ≤ get_or row j 0
+rising row up i j le lt =
+    elim (cases_eq i j) [
+      | inl e ↦ let P : ℕ → Type 0 = λ k. get_or row i 0 ≤ get_or row k 0 in subst P e (omega arith)
+      | inr differ ↦ omega (arith, up i j (omega arith) lt)
+    ]
+
+pub returns : goal.returns
+returns c =
+    c.is_ok.ensures.value ∙ decided c.args.links.now c.args.member c.binary_search.result (searched c.args.links.now c.args.member c.binary_search.result c.binary_search.ensures.position (rising c.args.links.now c.requires))

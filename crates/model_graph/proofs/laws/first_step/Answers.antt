@@ -1,0 +1,10 @@
+use Rattle.model_graph.proofs.Members.{ℕ-can_tell}
+use Rattle.model_graph.proofs.Steps.{first_step}
+use Rattle.model_graph.proofs.Cuts.{step_beyond}
+use Rattle.model_graph.proofs.laws.first_step.Goals as goal
+
+pub returns : goal.returns
+returns c = record {
+  there = λ linked simple f x rest other. first_step linked simple x f other rest;
+  beyond = step_beyond ℕ-can_tell;
+}

@@ -1,0 +1,27 @@
+use Rattle.std.proofs.Common.{ℕ, List, get_or, arith, below_more}
+use Rattle.std.proofs.lemmas.Bool.{both_ways}
+use Rattle.model_graph.proofs.PinchSearch.{FirstOther-here, not_pinch_here, no_pinch_in_row, row_link}
+use Rattle.model_graph.proofs.pinching.first_other.Goals as goal
+
+pub is_other-requires-clause-within : goal.is_other-requires-clause-within
+is_other-requires-clause-within c =
+    let row : List ℕ = c.links-other-items.result.now in
+    let k : ℕ = c.others.other-index in
+    omega (arith, c.links-other-items.ensures.sound.within c.args.at (get_or row k 0) (row_link c.args.graph.now c.args.at k row c.links-other-items.ensures.value c.others-test.true))
+
+pub returns-then-is_other : goal.returns-then-is_other
+returns-then-is_other c =
+    let row : List ℕ = c.links-other-items.result.now in
+    let told = c.is_other.ensures.0 c.if-is_other.true in
+    FirstOther-here c.args.graph.now c.args.at c.args.one c.others.other-index row c.args.levels.now c.links-other-items.ensures.sound c.links-other-items.ensures.value c.others-test.true c.requires.link c.requires.levels c.others.invariant told.0 told.1 told.2
+
+pub others-preserved : goal.others-preserved
+others-preserved c =
+    let row : List ℕ = c.links-other-items.result.now in
+    below_more _ _ c.others.invariant
+    (not_pinch_here c.args.graph.now c.args.at c.args.one (get_or row c.others.other-index 0) c.args.levels.now c.requires.levels (λ told. both_ways c.is_other.result c.if-is_other.false (c.is_other.ensures.1 told)))
+
+pub returns : goal.returns
+returns c =
+    let row : List ℕ = c.links-other-items.result.now in
+    no_pinch_in_row c.args.graph.now c.args.at c.args.one row c.links-other-items.ensures.value (λ i lt. c.others.invariant i (omega arith))

@@ -1,0 +1,71 @@
+use Rattle.std.proofs.Common.{◌<◌, ◌+◌, ℕ, IsTrue, List, length, get_or, refl, sym, ◌∙◌, subst, arith, below_more}
+use Rattle.std.proofs.lemmas.Bool.{ltb-true}
+use Rattle.model_graph.specs.Rows.{linked}
+use Rattle.std.proofs.lemmas.Option.{MatchOption-at_some, MatchOption-at_none}
+use Rattle.model_graph.specs.Pinches.{IsPinch, FirstOther}
+use Rattle.model_graph.proofs.PinchSearch.{FirstHere-here, no_pinch_at, row_link}
+use Rattle.model_graph.specs.Blocks.{block_of, top_of, rank_of}
+use Rattle.model_graph.proofs.PinchSearch.{Simple-from_graph}
+use Rattle.model_graph.proofs.BlockWalks.{no_pinch_covered}
+use Rattle.model_graph.proofs.pinching.first_pinch_at.Goals as goal
+use Rattle.model_graph.proofs.pinching.first_pinch_at.Goals.{then-chosen-at, else-chosen-at}
+
+pub first_around-requires-clause-within : goal.first_around-requires-clause-within
+first_around-requires-clause-within c =
+    let row : List ℕ = c.links-one-items.result.now in
+    let k : ℕ = c.links.one-index in
+    c.links-one-items.ensures.sound.within c.args.at (get_or row k 0) (row_link c.args.graph.now c.args.at k row c.links-one-items.ensures.value c.links-test.true)
+
+pub first_around-requires-clause-apart : goal.first_around-requires-clause-apart
+first_around-requires-clause-apart c =
+    let row : List ℕ = c.links-one-items.result.now in
+    let k : ℕ = c.links.one-index in
+    let link = row_link c.args.graph.now c.args.at k row c.links-one-items.ensures.value c.links-test.true in
+    λ same. c.links-one-items.ensures.sound.no_self c.args.at (subst (λ one. IsTrue (linked c.args.graph.now c.args.at one)) same link)
+
+pub first_around-requires-clause-link : goal.first_around-requires-clause-link
+first_around-requires-clause-link c =
+    row_link c.args.graph.now c.args.at c.links.one-index c.links-one-items.result.now c.links-one-items.ensures.value c.links-test.true
+
+pub returns-in-Some : goal.returns-in-Some
+returns-in-Some c =
+    let row : List ℕ = c.links-one-items.result.now in (
+      refl,
+      FirstHere-here c.args.graph.now c.args.at c.links.one-index c.in-Some.other row c.links-one-items.ensures.sound c.links-one-items.ensures.value c.links-test.true c.links.invariant
+          (MatchOption-at_some ((f : ℕ) → ¬ IsPinch (linked c.args.graph.now) c.args.at (get_or row c.links.one-index 0) f) (FirstOther (linked c.args.graph.now) c.args.at (get_or row c.links.one-index 0)) c.in-Some.other c.in-Some.is c.in_ok-other.ensures),
+    )
+
+pub links-preserved-then-on_one_side : goal.links-preserved-then-on_one_side
+links-preserved-then-on_one_side c =
+    let rows = c.args.graph.now in
+    let blocks = c.args.blocks.now in
+    let graph = c.links-one-items.ensures.sound in
+    let row : List ℕ = c.links-one-items.result.now in
+    let one : ℕ = get_or row c.links.one-index 0 in
+    let here : (f : ℕ) → ¬ IsPinch (linked rows) c.args.at one f = λ f.
+    elim c.if-chosen-at.branch [
+      | then-chosen-at w ↦
+          no_pinch_covered (linked rows) (Simple-from_graph rows graph) (length rows) graph.within (block_of blocks) (top_of blocks) (rank_of blocks) c.requires.blocks c.args.at c.chosen_link-chosen.result one f
+          w.if-chosen-at.true
+          (λ d e. c.requires.earlier c.chosen_link-chosen.result d e w.if-chosen-at.true)
+          (w.is_covered-covered.ensures (sym w.covered-is ∙ c.if-covered.true))
+          (c.on_one_side.ensures.0 c.if-on_one_side.true)
+      | else-chosen-at w ↦
+          let before : c.chosen_link-chosen.result < c.args.at = ltb-true c.chosen_link-chosen.result c.args.at (sym w.covered-is ∙ c.if-covered.true) in
+          absurd (omega (arith, w.if-chosen-at.false))
+    ] in
+    let all : (k : ℕ) → k < c.links.one-index + 1 → (f : ℕ) → ¬ IsPinch (linked rows) c.args.at (get_or row k 0) f =
+    below_more (λ k. (f : ℕ) → ¬ IsPinch (linked rows) c.args.at (get_or row k 0) f) c.links.one-index (λ k lt f. c.links.invariant k f lt) here in
+    λ k f lt. all k lt f
+
+pub links-preserved : goal.links-preserved
+links-preserved c =
+    let row : List ℕ = c.links-one-items.result.now in
+    let all : (k : ℕ) → k < c.links.one-index + 1 → (f : ℕ) → ¬ IsPinch (linked c.args.graph.now) c.args.at (get_or row k 0) f = below_more (λ k. (f : ℕ) → ¬ IsPinch (linked c.args.graph.now) c.args.at (get_or row k 0) f) c.links.one-index (λ k lt f. c.links.invariant k f lt)
+    (MatchOption-at_none ((f : ℕ) → ¬ IsPinch (linked c.args.graph.now) c.args.at (get_or row c.links.one-index 0) f) (FirstOther (linked c.args.graph.now) c.args.at (get_or row c.links.one-index 0)) c.in_default.is c.in_ok-other.ensures) in
+    λ k f lt. all k lt f
+
+pub returns : goal.returns
+returns c =
+    let row : List ℕ = c.links-one-items.result.now in
+    no_pinch_at c.args.graph.now c.args.at row c.links-one-items.ensures.value (λ i f lt. c.links.invariant i f (omega arith))

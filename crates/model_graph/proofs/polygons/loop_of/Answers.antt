@@ -1,0 +1,71 @@
+use Rattle.std.proofs.Common.{◌≡◌, ◌≤◌, ◌↔◌, ℕ, Bool, false, IsTrue, List, ◌∷◌, length, Option, Some, None, IsSome, MatchOption, refl, sym, ◌∙◌, ap, subst, arith}
+use Rattle.std.proofs.lemmas.Option.{MatchOption-at_some}
+use Rattle.model_graph.specs.declared.pinching.Pinch.{Pinch}
+use Rattle.std.proofs.lemmas.Bool.{both_ways}
+use Rattle.model_graph.specs.Beyond.{Parted}
+use Rattle.model_graph.specs.Walk.{Different, Simple}
+use Rattle.model_graph.specs.Rows.{linked}
+use Rattle.model_graph.specs.Pinches.{IsPinch, FirstPinch}
+use Rattle.model_graph.specs.Loops.{FirstWalk}
+use Rattle.model_graph.proofs.Members.{ℕ-can_tell}
+use Rattle.model_graph.proofs.Cycles.{Polygons-from_Parted}
+use Rattle.model_graph.proofs.PinchSearch.{Simple-from_graph, Parted-from_no_pinch}
+use Rattle.model_graph.proofs.Rings.{Cycle-from_pinch, NamedLoop-written}
+use Rattle.model_graph.proofs.polygons.loop_of.Goals as goal
+
+first_of : (links : ℕ → ℕ → Bool) (found : Option Pinch) (pinch : Pinch) → found ≡ Some pinch → MatchOption found ((b a c : ℕ) → ¬ IsPinch links b a c) (λ pinch. FirstPinch links pinch.at pinch.one pinch.other) → FirstPinch links pinch.at pinch.one pinch.other
+first_of links found pinch is = MatchOption-at_some ((b a c : ℕ) → ¬ IsPinch links b a c) (λ (pinch : Pinch). FirstPinch links pinch.at pinch.one pinch.other) pinch is
+
+ring_is_cycle : (links : ℕ → ℕ → Bool) (b a c : ℕ) (rest ring : List ℕ) → Simple links → IsPinch links b a c → FirstWalk links b a c rest → ring ≡ b ∷ a ∷ rest → (3 ≤ length ring) × Different ring
+ring_is_cycle links b a c rest ring simple pinch walk is =
+    let cycle = Cycle-from_pinch links simple b a c rest pinch walk in
+    let long : 2 ≤ length (a ∷ rest) = cycle.long in
+    (omega (arith, ap length is), subst Different (sym is) cycle.different)
+
+-- where links are not parted there is a pinch
+pinched : (links : ℕ → ℕ → Bool) (parted : Bool) (found : Option Pinch) → Simple links → (IsTrue parted ↔ Parted links) → parted ≡ false → MatchOption found ((b a c : ℕ) → ¬ IsPinch links b a c) (λ (pinch : Pinch). FirstPinch links pinch.at pinch.one pinch.other) → IsSome found
+pinched links parted None simple told apart none = absurd (both_ways parted apart (told.1 (Parted-from_no_pinch links simple none)))
+pinched links parted (Some pinch) simple told apart first = refl
+
+pub returns-then-parted : goal.returns-then-parted
+returns-then-parted c =
+    let links = linked c.args.graph.now in
+    let simple = Simple-from_graph c.args.graph.now c.in_ok-parted.ensures.sound in
+    Polygons-from_Parted ℕ-can_tell links simple (c.in_ok-parted.ensures.parted.0 c.if-parted.true)
+
+pub unwrap-pinch-requires : goal.unwrap-pinch-requires
+unwrap-pinch-requires c =
+    let links = linked c.args.graph.now in
+    let simple = Simple-from_graph c.args.graph.now c.in_ok-parted.ensures.sound in
+    pinched links c.in_ok-parted.parted c.in_ok-first_pinch.field-0 simple c.in_ok-parted.ensures.parted c.if-parted.false c.in_ok-first_pinch.ensures.first
+
+pub ring_of-requires-clause-pinch : goal.ring_of-requires-clause-pinch
+ring_of-requires-clause-pinch c =
+    (first_of (linked c.args.graph.now) c.in_ok-first_pinch.field-0 c.unwrap-pinch.result c.unwrap-pinch.ensures c.in_ok-first_pinch.ensures.first).pinch
+
+pub written-requires-clause-long : goal.written-requires-clause-long
+written-requires-clause-long c =
+    let links = linked c.args.graph.now in
+    let simple = Simple-from_graph c.args.graph.now c.in_ok-parted.ensures.sound in
+    let pinch : Pinch = c.unwrap-pinch.result in
+    let first = first_of links c.in_ok-first_pinch.field-0 pinch c.unwrap-pinch.ensures c.in_ok-first_pinch.ensures.first in
+    let made = c.in_ok-ring.ensures in
+    (ring_is_cycle links pinch.at pinch.one pinch.other made.0 c.deref.result.now simple first.pinch made.2 (c.deref.ensures.value ∙ made.1)).0
+
+pub written-requires-clause-different : goal.written-requires-clause-different
+written-requires-clause-different c =
+    let links = linked c.args.graph.now in
+    let simple = Simple-from_graph c.args.graph.now c.in_ok-parted.ensures.sound in
+    let pinch : Pinch = c.unwrap-pinch.result in
+    let first = first_of links c.in_ok-first_pinch.field-0 pinch c.unwrap-pinch.ensures c.in_ok-first_pinch.ensures.first in
+    let made = c.in_ok-ring.ensures in
+    (ring_is_cycle links pinch.at pinch.one pinch.other made.0 c.deref.result.now simple first.pinch made.2 (c.deref.ensures.value ∙ made.1)).1
+
+pub returns : goal.returns
+returns c =
+    let links = linked c.args.graph.now in
+    let simple = Simple-from_graph c.args.graph.now c.in_ok-parted.ensures.sound in
+    let pinch : Pinch = c.unwrap-pinch.result in
+    let first = first_of links c.in_ok-first_pinch.field-0 pinch c.unwrap-pinch.ensures c.in_ok-first_pinch.ensures.first in
+    let made = c.in_ok-ring.ensures in
+    NamedLoop-written links simple pinch.at pinch.one pinch.other made.0 c.deref.result.now c.in_ok-round.round.items first made.2 (c.deref.ensures.value ∙ made.1) c.in_ok-round.ensures

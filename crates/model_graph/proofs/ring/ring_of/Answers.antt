@@ -1,0 +1,75 @@
+use Rattle.std.proofs.Common.{◌≡◌, ◌≢◌, ◌-◌, ◌<◌, ◌++◌, ◌∷◌, [], ℕ, suc, IsTrue, Option, Some, None, IsSome, List, length, refl, sym, ◌∙◌, ap, subst, arith, inl, inr}
+use Rattle.std.proofs.lemmas.List.{get_or_read}
+use Rattle.model_graph.specs.Rows.{linked, IsGraph}
+use Rattle.model_graph.specs.Levels.{level_of, AreLevels}
+use Rattle.model_graph.specs.Pinches.{IsPinch}
+use Rattle.model_graph.specs.Descents.{SmallestAt}
+use Rattle.model_graph.proofs.Around.{Around-sym}
+use Rattle.model_graph.proofs.Visits.{level_cases, level_within}
+use Rattle.model_graph.proofs.PinchSearch.{Simple-from_graph, level_from_around}
+use Rattle.model_graph.proofs.Descending.{Descent-push, lower_exists, FirstWalk-from_descent}
+use Rattle.model_graph.proofs.ring.ring_of.Goals as goal
+
+other_end : (rows : List (List ℕ)) (b a c : ℕ) → IsGraph rows → IsPinch (linked rows) b a c → (c < length rows) × (c ≢ b)
+other_end rows b a c graph pinch =
+    (graph.within b c pinch.other, λ same. graph.no_self b (subst (λ x. IsTrue (linked rows b x)) same pinch.other))
+
+-- the search from the greater link has reached the smaller
+one_has_level : (rows : List (List ℕ)) (b a c : ℕ) (levels : List (Option ℕ)) → IsGraph rows → IsPinch (linked rows) b a c → AreLevels (linked rows) b c levels → (m : ℕ) × (level_of levels a ≡ Some m)
+one_has_level rows b a c levels graph pinch are =
+    let back = Around-sym (linked rows) (Simple-from_graph rows graph) b a c pinch.around in
+    elim (level_cases (level_of levels a)) [
+      | inl none ↦ absurd (level_from_around (linked rows) b c a levels are back none)
+      | inr found ↦ found
+    ]
+
+pub levels_around-requires-clause-inside : goal.levels_around-requires-clause-inside
+levels_around-requires-clause-inside c =
+    (other_end c.args.graph.now c.args.pinch.at c.args.pinch.one c.args.pinch.other c.requires.sound c.requires.pinch).0
+
+pub levels_around-requires-clause-apart : goal.levels_around-requires-clause-apart
+levels_around-requires-clause-apart c =
+    (other_end c.args.graph.now c.args.pinch.at c.args.pinch.one c.args.pinch.other c.requires.sound c.requires.pinch).1
+
+pub unwrap-level-requires : goal.unwrap-level-requires
+unwrap-level-requires c =
+    let levels : List (Option ℕ) = c.in_ok-levels.levels.items in
+    let has = one_has_level c.args.graph.now c.args.pinch.at c.args.pinch.one c.args.pinch.other levels c.requires.sound c.requires.pinch c.in_ok-levels.ensures.levels in
+    let at : c.index.result.now ≡ level_of levels c.args.pinch.one = get_or_read levels c.args.pinch.one c.index.result.now (level_within levels c.args.pinch.one has.0 has.1) c.index.ensures None in
+    subst IsSome (sym (at ∙ has.1)) refl
+
+pub smallest_at-member-requires-clause-there : goal.smallest_at-member-requires-clause-there
+smallest_at-member-requires-clause-there c =
+    let levels : List (Option ℕ) = c.in_ok-levels.levels.items in
+    let above : c.descending.level ≡ suc (c.descending.level - 1) = omega arith in
+    let lower = lower_exists (linked c.args.graph.now) c.args.pinch.at c.args.pinch.other levels (Simple-from_graph c.args.graph.now c.requires.sound) c.in_ok-levels.ensures.searched c.descending.member (c.descending.level - 1) (c.descending.invariant.1 ∙ ap Some above) in
+    let seen : c.deref.result.now ≡ levels = c.deref.ensures.value in
+    (lower.0, lower.1, ap (λ (now : List (Option ℕ)). level_of now lower.0) seen ∙ lower.2)
+
+pub descending-preserved : goal.descending-preserved
+descending-preserved c =
+    let levels : List (Option ℕ) = c.in_ok-levels.levels.items in
+    let links = linked c.args.graph.now in
+    let so_far = c.descending.invariant.0 in
+    let next : ℕ = c.smallest_at-member.result in
+    let seen : c.deref.result.now ≡ levels = c.deref.ensures.value in
+    let above : c.descending.level ≡ suc (c.descending.level - 1) = omega arith in
+    let smallest : SmallestAt links levels c.descending.member (c.descending.level - 1) next = subst (λ (now : List (Option ℕ)). SmallestAt links now c.descending.member (c.descending.level - 1) next) seen c.smallest_at-member.ensures in (
+      (
+        so_far.0 ++ next ∷ [],
+        c.in_ok-push-3.ensures.items ∙ ap (λ (xs : List ℕ). xs ++ next ∷ []) so_far.1,
+        Descent-push links levels so_far.0 c.args.pinch.one c.descending.member next (c.descending.level - 1) so_far.2 (c.descending.invariant.1 ∙ ap Some above) smallest,
+      ),
+      smallest.has_level,
+    )
+
+pub returns : goal.returns
+returns c =
+    let levels : List (Option ℕ) = c.in_ok-levels.levels.items in
+    let so_far = c.descending.invariant.0 in
+    let has = one_has_level c.args.graph.now c.args.pinch.at c.args.pinch.one c.args.pinch.other levels c.requires.sound c.requires.pinch c.in_ok-levels.ensures.levels in
+    let lowest : c.descending.level ≡ 0 = omega arith in (
+      so_far.0,
+      so_far.1,
+      FirstWalk-from_descent (linked c.args.graph.now) c.args.pinch.at c.args.pinch.one c.args.pinch.other levels (Simple-from_graph c.args.graph.now c.requires.sound) c.in_ok-levels.ensures.searched so_far.0 c.descending.member has.0 so_far.2 has.1 (c.descending.invariant.1 ∙ ap Some lowest),
+    )

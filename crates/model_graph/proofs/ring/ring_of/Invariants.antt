@@ -1,0 +1,12 @@
+use Rattle.std.proofs.Common.{◌≡◌, ◌∷◌, ℕ, List, Some}
+use Rattle.model_graph.specs.Rows.{linked}
+use Rattle.model_graph.specs.Levels.{level_of}
+use Rattle.model_graph.specs.Descents.{Descent}
+use Rattle.model_graph.proofs.ring.ring_of.Given as goal
+
+abbrev pub invariant-descending : goal.invariant-descending
+invariant-descending l =
+    ((rest : List ℕ) × (l.ring.items ≡ l.fn.pinch.at ∷ l.fn.pinch.one ∷ rest) × Descent (linked l.graph) l.levels.items l.fn.pinch.one rest l.member) × (level_of l.levels.items l.member ≡ Some l.level)
+
+abbrev pub decreases-descending : goal.decreases-descending
+decreases-descending l = l.level

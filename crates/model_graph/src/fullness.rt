@@ -1,0 +1,77 @@
+//! The full blocks of a graph: all members are linked with each other and with the top.
+
+ghost use Rattle.std.specs.Prelude.{◌≡◌, ◌<◌, ℕ, false, IfOk, IsTrue, None, length, vec_len, slice_index_or};
+ghost use Rattle.model_graph.specs.Rows.{linked, IsGraph};
+ghost use Rattle.model_graph.specs.Blocks.{block_of, top_of, AreFull, IsLastBefore, IsFullyLinked};
+
+use crate::blocks::Blocks;
+use crate::graph::Graph;
+use std::alloc::{AllocError, Global};
+
+/// Which blocks, by number, are full. Takes for each full block the square of its members, and for
+/// each other one at most the time of its links.
+pub fn full_blocks(alloc: Global, graph: &Graph, blocks: &Blocks) -> Result<Vec<bool>, AllocError>
+    ensures { IfOk result (λ full. AreFull (linked graph.now) (length graph.now) (block_of blocks.now) (top_of blocks.now) (λ block. slice_index_or full.items block false)) }
+{
+    let members = graph.len();
+    let previous = previous_in_block(alloc, members, blocks)?;
+    let mut full = vec![in alloc; true; members]?;
+    'members: for member in 0..members {
+        let block = blocks.block(member);
+        if block < members && full[block] && !is_fully_linked(graph, blocks, &previous, member) {
+            full[block] = false;
+        }
+    }
+    Ok(full)
+}
+
+/// The last member before each one in its block. It skips blocks with a number that is no member's.
+fn previous_in_block(
+    alloc: Global,
+    members: usize,
+    blocks: &Blocks,
+) -> Result<Vec<Option<usize>>, AllocError>
+    ensures lengths { IfOk result (λ previous. vec_len previous ≡ members) }
+    ensures previous { IfOk result (λ previous. (x : ℕ) → x < members → block_of blocks.now x < members →
+        IsLastBefore (block_of blocks.now) (block_of blocks.now x) x (slice_index_or previous.items x None)) }
+{
+    let mut previous = Vec::new(alloc);
+    let mut last = vec![in alloc; None; members]?;
+    'members: for member in 0..members {
+        let block = blocks.block(member);
+        if block < members {
+            previous.push(last[block])?;
+            last[block] = Some(member);
+        } else {
+            previous.push(None)?;
+        }
+    }
+    Ok(previous)
+}
+
+/// Is the member linked with the top of its block, and with each earlier member of it?
+fn is_fully_linked(
+    graph: &Graph,
+    blocks: &Blocks,
+    previous: &[Option<usize>],
+    member: usize,
+) -> bool
+    requires inside { member < length graph.now }
+    requires block { block_of blocks.now member < length graph.now }
+    requires lengths { length previous.now ≡ length graph.now }
+    requires previous { (x : ℕ) → x < length graph.now → block_of blocks.now x < length graph.now →
+        IsLastBefore (block_of blocks.now) (block_of blocks.now x) x (slice_index_or previous.now x None) }
+    ensures { IsTrue result → IsFullyLinked (linked graph.now) (block_of blocks.now) (top_of blocks.now) member }
+{
+    if !graph.is_linked(member, blocks.top(member)) {
+        return false;
+    }
+    let mut from = member;
+    'walking: while let Some(earlier) = previous[from] {
+        if !graph.is_linked(member, earlier) {
+            return false;
+        }
+        from = earlier;
+    }
+    true
+}

@@ -1,0 +1,173 @@
+//! Members with two links that are joined around them though not linked.
+
+ghost use Rattle.std.specs.Prelude.{◌≡◌, ◌≢◌, ◌<◌, ◌↔◌, ℕ, IsTrue, IfOk, MatchOption, None, length};
+ghost use Rattle.model_graph.specs.Rows.{linked, IsGraph};
+ghost use Rattle.model_graph.specs.Levels.{level_of, AreLevels};
+ghost use Rattle.model_graph.specs.Pinches.{IsPinch, FirstPinch, FirstOther, FirstHere};
+ghost use Rattle.model_graph.specs.Blocks.{block_of, top_of, rank_of, full_of, AreBlocks, AreFull, HasUnlinkedAfter, IsCovered};
+
+use crate::blocks::Blocks;
+use crate::division::blocks;
+use crate::graph::Graph;
+use crate::levels::levels_around;
+use std::alloc::{AllocError, Global};
+
+/// Two links of a member that are not linked, though a walk joins them that does not pass it.
+#[derive(Clone, Copy, PartialEq, Eq, Debug)]
+pub struct Pinch {
+    /// The member.
+    pub at: usize,
+    /// The smaller of its two links.
+    pub one: usize,
+    /// The greater of its two links.
+    pub other: usize,
+}
+
+/// The first pinch of the graph: the smallest member, and of its pinches the one with the smallest
+/// links. `None` exactly where the graph has none. Fails only when out of memory.
+///
+/// A search is made only from a link that has a later one in its block at that member which it is not
+/// linked with. With the blocks that a search in depth finds it finds a pinch, so it is the only one.
+pub fn first_pinch(alloc: Global, graph: &Graph) -> Result<Option<Pinch>, AllocError>
+    ensures sound { IsGraph graph.now }
+    ensures first { IfOk result (λ found. MatchOption found
+        ((b a c : ℕ) → ¬ IsPinch (linked graph.now) b a c)
+        (λ pinch. FirstPinch (linked graph.now) pinch.at pinch.one pinch.other)) }
+{
+    let members = graph.len();
+    let blocks = blocks(alloc, graph)?;
+    'members: for at in 0..members {
+        if let Some(pinch) = first_pinch_at(alloc, graph, &blocks, at)? {
+            return Ok(Some(pinch));
+        }
+    }
+    Ok(None)
+}
+
+/// The first pinch at this member. It skips a link that is covered in one block by an earlier link:
+/// a pinch there would be one of the earlier link too.
+fn first_pinch_at(
+    alloc: Global,
+    graph: &Graph,
+    blocks: &Blocks,
+    at: usize,
+) -> Result<Option<Pinch>, AllocError>
+    requires inside { at < length graph.now }
+    requires earlier { (b a c : ℕ) → b < at → ¬ IsPinch (linked graph.now) b a c }
+    requires blocks { AreBlocks (linked graph.now) (length graph.now) (block_of blocks.now) (top_of blocks.now) (rank_of blocks.now) }
+    requires full { AreFull (linked graph.now) (length graph.now) (block_of blocks.now) (top_of blocks.now) (full_of blocks.now) }
+    ensures { IfOk result (λ found. MatchOption found
+        ((a c : ℕ) → ¬ IsPinch (linked graph.now) at a c)
+        (λ pinch. (pinch.at ≡ at) × FirstHere (linked graph.now) at pinch.one pinch.other)) }
+{
+    let chosen = chosen_link(graph, blocks, at);
+    let covered = chosen < at && is_covered(graph, blocks, at, chosen);
+    'links: for one in graph.links(at) {
+        if covered && blocks.on_one_side(at, chosen, *one) {
+            continue;
+        }
+        if let Some(other) = first_around(alloc, graph, blocks, at, *one)? {
+            return Ok(Some(Pinch {
+                at,
+                one: *one,
+                other,
+            }));
+        }
+    }
+    Ok(None)
+}
+
+/// The first link of `at` in a block that is not known to be full, or `at` itself.
+fn chosen_link(graph: &Graph, blocks: &Blocks, at: usize) -> usize
+    requires { at < length graph.now }
+{
+    'links: for one in graph.links(at) {
+        if !blocks.is_in_full(at, *one) {
+            return *one;
+        }
+    }
+    at
+}
+
+/// Is each link of `at` in the block of `chosen` there this one, or linked with it?
+fn is_covered(graph: &Graph, blocks: &Blocks, at: usize, chosen: usize) -> bool
+    requires inside { at < length graph.now }
+    requires within { chosen < length graph.now }
+    ensures { IsTrue result → IsCovered (linked graph.now) (block_of blocks.now) (top_of blocks.now) at chosen }
+{
+    'links: for other in graph.links(at) {
+        if *other != chosen
+            && blocks.on_one_side(at, chosen, *other)
+            && !graph.is_linked(chosen, *other)
+        {
+            return false;
+        }
+    }
+    true
+}
+
+/// The first link of `at` after `one` that is joined with it around `at`, though not linked with it. A
+/// search is made only where some link after `one`, in its block at `at`, is not linked with it.
+fn first_around(
+    alloc: Global,
+    graph: &Graph,
+    blocks: &Blocks,
+    at: usize,
+    one: usize,
+) -> Result<Option<usize>, AllocError>
+    requires sound { IsGraph graph.now }
+    requires blocks { AreBlocks (linked graph.now) (length graph.now) (block_of blocks.now) (top_of blocks.now) (rank_of blocks.now) }
+    requires full { AreFull (linked graph.now) (length graph.now) (block_of blocks.now) (top_of blocks.now) (full_of blocks.now) }
+    requires inside { at < length graph.now }
+    requires within { one < length graph.now }
+    requires apart { one ≢ at }
+    requires link { IsTrue (linked graph.now at one) }
+    ensures { IfOk result (λ found. MatchOption found
+        ((c : ℕ) → ¬ IsPinch (linked graph.now) at one c)
+        (FirstOther (linked graph.now) at one)) }
+{
+    if blocks.is_in_full(at, one) || !has_unlinked(graph, blocks, at, one) {
+        return Ok(None);
+    }
+    let levels = levels_around(alloc, graph, at, one)?;
+    Ok(first_other(graph, at, one, &levels))
+}
+
+/// Is there a link of `at` after `one`, in its block at `at`, that is not linked with it?
+fn has_unlinked(graph: &Graph, blocks: &Blocks, at: usize, one: usize) -> bool
+    requires inside { at < length graph.now }
+    requires within { one < length graph.now }
+    ensures { IsTrue result ↔ HasUnlinkedAfter (linked graph.now) (block_of blocks.now) (top_of blocks.now) at one }
+{
+    'others: for other in graph.links(at) {
+        if one < *other && blocks.on_one_side(at, one, *other) && !graph.is_linked(one, *other) {
+            return true;
+        }
+    }
+    false
+}
+
+/// The first link of `at` after `one` that is joined with it around `at`, though not linked with it.
+fn first_other(graph: &Graph, at: usize, one: usize, levels: &[Option<usize>]) -> Option<usize>
+    requires inside { at < length graph.now }
+    requires link { IsTrue (linked graph.now at one) }
+    requires lengths { length levels.now ≡ length graph.now }
+    requires levels { AreLevels (linked graph.now) at one levels.now }
+    ensures { MatchOption result ((c : ℕ) → ¬ IsPinch (linked graph.now) at one c) (FirstOther (linked graph.now) at one) }
+{
+    'others: for other in graph.links(at) {
+        if is_other(graph, one, *other, levels) {
+            return Some(*other);
+        }
+    }
+    None
+}
+
+/// Does `other` come after `one`, have a level, and no link with `one`?
+fn is_other(graph: &Graph, one: usize, other: usize, levels: &[Option<usize>]) -> bool
+    requires inside { one < length graph.now }
+    requires within { other < length levels.now }
+    ensures { IsTrue result ↔ ((one < other) × (level_of levels.now other ≢ None) × ¬ IsTrue (linked graph.now one other)) }
+{
+    one < other && levels[other].is_some() && !graph.is_linked(one, other)
+}

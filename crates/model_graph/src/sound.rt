@@ -1,0 +1,81 @@
+//! Are rows of links a graph?
+
+ghost use Rattle.std.specs.Prelude.{◌≡◌, ◌≢◌, ◌<◌, ◌↔◌, ℕ, IsTrue, length, slice_index};
+ghost use Rattle.model_graph.specs.Rows.{links_at, linked, IsAscending, IsGraph, Answered, EachAnswered};
+
+use crate::graph::{Links, has_link};
+
+/// Are these rows a graph: does each row ascend, and does each link lead to another member with
+/// that link in its row?
+pub fn is_graph(rows: &[Links]) -> bool
+    ensures { IsTrue result ↔ IsGraph rows.now }
+{
+    rows_ascend(rows) && links_are_answered(rows)
+}
+
+fn rows_ascend(rows: &[Links]) -> bool
+    ensures { IsTrue result ↔ ((a : ℕ) → a < length rows.now → IsAscending (links_at rows.now a)) }
+{
+    'members: for member in 0..rows.len() {
+        if !is_ascending(row_of(rows, member)) {
+            return false;
+        }
+    }
+    true
+}
+
+fn is_ascending(links: &[usize]) -> bool
+    ensures { IsTrue result ↔ IsAscending links.now }
+{
+    'links: for place in 1..links.len() {
+        if links[place - 1] >= links[place] {
+            return false;
+        }
+    }
+    true
+}
+
+/// Does each link lead to another member with that link in its row?
+fn links_are_answered(rows: &[Links]) -> bool
+    requires { (a : ℕ) → a < length rows.now → IsAscending (links_at rows.now a) }
+    ensures { IsTrue result ↔ ((a : ℕ) → a < length rows.now → EachAnswered rows.now a) }
+{
+    'members: for member in 0..rows.len() {
+        if !row_is_answered(rows, member) {
+            return false;
+        }
+    }
+    true
+}
+
+/// Does each link of this member lead to another one with that link in its row?
+fn row_is_answered(rows: &[Links], member: usize) -> bool
+    requires inside { member < length rows.now }
+    requires ascending { (a : ℕ) → a < length rows.now → IsAscending (links_at rows.now a) }
+    ensures { IsTrue result ↔ EachAnswered rows.now member }
+{
+    'links: for other in row_of(rows, member) {
+        if !is_answered(rows, member, *other) {
+            return false;
+        }
+    }
+    true
+}
+
+/// Does the link lead to another member with that link in its row?
+fn is_answered(rows: &[Links], member: usize, other: usize) -> bool
+    requires { (a : ℕ) → a < length rows.now → IsAscending (links_at rows.now a) }
+    ensures { IsTrue result ↔ Answered rows.now member other }
+{
+    if other >= rows.len() || other == member {
+        return false;
+    }
+    has_link(row_of(rows, other), member)
+}
+
+fn row_of(rows: &[Links], member: usize) -> &[usize]
+    requires { member < length rows.now }
+    ensures { result.now ≡ links_at rows.now member }
+{
+    rows[member].as_slice()
+}

@@ -1,0 +1,132 @@
+-- An item of a list is changed.
+use Rattle.std.proofs.Common.{◌≡◌, ◌≢◌, ℕ, zero, suc, ◌<◌, ◌≤◌, List, [], ◌∷◌, ◌++◌, length, get_or, set, map, cond, refl, sym, ap, subst, ◌∙◌, Option, Some, None, arith}
+use Rattle.std.specs.Prelude.{is_none}
+use Rattle.std.specs.List.{All}
+use Rattle.std.proofs.lemmas.List.{append-nil}
+use Rattle.std.proofs.lemmas.Option.{get_or_from_slice_get, slice_get_read}
+use Rattle.std.proofs.Math.Seq.{map-set_same}
+use Rattle.echo_links.specs.Links.{LinkFile}
+use Rattle.model_steps.specs.declared.draft.Draft.{Draft}
+use Rattle.model_steps.specs.declared.stamp.Stamp.{Stamp}
+use Rattle.model_steps.specs.declared.fault.PostFault.{PostFault}
+use Rattle.model_steps.specs.declared.fault.PostFault.TheVariants as fault
+use Rattle.model_steps.specs.declared.fault.ScanFault.TheVariants as scan_fault
+use Rattle.model_steps.specs.declared.packet.Packet.{Packet}
+use Rattle.model_steps.specs.Posting.{IsPostFault, post_refusal, posted, posting}
+use Rattle.model_steps.specs.SystemState.{SystemState, state_with}
+use Rattle.model_run.specs.Run.{change, nth}
+use Rattle.model_replay.specs.Worlds.{Exported, Fits, ScanFits, WorldState, own_addresses, after_posting, after_scan, after_toss, arrived, made, made_by, scanned_world, with_change}
+use Rattle.model_replay.proofs.Exports.{nth-slice_get}
+
+-- past the end nothing changes
+pub change-past : {X : Type 0} (i : ℕ) (f : X → X) (xs : List X) → length xs ≤ i → change i f xs ≡ xs
+change-past i f [] h = refl
+change-past zero f (x ∷ xs) h = absurd (omega arith)
+change-past (suc i) f (x ∷ xs) h = ap (λ (ys : List _). x ∷ ys) (change-past i f xs (omega arith))
+
+-- the new item is put in the place of the old one
+pub set-change : {X : Type 0} (i : ℕ) (f : X → X) (xs : List X) (y d : X) → i < length xs → y ≡ f (get_or xs i d) → set xs i y ≡ change i f xs
+set-change i f [] y d h e = absurd (omega arith)
+set-change zero f (x ∷ xs) y d h e = ap (λ (z : _). z ∷ xs) e
+set-change (suc i) f (x ∷ xs) y d h e = ap (λ (ys : List _). x ∷ ys) (set-change i f xs y d (omega arith) e)
+
+-- nothing more is put at the end of the base
+pub state_with-none : (s : SystemState) → state_with s None ≡ s
+state_with-none s = let e = append-nil s.base in λ i. record { file = s.file; base = e i; cursor = s.cursor }
+
+-- a posting that nothing refuses, and one that is refused
+posting-some : (o : SystemState) (tag : List ℕ) (draft : Draft) (serial : ℕ) (stamp : Stamp) → post_refusal o.file o.base tag draft serial stamp ≡ None
+    → posting o.file o.base tag draft serial stamp ≡ Some (posted o.file tag draft serial stamp)
+unfolding posting
+posting-some o tag draft serial stamp e = ap (λ (r : Option PostFault). cond (is_none r) (Some (posted o.file tag draft serial stamp)) None) e
+
+posting-none : (o : SystemState) (tag : List ℕ) (draft : Draft) (serial : ℕ) (stamp : Stamp) (f : PostFault) → post_refusal o.file o.base tag draft serial stamp ≡ Some f
+    → posting o.file o.base tag draft serial stamp ≡ None
+unfolding posting
+posting-none o tag draft serial stamp f e = ap (λ (r : Option PostFault). cond (is_none r) (Some (posted o.file tag draft serial stamp)) None) e
+
+after_refusal : (o : SystemState) (tag : List ℕ) (draft : Draft) (serial : ℕ) (stamp : Stamp) (f : PostFault) (n : SystemState) → post_refusal o.file o.base tag draft serial stamp ≡ Some f
+    → n ≡ o → n ≡ after_posting tag draft serial stamp o
+after_refusal o tag draft serial stamp f n e same =
+    same ∙ sym (state_with-none o) ∙ ap (state_with o) (sym (posting-none o tag draft serial stamp f e))
+
+-- what was filed, or refused for another cause than memory, is what happens in a run
+pub posted-after : (o : SystemState) (tag : List ℕ) (draft : Draft) (serial : ℕ) (stamp : Stamp) (n : SystemState) → post_refusal o.file o.base tag draft serial stamp ≡ None
+    → n ≡ state_with o (Some (posted o.file tag draft serial stamp)) → n ≡ after_posting tag draft serial stamp o
+posted-after o tag draft serial stamp n free h = h ∙ ap (state_with o) (sym (posting-some o tag draft serial stamp free))
+
+pub refused-after : (o : SystemState) (tag : List ℕ) (draft : Draft) (serial : ℕ) (stamp : Stamp) (f : PostFault) (n : SystemState)
+    → IsPostFault o.file o.base tag draft serial stamp f → f ≢ fault.Memory → n ≡ o → n ≡ after_posting tag draft serial stamp o
+refused-after o tag draft serial stamp fault.Memory n h other same = absurd (other refl)
+refused-after o tag draft serial stamp fault.NoArea n h other same = after_refusal o tag draft serial stamp fault.NoArea n h same
+refused-after o tag draft serial stamp fault.ByteZero n h other same = after_refusal o tag draft serial stamp fault.ByteZero n h same
+refused-after o tag draft serial stamp fault.FieldTooLong n h other same = after_refusal o tag draft serial stamp fault.FieldTooLong n h same
+refused-after o tag draft serial stamp fault.BadStamp n h other same = after_refusal o tag draft serial stamp fault.BadStamp n h same
+refused-after o tag draft serial stamp fault.BadReply n h other same = after_refusal o tag draft serial stamp fault.BadReply n h same
+refused-after o tag draft serial stamp fault.KnownSerial n h other same = after_refusal o tag draft serial stamp fault.KnownSerial n h same
+
+-- the own_addresses stay where one system changes and its link file stays
+pub set-addresses : (ss : List SystemState) (i : ℕ) (s d : SystemState) → s.file ≡ (get_or ss i d).file → own_addresses (set ss i s) ≡ own_addresses ss
+set-addresses ss i s d e = map-set_same (λ (x : SystemState). x.file.system) ss i s d (ap (λ (f : LinkFile). f.system) e)
+
+-- an index past the systems changes nothing
+pub with_past : (world : WorldState) (i : ℕ) (f : SystemState → SystemState) → length world.systems ≤ i → world ≡ with_change world i f
+with_past world i f h =
+    let e = sym (change-past i f world.systems h) in
+    λ j. record { systems = e j; packets = world.packets }
+
+-- where the index is one of a system, that system changes
+pub with_set : (systems : List SystemState) (packets : List Exported) (world : WorldState) (i : ℕ) (f : SystemState → SystemState) (s t d : SystemState)
+    → record { systems = systems; packets = packets } ≡ world → i < length systems → t ≡ get_or systems i d → s ≡ f t
+    → record { systems = set systems i s; packets = packets } ≡ with_change world i f
+with_set systems packets world i f s t d view h there new =
+    let e : set systems i s ≡ change i f systems = set-change i f systems s d h (new ∙ ap f there) in
+    (λ j. record { systems = e j; packets = packets }) ∙ ap (λ (w : WorldState). with_change w i f) view
+
+-- and its address stays
+pub addresses_stay : (systems : List SystemState) (packets : List Exported) (world : WorldState) (i : ℕ) (s t d : SystemState)
+    → record { systems = systems; packets = packets } ≡ world → t ≡ get_or systems i d → s.file ≡ t.file
+    → own_addresses (set systems i s) ≡ own_addresses world.systems
+addresses_stay systems packets world i s t d view there same =
+    set-addresses systems i s d (same ∙ ap (λ (x : SystemState). x.file) there) ∙ ap (λ (w : WorldState). own_addresses w.systems) view
+
+-- the item that was read is the one of its index
+pub nth-read : {X : Type 0} (xs : List X) (i : ℕ) (x : X) → i < length xs → x ≡ get_or xs i x → nth i xs ≡ Some x
+nth-read xs i x within there = sym (nth-slice_get i xs) ∙ slice_get_read xs (length xs) i x refl within there
+
+-- the item of an index is what is read there
+pub read-nth : {X : Type 0} (xs : List X) (i : ℕ) (x d : X) → nth i xs ≡ Some x → get_or xs i d ≡ x
+read-nth xs i x d there = get_or_from_slice_get xs i x d (nth-slice_get i xs ∙ there)
+
+-- a system scanned, and its packets were put last
+pub scanned-set : (systems : List SystemState) (packets now : List Exported) (world : WorldState) (i : ℕ) (stamp : Stamp) (ps : List Packet) (s t : SystemState)
+    → record { systems = systems; packets = packets } ≡ world → i < length systems → t ≡ get_or systems i t → s ≡ after_scan stamp t
+    → ps ≡ made_by stamp t → now ≡ packets ++ map made ps
+    → record { systems = set systems i s; packets = now } ≡ scanned_world world i stamp (nth i world.systems)
+scanned-set systems packets now world i stamp ps s t view within there new made_is put =
+    let e = set-change i (after_scan stamp) systems s t within (new ∙ ap (after_scan stamp) there) in
+    let bytes : now ≡ packets ++ map made (made_by stamp t) = put ∙ ap (λ (qs : List Packet). packets ++ map made qs) made_is in
+    let here = sym (nth-read systems i t within there) in
+    (λ j. record { systems = e j; packets = bytes j })
+    ∙ ap (λ (o : Option SystemState). scanned_world (record { systems = systems; packets = packets }) i stamp o) here
+    ∙ ap (λ (w : WorldState). scanned_world w i stamp (nth i w.systems)) view
+
+pub fits-set : (systems : List SystemState) (packets : List Exported) (world : WorldState) (i : ℕ) (stamp : Stamp) (ps : List Packet) (t : SystemState)
+    → record { systems = systems; packets = packets } ≡ world → i < length systems → t ≡ get_or systems i t
+    → ps ≡ made_by stamp t → All Fits ps → ScanFits stamp (nth i world.systems)
+fits-set systems packets world i stamp ps t view within there made_is fits =
+    let here = nth-read systems i t within there in
+    let P : WorldState → Type 0 = λ w. ScanFits stamp (nth i w.systems) in
+    subst P view (subst (ScanFits stamp) (sym here) (subst (All Fits) made_is fits))
+
+-- a packet came to a system
+pub arrived-set : (systems : List SystemState) (packets : List Exported) (world : WorldState) (i k : ℕ) (p : Packet) (s t d : SystemState) (e x y : Exported)
+    → record { systems = systems; packets = packets } ≡ world → i < length systems → k < length packets
+    → t ≡ get_or systems i d → s ≡ after_toss p t → x ≡ get_or packets k y → e ≡ arrived x
+    → ◌≡◌ {A = WorldState} (record { systems = set systems i s; packets = set packets k e })
+    (record { systems = change i (after_toss p) world.systems; packets = change k arrived world.packets })
+arrived-set systems packets world i k p s t d e x y view within among there new found mark =
+    let a = set-change i (after_toss p) systems s d within (new ∙ ap (after_toss p) there) in
+    let b = set-change k arrived packets e y among (mark ∙ ap arrived found) in
+    (λ j. record { systems = a j; packets = b j })
+    ∙ ap (λ (w : WorldState). record { systems = change i (after_toss p) w.systems; packets = change k arrived w.packets }) view

@@ -1,0 +1,81 @@
+-- What is read off a world is what is read off its run.
+use Rattle.std.proofs.Common.{◌≡◌, ℕ, zero, suc, cond, arith, ◌+◌, ◌<◌, ◌==◌, ◌&&◌, not, Bool, false, List, [], ◌∷◌, length, drop, map, sym, ap, ◌∙◌, Option, Some, None}
+use Rattle.std.proofs.lemmas.List.{length-map}
+use Rattle.std.proofs.lemmas.List.Sums.{sum_by-cons}
+use Rattle.echo_filed.specs.Filed.{Filed}
+use Rattle.std.specs.Prelude.{bytes_eq, count_by, nat_le, option_map, slice_get, unwrap_or}
+use Rattle.std.specs.List.{list_all}
+use Rattle.std.proofs.lemmas.List.Folds.{list_all-map}
+use Rattle.model_steps.specs.SystemState.{SystemState}
+use Rattle.model_run.specs.Run.{Run, System, destination, nth}
+use Rattle.model_run.specs.World.{area_count, filed_at, is_settled, undelivered}
+use Rattle.model_replay.specs.Worlds.{Exported, IsWorldOf, WorldState, encoded, exported_from, state_of}
+use Rattle.model_replay.proofs.Exports.{exported-bytes, exported-length, exported-missing, exported-to, nth-map, nth-slice_get}
+
+-- how many packets did not come
+pub missing-is : (world : WorldState) (run : Run) → IsWorldOf world run → count_by (λ e. not e.came) world.packets ≡ undelivered run
+missing-is world run is = ap (λ (es : List Exported). count_by (λ e. not e.came) es) is.packets ∙ exported-missing run.delivered 0 run.packets
+
+-- whether nothing waits
+pub scanned-is : (world : WorldState) (run : Run) → IsWorldOf world run
+    → list_all (λ s. nat_le (length s.base) s.cursor) world.systems ≡ list_all (λ s. nat_le (length s.base) s.cursor) run.systems
+scanned-is world run is =
+    ap (λ (ss : List SystemState). list_all (λ s. nat_le (length s.base) s.cursor) ss) is.systems
+    ∙ list_all-map (λ (s : SystemState). nat_le (length s.base) s.cursor) state_of run.systems
+
+pub settled-is : (world : WorldState) (run : Run) → IsWorldOf world run
+    → list_all (λ s. nat_le (length s.base) s.cursor) world.systems && (count_by (λ e. not e.came) world.packets == 0) ≡ is_settled run
+settled-is world run is =
+    let a = scanned-is world run is in
+    let b = missing-is world run is in
+    λ i. a i && (b i == 0)
+
+-- the system of an index
+pub system-is : (world : WorldState) (run : Run) → IsWorldOf world run → (i : ℕ) → slice_get world.systems i ≡ option_map state_of (nth i run.systems)
+system-is world run is i = ap (λ (ss : List SystemState). slice_get ss i) is.systems ∙ nth-slice_get i (map state_of run.systems) ∙ nth-map state_of i run.systems
+
+-- the bytes of the packet of an index
+pub bytes-are : (world : WorldState) (run : Run) → IsWorldOf world run → (k : ℕ) → option_map (λ e. e.bytes) (slice_get world.packets k) ≡ option_map encoded (nth k run.packets)
+bytes-are world run is k =
+    ap (λ (es : List Exported). option_map (λ e. e.bytes) (slice_get es k)) is.packets
+    ∙ ap (option_map (λ e. e.bytes)) (nth-slice_get k (exported_from run.delivered 0 run.packets))
+    ∙ exported-bytes run.delivered 0 k run.packets
+
+-- whom the packet of an index is for
+pub destinations-are : (world : WorldState) (run : Run) → IsWorldOf world run → (k : ℕ) → option_map (λ e. e.to) (slice_get world.packets k) ≡ option_map destination (nth k run.packets)
+destinations-are world run is k =
+    ap (λ (es : List Exported). option_map (λ e. e.to) (slice_get es k)) is.packets
+    ∙ ap (option_map (λ e. e.to)) (nth-slice_get k (exported_from run.delivered 0 run.packets))
+    ∙ exported-to run.delivered 0 k run.packets
+
+-- how many systems there are
+pub system_count : (world : WorldState) (run : Run) → IsWorldOf world run → length world.systems ≡ length run.systems
+system_count world run is = ap (λ (ss : List SystemState). length ss) is.systems ∙ length-map run.systems state_of
+
+-- how many packets there are
+pub packet_count : (world : WorldState) (run : Run) → IsWorldOf world run → length world.packets ≡ length run.packets
+packet_count world run is = ap (λ (es : List Exported). length es) is.packets ∙ exported-length run.delivered 0 run.packets
+
+pub filed-is : (world : WorldState) (run : Run) → IsWorldOf world run → (i : ℕ) (tag : List ℕ) (s : SystemState) → slice_get world.systems i ≡ Some s
+    → area_count tag s.base ≡ filed_at run i tag
+filed-is world run is i tag s h = of (nth i run.systems) (sym (system-is world run is i) ∙ h)
+  where
+    of : (o : Option System) → option_map state_of o ≡ Some s → area_count tag s.base ≡ unwrap_or (option_map (λ x. area_count tag x.base) o) 0
+    of None e = absurd (cc)
+    of (Some x) e = let same : state_of x ≡ s = cc in ap (λ (y : SystemState). area_count tag y.base) (sym same)
+
+-- whether the message of an index is of the area; it is counted, and those after it are left
+abbrev pub is_of : List ℕ → List Filed → ℕ → Bool
+is_of tag base i = unwrap_or (option_map (λ m. bytes_eq m.echo.tag tag) (slice_get base i)) false
+
+counted : (tag : List ℕ) (base : List Filed) (i : ℕ) → i < length base
+    → cond (is_of tag base i) 1 0 + area_count tag (drop (suc i) base) ≡ area_count tag (drop i base)
+counted tag [] i h = absurd (omega arith)
+counted tag (m ∷ ms) zero h = sym (sum_by-cons (λ (x : Filed). cond (bytes_eq x.echo.tag tag) 1 0) m ms)
+counted tag (m ∷ ms) (suc i) h = counted tag ms i (omega arith)
+
+pub count-step : (tag : List ℕ) (base : List Filed) (i n : ℕ) (b : Bool) → i < length base → n ≡ i + 1 → b ≡ is_of tag base i
+    → cond b 1 0 + area_count tag (drop n base) ≡ area_count tag (drop i base)
+count-step tag base i n b h e is =
+    let next : n ≡ suc i = omega (arith, e) in
+    (λ j. cond (is j) 1 0 + area_count tag (drop (next j) base)) ∙ counted tag base i h

@@ -1,0 +1,18 @@
+use Rattle.std.proofs.Common.{◌≡◌, ◌++◌, ◌∷◌, [], ◌∙◌, List, map, append_assoc, ap, sym}
+use Rattle.std.proofs.lemmas.List.{map-append}
+use Rattle.std.proofs.lemmas.List.Elements.{All-push}
+use Rattle.model_replay.specs.Worlds.{Exported, Fits, made}
+use Rattle.model_replay.proofs.happening.export.Goals as goal
+
+pub packets-preserved : goal.packets-preserved
+packets-preserved c =
+    let old = c.args.exported.now.items in
+    let packet = c.in-Some.packet in
+    let before = c.packets.invariant in
+    let one = c.in_ok-export_one.ensures in
+    record {
+      bytes = one.bytes ∙ ap (λ (es : List Exported). es ++ made packet ∷ []) before.bytes
+          ∙ append_assoc old (map made c.packets.yielded) (made packet ∷ [])
+          ∙ ap (λ (es : List Exported). old ++ es) (sym (map-append made c.packets.yielded (packet ∷ [])));
+      fit = All-push Fits c.packets.yielded packet before.fit one.fit;
+    }

@@ -1,0 +1,25 @@
+use Rattle.std.proofs.Common.{◌≤◌, ◌<◌, length, subst, arith}
+use Rattle.std.proofs.lemmas.Result.{on_ok_weaker}
+use Rattle.model_replay.specs.Worlds.{WorldState, after_posting}
+use Rattle.model_replay.proofs.Changes.{addresses_stay, with_past, with_set}
+use Rattle.model_replay.proofs.happening.post.Goals as goal
+
+pub returns-then-system-len-clause-posted : goal.returns-then-system-len-clause-posted
+returns-then-system-len-clause-posted c =
+    let P : WorldState → Type 0 = λ w. length w.systems ≤ c.args.system in
+    with_past c.args.world.now c.args.system (after_posting c.args.tag.now c.args.draft.now c.args.serial c.args.stamp)
+    (subst P c.world.view_is (omega (arith, c.len.ensures, c.if-system-len.true)))
+
+pub returns-clause-addresses : goal.returns-clause-addresses
+returns-clause-addresses c =
+    addresses_stay c.world.inside.systems.items c.world.inside.packets.items c.args.world.now c.args.system c.post_at.new.tosser c.index_mut-tosser.result.now _
+    c.world.view_is c.index_mut-tosser.ensures.value c.post_at.ensures.file
+
+pub returns-clause-posted : goal.returns-clause-posted
+returns-clause-posted c =
+    let within : c.args.system < length c.world.inside.systems.items = omega (arith, c.len.ensures, c.if-system-len.false) in
+    on_ok_weaker c.post_at.result
+    (λ posted. with_set c.world.inside.systems.items c.world.inside.packets.items c.args.world.now c.args.system
+    (after_posting c.args.tag.now c.args.draft.now c.args.serial c.args.stamp) c.post_at.new.tosser c.index_mut-tosser.result.now _
+    c.world.view_is within c.index_mut-tosser.ensures.value posted)
+    c.post_at.ensures.posted

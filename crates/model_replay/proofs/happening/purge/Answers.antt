@@ -1,0 +1,25 @@
+use Rattle.std.proofs.Common.{◌≤◌, ◌<◌, length, subst, arith}
+use Rattle.std.proofs.lemmas.Result.{on_ok_weaker}
+use Rattle.model_replay.specs.Worlds.{WorldState, after_purge}
+use Rattle.model_replay.proofs.Changes.{addresses_stay, with_past, with_set}
+use Rattle.model_replay.proofs.happening.purge.Goals as goal
+
+pub returns-then-system-len-clause-purged : goal.returns-then-system-len-clause-purged
+returns-then-system-len-clause-purged c =
+    let P : WorldState → Type 0 = λ w. length w.systems ≤ c.args.system in
+    with_past c.args.world.now c.args.system after_purge
+    (subst P c.world.view_is (omega (arith, c.len.ensures, c.if-system-len.true)))
+
+pub returns-clause-addresses : goal.returns-clause-addresses
+returns-clause-addresses c =
+    addresses_stay c.world.inside.systems.items c.world.inside.packets.items c.args.world.now c.args.system c.purge_at.new.tosser c.index_mut-tosser.result.now _
+    c.world.view_is c.index_mut-tosser.ensures.value c.purge_at.ensures.file
+
+pub returns-clause-purged : goal.returns-clause-purged
+returns-clause-purged c =
+    let within : c.args.system < length c.world.inside.systems.items = omega (arith, c.len.ensures, c.if-system-len.false) in
+    on_ok_weaker c.purge_at.result
+    (λ purged. with_set c.world.inside.systems.items c.world.inside.packets.items c.args.world.now c.args.system
+    after_purge c.purge_at.new.tosser c.index_mut-tosser.result.now _
+    c.world.view_is within c.index_mut-tosser.ensures.value purged)
+    c.purge_at.ensures.purged

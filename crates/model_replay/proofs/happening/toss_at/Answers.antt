@@ -1,0 +1,30 @@
+use Rattle.std.proofs.Common.{◌≡◌, ◌==◌, ℕ, Bool, true, false, cond, List, [], refl, sym, ap, subst, Ok, Some}
+use Rattle.std.proofs.lemmas.List.{append-nil}
+use Rattle.echo_addr.specs.declared.address.Address.{Address}
+use Rattle.model_steps.specs.declared.packet.Packet.{Packet}
+use Rattle.echo_links.specs.Links.{LinkFile}
+use Rattle.model_run.specs.Run.{destination}
+use Rattle.model_steps.specs.Tossing.{destination_of}
+use Rattle.echo_toss.specs.PacketSteps.{PacketStep}
+use Rattle.echo_toss.proofs.WholePackets.{whole_packet}
+use Rattle.echo_packet.specs.Packet.{PacketOf}
+use Rattle.model_replay.specs.Worlds.{unlimited}
+use Rattle.model_replay.proofs.happening.toss_at.Goals as goal
+
+either : (b : Bool) (own zone : ℕ) → zone ≡ own → cond b own zone ≡ own
+either true own zone e = refl
+either false own zone e = e
+
+-- a packet for the system itself, whatever zone 0 would stand for
+for_us : (file : LinkFile) (p : Packet) → destination p ≡ file.system → destination_of file p.header ≡ file.system
+for_us file p e =
+    let zone = either (p.header.dest_zone == 0) file.system.zone p.header.dest_zone (ap (λ (a : Address). a.zone) e) in
+    λ i. record { zone = zone i; net = (e i).net; node = (e i).node }
+
+pub returns-in-Ok-clause-tossed : goal.returns-in-Ok-clause-tossed
+returns-in-Ok-clause-tossed c = λ p fits is to.
+    let Is : List ℕ → Type 0 = λ bytes. PacketOf unlimited p.header p.messages bytes in
+    let Step : List ℕ → Type 0 = λ bytes. PacketStep unlimited c.args.tosser.now (Some bytes) (Some c.toss.new.reader.now) (Ok c.in-Ok.field-0) c.toss.new.self in
+    let done = whole_packet unlimited p.header p.messages c.args.bytes.now [] _ c.args.tosser.now c.toss.new.self (Ok c.in-Ok.field-0)
+    (subst Is (sym is) fits) (for_us c.args.tosser.now.file p to) (subst Step (sym (append-nil c.args.bytes.now)) c.in-Ok.ensures.tossed) refl in
+    done.state

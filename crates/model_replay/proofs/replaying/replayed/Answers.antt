@@ -1,0 +1,52 @@
+use Rattle.std.proofs.Common.{◌∙◌, List, [], map, take, sym, ap, subst}
+use Rattle.std.proofs.lemmas.List.{take_all}
+use Rattle.echo_addr.specs.declared.address.Address.{Address}
+use Rattle.model_run.specs.Event.{run_event}
+use Rattle.model_run.specs.declared.event.Event.{Event}
+use Rattle.model_run.specs.Run.{Run, run_of, start}
+use Rattle.model_replay.specs.Counts.{packet_counts}
+use Rattle.model_replay.specs.Worlds.{IsWorldOf, LeadsToFirst, WorldState, own_addresses}
+use Rattle.model_replay.proofs.Counted.{counts-more}
+use Rattle.model_replay.proofs.Runs.{addresses-first, event-more, first-run}
+use Rattle.model_replay.proofs.Taken.{run-taken}
+use Rattle.model_replay.proofs.replaying.replayed.Goals as goal
+
+pub events-init : goal.events-init
+events-init g c =
+    let A : List Address → Type 0 = λ all. LeadsToFirst c.in_ok-receivers.receivers.first.entries all in
+    let W : WorldState → Type 0 = λ w. IsWorldOf w (run_of c.args.files.items []) in
+    record {
+      leads = subst A
+          (sym (ap own_addresses c.in_ok-systems.ensures ∙ addresses-first c.args.files.items ∙ ap (map (λ f. f.system)) (sym c.deref.ensures.value)))
+          c.in_ok-receivers.ensures;
+      run = subst W
+          (sym (λ i. record { systems = c.in_ok-systems.ensures i; packets = c.new-2.ensures.items i }))
+          (first-run c.args.files.items);
+      counts = c.new-counts.ensures.items;
+    }
+
+pub events-preserved : goal.events-preserved
+events-preserved g c =
+    let before = c.events.invariant in
+    let A : List Address → Type 0 = λ all. LeadsToFirst c.in_ok-receivers.receivers.first.entries all in
+    let R : Run → Type 0 = λ run. IsWorldOf c.happen.new.world run in
+    let are = run-taken c.args.files.items (map run_event (take c.events.event-index c.args.events.now)) in
+    record {
+      leads = subst A (sym c.in_ok-happen.ensures.addresses) before.leads;
+      run = subst R (event-more c.args.files.items c.args.events.now c.events.event-index c.event-item.result c.events-test.true c.event-item.is)
+          (c.in_ok-happen.ensures.run _ before.run are);
+      counts = counts-more c.args.files.items c.args.events.now c.events.event-index c.event-item.result c.events.counts.items c.push.new.self.items c.packets.result
+          c.events-test.true c.event-item.is before.counts c.in_ok-push.ensures.items
+          (c.packets.ensures _ (c.in_ok-happen.ensures.run _ before.run are));
+    }
+
+pub returns-clause-world : goal.returns-clause-world
+returns-clause-world g c =
+    let whole = take_all c.events.event-index c.args.events.now c.events-test.false in
+    let R : List Event → Type 0 = λ events. IsWorldOf c.events.world (run_of c.args.files.items (map run_event events)) in
+    subst R whole c.events.invariant.run
+
+pub returns-clause-counts : goal.returns-clause-counts
+returns-clause-counts g c =
+    let whole = take_all c.events.event-index c.args.events.now c.events-test.false in
+    c.events.invariant.counts ∙ ap (λ (events : List Event). packet_counts (start c.args.files.items) (map run_event events)) whole

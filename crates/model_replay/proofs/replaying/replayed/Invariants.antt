@@ -1,0 +1,14 @@
+use Rattle.std.proofs.Common.{◌≡◌, map, take}
+use Rattle.model_run.specs.Event.{run_event}
+use Rattle.model_run.specs.Run.{run_of, start}
+use Rattle.model_replay.specs.Counts.{packet_counts}
+use Rattle.model_replay.specs.Worlds.{IsWorldOf, LeadsToFirst, own_addresses}
+use Rattle.model_replay.proofs.replaying.replayed.Given as goal
+
+-- the world is that of the events so far, the packets after each of them are counted, and each address leads to its first system
+abbrev pub invariant-events : goal.invariant-events
+invariant-events g l = record {
+  leads : LeadsToFirst l.receivers.first.entries (own_addresses l.world.systems);
+  run : IsWorldOf l.world (run_of l.fn.files.items (map run_event (take l.event-index l.events)));
+  counts : l.counts.items ≡ packet_counts (start l.fn.files.items) (map run_event (take l.event-index l.events));
+}

@@ -1,0 +1,250 @@
+//! What one event does to a net.
+
+ghost use Rattle.std.specs.Prelude.{◌≡◌, ◌≢◌, ◌++◌, ◌∷◌, [], ◌<◌, length, map, Bool, true, false, List, None, Some, IfOk, OnOk};
+ghost use Rattle.std.specs.List.{All};
+ghost use Rattle.echo_addr.specs.declared.address.Address.{Address};
+ghost use Rattle.model_steps.specs.declared.fault.PostFault.TheVariants as post_fault;
+ghost use Rattle.model_run.specs.Event.{run_event};
+ghost use Rattle.model_run.specs.Run.{Run, after_event, change, destination, nth};
+ghost use Rattle.model_steps.specs.declared.packet.Packet.{Packet};
+ghost use Rattle.model_steps.specs.SystemState.{SystemState};
+ghost use Rattle.model_replay.specs.Taken.{AreTaken};
+ghost use Rattle.model_replay.specs.Worlds as model;
+ghost use Rattle.model_replay.specs.Worlds.{Fits, IsWorldOf, LeadsToFirst, ScanFits, own_addresses, after_posting, after_purge, after_scan, after_toss, arrived, encoded, made, made_by, scanned_world, with_change, world_after};
+
+use crate::fitting::fit;
+use crate::receivers::Receivers;
+use crate::world::{Exported, World};
+use echo_packet::Limits;
+use echo_toss::Tosser;
+use model_run::Event;
+use model_steps::{Draft, Packet, PostFault, ScanFault, Stamp};
+use std::alloc::{AllocError, Global};
+use std::hash::RandomState;
+
+/// The event happens. Fails only when out of memory, and the world is then of no run.
+pub(crate) fn happen(
+    alloc: Global,
+    receivers: &Receivers,
+    world: &mut World,
+    event: &Event,
+) -> Result<(), AllocError>
+    requires { LeadsToFirst receivers.now.first.entries (own_addresses world.old.systems) }
+    ensures addresses { own_addresses world.new.systems ≡ own_addresses world.old.systems }
+    ensures run { OnOk result ((run : Run) → IsWorldOf world.old run → AreTaken run → IsWorldOf world.new (after_event run (run_event event.now))) }
+{
+    match event {
+        Event::Post {
+            system,
+            tag,
+            draft,
+            serial,
+            stamp,
+        } => post(world, *system, tag.as_slice(), draft, *serial, *stamp),
+        Event::Scan { system, stamp } => scan(alloc, world, *system, *stamp),
+        Event::Deliver { packet } => deliver(alloc, receivers, world, *packet),
+        Event::Purge { system } => purge(world, *system),
+    }
+}
+
+// A system posts.
+fn post(
+    world: &mut World,
+    system: usize,
+    tag: &[u8],
+    draft: &Draft,
+    serial: u32,
+    stamp: Stamp,
+) -> Result<(), AllocError>
+    ensures addresses { own_addresses world.new.systems ≡ own_addresses world.old.systems }
+    ensures posted { OnOk result (world.new ≡ with_change world.old system (after_posting tag.now draft.now serial stamp)) }
+{
+    if system >= world.systems.len() {
+        return Ok(());
+    }
+    let tosser = &mut world.systems[system];
+    post_at(tosser, tag, draft, serial, stamp)
+}
+
+// A refused posting leaves the system as it was.
+fn post_at(
+    tosser: &mut Tosser<RandomState>,
+    tag: &[u8],
+    draft: &Draft,
+    serial: u32,
+    stamp: Stamp,
+) -> Result<(), AllocError>
+    ensures file { tosser.new.file ≡ tosser.old.file }
+    ensures posted { OnOk result (tosser.new ≡ after_posting tag.now draft.now serial stamp tosser.old) }
+{
+    match tosser.post(tag, draft, serial, stamp) {
+        Ok(()) => Ok(()),
+        Err(fault) => unless_memory(fault),
+    }
+}
+
+// Nothing is wrong where the posting was refused for another cause than memory.
+fn unless_memory(fault: PostFault) -> Result<(), AllocError>
+    ensures { OnOk result (fault ≢ post_fault.Memory) }
+{
+    match fault {
+        PostFault::Memory => Err(AllocError),
+        PostFault::NoArea
+        | PostFault::ByteZero
+        | PostFault::FieldTooLong
+        | PostFault::BadStamp
+        | PostFault::BadReply
+        | PostFault::KnownSerial => Ok(()),
+    }
+}
+
+// A system is purged.
+fn purge(world: &mut World, system: usize) -> Result<(), AllocError>
+    ensures addresses { own_addresses world.new.systems ≡ own_addresses world.old.systems }
+    ensures purged { OnOk result (world.new ≡ with_change world.old system after_purge) }
+{
+    if system >= world.systems.len() {
+        return Ok(());
+    }
+    let tosser = &mut world.systems[system];
+    purge_at(tosser)
+}
+
+fn purge_at(tosser: &mut Tosser<RandomState>) -> Result<(), AllocError>
+    ensures file { tosser.new.file ≡ tosser.old.file }
+    ensures purged { OnOk result (tosser.new ≡ after_purge tosser.old) }
+{
+    tosser.purge()?;
+    Ok(())
+}
+
+// A system scans: its packets go last.
+fn scan(alloc: Global, world: &mut World, system: usize, stamp: Stamp) -> Result<(), AllocError>
+    ensures addresses { own_addresses world.new.systems ≡ own_addresses world.old.systems }
+    ensures scanned { OnOk result (world.new ≡ scanned_world world.old system stamp (nth system world.old.systems)) }
+    ensures fit { OnOk result (ScanFits stamp (nth system world.old.systems)) }
+{
+    if system >= world.systems.len() {
+        return Ok(());
+    }
+    let tosser = &mut world.systems[system];
+    let packets = scan_at(alloc, tosser, stamp)?;
+    export(alloc, &mut world.packets, packets)
+}
+
+// The packets of the scan, none where its stamp is out of range.
+fn scan_at(
+    alloc: Global,
+    tosser: &mut Tosser<RandomState>,
+    stamp: Stamp,
+) -> Result<Vec<Packet>, AllocError>
+    ensures file { tosser.new.file ≡ tosser.old.file }
+    ensures packets { IfOk result (λ packets. packets.items ≡ made_by stamp tosser.old) }
+    ensures scanned { OnOk result (tosser.new ≡ after_scan stamp tosser.old) }
+{
+    match tosser.scan(stamp) {
+        Ok(packets) => Ok(packets),
+        Err(ScanFault::Memory) => Err(AllocError),
+        Err(ScanFault::BadStamp) => Ok(Vec::new(alloc)),
+    }
+}
+
+// The packets are put last.
+fn export(
+    alloc: Global,
+    exported: &mut Vec<Exported>,
+    packets: Vec<Packet>,
+) -> Result<(), AllocError>
+    ensures bytes { OnOk result (exported.new.items ≡ exported.old.items ++ map made packets.items) }
+    ensures fit { OnOk result (All Fits packets.items) }
+{
+    let alone = packets.len() == 1;
+    'packets: for packet in packets {
+        export_one(alloc, exported, packet, alone)?;
+    }
+    Ok(())
+}
+
+// The packet is put last: as its bytes where its scan made no other one. Else they are made when it comes, since kept
+// they would take the room of a text for each link.
+fn export_one(
+    alloc: Global,
+    exported: &mut Vec<Exported>,
+    packet: Packet,
+    alone: bool,
+) -> Result<(), AllocError>
+    ensures bytes { OnOk result (exported.new.items ≡ exported.old.items ++ made packet ∷ []) }
+    ensures fit { OnOk result (Fits packet) }
+{
+    if alone {
+        let bytes = packet.encode(alloc)?;
+        exported.push(Exported::alone(&packet, bytes))?;
+        return Ok(());
+    }
+    fit(&packet)?;
+    exported.push(Exported::shared(alloc, packet)?)?;
+    Ok(())
+}
+
+// A packet comes to the first system of its destination, where there is one. What came before is
+// refused there or known, and changes nothing.
+fn deliver(
+    alloc: Global,
+    receivers: &Receivers,
+    world: &mut World,
+    packet: usize,
+) -> Result<(), AllocError>
+    requires { LeadsToFirst receivers.now.first.entries (own_addresses world.old.systems) }
+    ensures addresses { own_addresses world.new.systems ≡ own_addresses world.old.systems }
+    ensures none { OnOk result (nth packet world.old.packets ≡ None → world.new ≡ world.old) }
+    ensures again { OnOk result ((e : model.Exported) → nth packet world.old.packets ≡ Some e → e.came ≡ true → world.new ≡ world.old) }
+    ensures first { OnOk result ((p : Packet) → Fits p → nth packet world.old.packets ≡ Some (record { bytes = encoded p; to = destination p; came = false }) →
+        world.new ≡ world_after world.old packet p) }
+{
+    if packet >= world.packets.len() {
+        return Ok(());
+    }
+    let to = world.packets[packet].to();
+    if world.packets[packet].came {
+        return Ok(());
+    }
+    match receivers.of(to) {
+        Some(system) => arrive(alloc, world, packet, system),
+        None => Ok(()),
+    }
+}
+
+// The packet comes to the system, which has its destination.
+fn arrive(alloc: Global, world: &mut World, packet: usize, system: usize) -> Result<(), AllocError>
+    requires packet { packet < length world.old.packets }
+    requires system { system < length world.old.systems }
+    ensures addresses { own_addresses world.new.systems ≡ own_addresses world.old.systems }
+    ensures came { OnOk result ((p : Packet) → Fits p → (came : Bool) → nth packet world.old.packets ≡ Some (record { bytes = encoded p; to = destination p; came = came }) →
+        (s : SystemState) → nth system world.old.systems ≡ Some s → destination p ≡ s.file.system →
+        world.new ≡ record { systems = change system (after_toss p) world.old.systems; packets = change packet arrived world.old.packets }) }
+{
+    let bytes = world.packets[packet].bytes(alloc)?;
+    let tosser = &mut world.systems[system];
+    toss_at(tosser, &bytes)?;
+    mark(&mut world.packets[packet]);
+    Ok(())
+}
+
+// A system tosses the bytes of a packet that is for it.
+fn toss_at(tosser: &mut Tosser<RandomState>, bytes: &[u8]) -> Result<(), AllocError>
+    ensures file { tosser.new.file ≡ tosser.old.file }
+    ensures tossed { OnOk result ((p : Packet) → Fits p → bytes.now ≡ encoded p → destination p ≡ tosser.old.file.system → tosser.new ≡ after_toss p tosser.old) }
+{
+    let mut rest = bytes;
+    match tosser.toss(&mut rest, Limits::NONE) {
+        Ok(_) => Ok(()),
+        Err(_) => Err(AllocError),
+    }
+}
+
+// The packet came.
+fn mark(packet: &mut Exported)
+    ensures { packet.new ≡ arrived packet.old }
+{
+    packet.came = true;
+}

@@ -1,0 +1,29 @@
+//! What holds of every replay, by the laws of runs. Each law is the contract of a function that does
+//! nothing.
+
+ghost use Rattle.std.specs.Prelude.{◌≡◌, ℕ, ◌≤◌, List, map};
+ghost use Rattle.model_graph.specs.Walk.{Among};
+ghost use Rattle.echo_links.specs.Links.{LinkFile};
+ghost use Rattle.echo_filed.specs.declared.key.Key.{Key};
+ghost use Rattle.model_run.specs.declared.event.Event.{Event};
+ghost use Rattle.model_run.specs.Event.{RunEvent, run_event};
+ghost use Rattle.model_run.specs.Fits.{FilesFit};
+ghost use Rattle.model_run.specs.Orderly.{Orderly, count};
+ghost use Rattle.model_run.specs.Run.{run_of};
+ghost use Rattle.model_run.specs.Tidy.{Tidy};
+ghost use Rattle.model_steps.specs.SystemState.{SystemState};
+ghost use Rattle.model_replay.specs.Worlds.{IsWorldOf, WorldState};
+
+use model_run::{each_message_is_filed_once, every_run_of_a_tidy_area_is_orderly};
+
+/// On every net no replay shows a message twice in a base. On a net whose area is tidy each replay is
+/// of an orderly run, so it cannot show what `check` excludes.
+pub fn replay_laws()
+    ensures filed_once { (files : List LinkFile) → FilesFit files → (events : List RunEvent) (world : WorldState) → IsWorldOf world (run_of files events) →
+        (s : SystemState) → Among s world.systems → (key : Key) → count key s.base ≤ 1 }
+    ensures orderly { (files : List LinkFile) (tag : List ℕ) → Tidy files tag → FilesFit files →
+        (events : List Event) → Orderly (run_of files (map run_event events)) tag }
+{
+    each_message_is_filed_once();
+    every_run_of_a_tidy_area_is_orderly();
+}

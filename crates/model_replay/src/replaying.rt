@@ -1,0 +1,99 @@
+//! Events, one after another.
+
+ghost use Rattle.std.specs.Prelude.{◌≡◌, IfOk, map};
+ghost use Rattle.model_run.specs.Event.{run_event};
+ghost use Rattle.model_run.specs.Run.{run_of, start};
+ghost use Rattle.model_replay.specs.Counts.{packet_counts};
+ghost use Rattle.model_replay.specs.Worlds.{IsWorldOf, WorldState};
+ghost use Rattle.model_steps.specs.SystemState.{state_at_first};
+
+use crate::happening::happen;
+use crate::receivers::Receivers;
+use crate::telling::{Telling, Untold};
+use crate::world::World;
+use echo_links::LinkFile;
+use echo_toss::Tosser;
+use model_run::Event;
+use std::alloc::{AllocError, Global};
+use std::hash::RandomState;
+
+/// What becomes of a net on which these events happen, one after another. Each system begins with an
+/// empty base. Packets travel as their bytes and are tossed by the packet reader; one comes to the first
+/// system that has its destination. An event that names nothing, or whose posting or scan is refused,
+/// does nothing. Look-ups go by the hasher. Fails only when out of memory.
+pub fn replay(
+    alloc: Global,
+    files: Vec<LinkFile>,
+    events: &[Event],
+    hasher: RandomState,
+) -> Result<World, AllocError>
+    ensures { IfOk result (λ world. IsWorldOf world (run_of files.items (map run_event events.now))) }
+{
+    replay_told(alloc, files, events, hasher, &Untold)
+}
+
+/// The same, and `told` hears of each event once it happened.
+pub fn replay_told<T: Telling>(
+    alloc: Global,
+    files: Vec<LinkFile>,
+    events: &[Event],
+    hasher: RandomState,
+    told: &T,
+) -> Result<World, AllocError>
+    ensures { IfOk result (λ world. IsWorldOf world (run_of files.items (map run_event events.now))) }
+{
+    let (world, _) = replayed(alloc, files, events, hasher, told)?;
+    Ok(world)
+}
+
+/// What becomes of the net, and how many packets were there after each event.
+pub fn replay_counted(
+    alloc: Global,
+    files: Vec<LinkFile>,
+    events: &[Event],
+    hasher: RandomState,
+) -> Result<(World, Vec<usize>), AllocError>
+    ensures world { IfOk result (λ found. IsWorldOf found.0 (run_of files.items (map run_event events.now))) }
+    ensures counts { IfOk result (λ found. found.1.items ≡ packet_counts (start files.items) (map run_event events.now)) }
+{
+    replayed(alloc, files, events, hasher, &Untold)
+}
+
+// The same, and `told` hears of each event.
+fn replayed<T: Telling>(
+    alloc: Global,
+    files: Vec<LinkFile>,
+    events: &[Event],
+    hasher: RandomState,
+    told: &T,
+) -> Result<(World, Vec<usize>), AllocError>
+    ensures world { IfOk result (λ found. IsWorldOf found.0 (run_of files.items (map run_event events.now))) }
+    ensures counts { IfOk result (λ found. found.1.items ≡ packet_counts (start files.items) (map run_event events.now)) }
+{
+    let receivers = Receivers::new(alloc, &files, hasher)?;
+    let mut counts = Vec::new(alloc);
+    let mut world = World {
+        systems: systems(alloc, files, hasher)?,
+        packets: Vec::new(alloc),
+    };
+    'events: for event in events {
+        happen(alloc, &receivers, &mut world, event)?;
+        counts.push(world.packets())?;
+        told.tell(counts.len(), events.len());
+    }
+    Ok((world, counts))
+}
+
+// The systems of these files, which have filed nothing.
+fn systems(
+    alloc: Global,
+    files: Vec<LinkFile>,
+    hasher: RandomState,
+) -> Result<Vec<Tosser<RandomState>>, AllocError>
+    ensures { IfOk result (λ all. all.items ≡ map state_at_first files.items) }
+{
+    files
+        .into_iter()
+        .map(|file| Tosser::new(alloc, file, hasher))
+        .collect(alloc)
+}

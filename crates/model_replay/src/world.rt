@@ -1,0 +1,278 @@
+//! The systems and packets of a net, and what one reads off them.
+
+ghost use Rattle.std.specs.Prelude.{◌≡◌, None, IfOk, IfSome, length, drop, count_by, nat_le, not, false, bytes_eq, unwrap_or, slice_get, option_copied, option_map};
+ghost use Rattle.std.specs.Io.KnownBytes.{Keeps};
+ghost use Rattle.std.specs.List.{list_all};
+ghost use Rattle.base_file.specs.BaseFile.{is_countable, saved_bytes};
+ghost use Rattle.base_file.specs.Saving.{CountsSaved, Saves, TellsTooMany};
+ghost use Rattle.model_run.specs.Run.{Run, destination, nth};
+ghost use Rattle.model_run.specs.World.{area_count, filed_at, waiting_at, is_settled, undelivered};
+ghost use Rattle.model_replay.specs.Worlds.{IsWorldOf, OfSystem, encoded, made, message_at};
+
+use base_file::BaseFault;
+use disk_io::Sink;
+use echo_addr::{Address, Items};
+use echo_filed::Filed;
+use echo_links::LinkFile;
+use echo_toss::Tosser;
+use model_steps::Packet;
+use std::alloc::{AllocError, Global};
+use std::hash::{BuildHasher, RandomState};
+use std::marker::Model;
+
+/// A packet that was made, whom it is for, and whether it came.
+#[derive(Drop)]
+pub struct Exported {
+    /// The packet, where its scan made others, with which it shares the texts of messages.
+    shared: Option<Box<Packet>>,
+    /// Its bytes, where it is the only one.
+    bytes: Items<u8>,
+    to: Address,
+    pub(crate) came: bool,
+}
+
+impl Model for Exported {
+    ghost use Rattle.std.specs.Prelude.{option_map, unwrap_or};
+    ghost use Rattle.model_replay.specs.Worlds as model;
+
+    ghost Value = { model.Exported };
+
+    ghost view = { λ e. record { bytes = unwrap_or (option_map (λ p. model.encoded p.value) e.shared) e.bytes; to = e.to; came = e.came } };
+}
+
+impl Exported {
+    /// A packet that is the only one of its scan, as these bytes.
+    pub(crate) fn alone(packet: &Packet, bytes: Vec<u8>) -> Exported
+        ensures { result ≡ record { bytes = bytes.items; to = destination packet.now; came = false } }
+    {
+        Exported {
+            shared: None,
+            bytes: Items::new(bytes),
+            to: destination(packet),
+            came: false,
+        }
+    }
+
+    /// A packet that shares texts with others.
+    pub(crate) fn shared(alloc: Global, packet: Packet) -> Result<Exported, AllocError>
+        ensures { IfOk result (λ e. e ≡ made packet) }
+    {
+        let to = destination(&packet);
+        Ok(Exported {
+            shared: Some(Box::new(alloc, packet)?),
+            bytes: Items::new(Vec::new(alloc)),
+            to,
+            came: false,
+        })
+    }
+
+    /// Whom it is for.
+    pub(crate) fn to(&self) -> Address
+        ensures { result ≡ self.now.to }
+    {
+        self.to
+    }
+
+    /// Whether it has still to come.
+    fn is_missing(&self) -> bool
+        ensures { result ≡ not self.now.came }
+    {
+        !self.came
+    }
+
+    /// Its bytes.
+    pub(crate) fn bytes(&self, alloc: Global) -> Result<Vec<u8>, AllocError>
+        ensures { IfOk result (λ bytes. bytes.items ≡ self.now.bytes) }
+    {
+        match &self.shared {
+            Some(packet) => packet.encode(alloc),
+            None => Vec::from_slice(alloc, self.bytes.as_slice()),
+        }
+    }
+}
+
+// Whom a packet is for.
+fn destination(packet: &Packet) -> Address
+    ensures { result ≡ destination packet.now }
+{
+    let header = &packet.header;
+    Address {
+        zone: header.dest_zone,
+        net: header.dest_net,
+        node: header.dest_node,
+    }
+}
+
+/// A net after some events. Systems go by their index in the list of link files, packets by their order
+/// of export, both from 0.
+#[derive(Drop)]
+pub struct World {
+    pub(crate) systems: Vec<Tosser<RandomState>>,
+    pub(crate) packets: Vec<Exported>,
+}
+
+impl Model for World {
+    ghost use Rattle.model_replay.specs.Worlds.{WorldState};
+
+    ghost Value = { WorldState };
+
+    ghost view = { λ w. record { systems = w.systems.items; packets = w.packets.items } };
+}
+
+impl World {
+    /// How many messages of the area the system has filed, 0 where there is no such system. Tags are
+    /// compared byte for byte.
+    pub fn filed(&self, system: usize, tag: &[u8]) -> usize
+        ensures { (run : Run) → IsWorldOf self.now run → result ≡ filed_at run system tag.now }
+    {
+        match self.systems.get(system) {
+            Some(tosser) => count_from(tosser, 0, tag),
+            None => 0,
+        }
+    }
+
+    /// How many of them wait for a scan.
+    pub fn waiting(&self, system: usize, tag: &[u8]) -> usize
+        ensures { (run : Run) → IsWorldOf self.now run → result ≡ waiting_at run system tag.now }
+    {
+        match self.systems.get(system) {
+            Some(tosser) => count_from(tosser, tosser.filed() - tosser.waiting(), tag),
+            None => 0,
+        }
+    }
+
+    /// How many systems there are.
+    pub fn systems(&self) -> usize
+        ensures { (run : Run) → IsWorldOf self.now run → result ≡ length run.systems }
+    {
+        let systems = self.systems.as_slice();
+        systems.len()
+    }
+
+    /// How many packets were made.
+    pub fn packets(&self) -> usize
+        ensures { (run : Run) → IsWorldOf self.now run → result ≡ length run.packets }
+    {
+        let packets = self.packets.as_slice();
+        packets.len()
+    }
+
+    /// How many of them did not come.
+    pub fn undelivered(&self) -> usize
+        ensures { (run : Run) → IsWorldOf self.now run → result ≡ undelivered run }
+    {
+        count_missing(&self.packets)
+    }
+
+    /// Whether no message of any area waits for a scan and every packet came.
+    pub fn settled(&self) -> bool
+        ensures { (run : Run) → IsWorldOf self.now run → result ≡ is_settled run }
+    {
+        all_scanned(&self.systems) && count_missing(&self.packets) == 0
+    }
+
+    /// The link file of the system.
+    pub fn links(&self, system: usize) -> Option<&LinkFile>
+        ensures { (run : Run) → IsWorldOf self.now run → option_copied result ≡ option_map (λ s. s.file) (nth system run.systems) }
+    {
+        Some(self.systems.get(system)?.links())
+    }
+
+    /// The message of this number that the system has, counted from 0 in order of filing.
+    pub fn message(&self, system: usize, i: usize) -> Option<&Filed>
+        ensures { (run : Run) → IsWorldOf self.now run → option_copied result ≡ message_at run system i }
+    {
+        self.systems.get(system)?.message(i)
+    }
+
+    /// Whom the packet is for.
+    pub fn packet_to(&self, k: usize) -> Option<Address>
+        ensures { (run : Run) → IsWorldOf self.now run → result ≡ option_map destination (nth k run.packets) }
+    {
+        destination_at(&self.packets, k)
+    }
+
+    /// The bytes of the packet, which are made when they are asked for.
+    pub fn packet(&self, alloc: Global, k: usize) -> Result<Option<Vec<u8>>, AllocError>
+        ensures { IfOk result (λ found. (run : Run) → IsWorldOf self.now run → option_map (λ bytes. bytes.items) found ≡ option_map encoded (nth k run.packets)) }
+    {
+        bytes_at(alloc, &self.packets, k)
+    }
+
+    /// Writes the base of the system as a base file of version 2, none where there is no such system.
+    /// What the writer holds back is left to its owner. It is `TooMany` where four bytes do not count the
+    /// messages, or the bytes of a text or an id, and `Write` with the number of bytes that went out.
+    pub fn save<W: Sink>(&self, system: usize, writer: &mut W) -> Option<Result<(), BaseFault>>
+        ensures bytes { (run : Run) → IsWorldOf self.now run → OfSystem result (nth system run.systems) (λ saved s.
+            Saves (W.contents writer.old) (W.contents writer.new) saved (saved_bytes s.base s.cursor)) }
+        ensures device { IfSome result (λ saved. CountsSaved saved (W.failures writer.old) (W.failures writer.new)) }
+        ensures too_many { (run : Run) → IsWorldOf self.now run → OfSystem result (nth system run.systems) (λ saved s. TellsTooMany (is_countable s.base s.cursor) saved) }
+        ensures none { result ≡ None → Keeps (W.contents writer.old) (W.contents writer.new) × (W.failures writer.new ≡ W.failures writer.old) }
+    {
+        Some(self.systems.get(system)?.save(writer))
+    }
+}
+
+// How many messages of the area there are from this one on.
+fn count_from<S: BuildHasher>(tosser: &Tosser<S>, from: usize, tag: &[u8]) -> usize
+    ensures { result ≡ area_count tag.now (drop from tosser.now.base) }
+{
+    let mut count = 0;
+    for i in from..tosser.filed() {
+        if is_of_area(tosser, i, tag) {
+            count += 1;
+        }
+    }
+    count
+}
+
+// Whether there is a message of this number, and it is of the area.
+fn is_of_area<S: BuildHasher>(tosser: &Tosser<S>, i: usize, tag: &[u8]) -> bool
+    ensures { result ≡ unwrap_or (option_map (λ m. bytes_eq m.echo.tag tag.now) (slice_get tosser.now.base i)) false }
+{
+    match tosser.message(i) {
+        Some(message) => {
+            let echo = &message.echo;
+            echo.tag.as_slice() == tag
+        }
+        None => false,
+    }
+}
+
+// How many of the packets did not come.
+fn count_missing(packets: &[Exported]) -> usize
+    ensures { result ≡ count_by (λ e. not e.came) packets.now }
+{
+    let mut count = 0;
+    'packets: for packet in packets {
+        if packet.is_missing() {
+            count += 1;
+        }
+    }
+    count
+}
+
+// Whether no message waits for a scan at any of the systems.
+fn all_scanned(systems: &[Tosser<RandomState>]) -> bool
+    ensures { result ≡ list_all (λ s. nat_le (length s.base) s.cursor) systems.now }
+{
+    systems.iter().all(|tosser| tosser.waiting() == 0)
+}
+
+// Whom the packet of this index is for.
+fn destination_at(packets: &[Exported], k: usize) -> Option<Address>
+    ensures { result ≡ option_map (λ e. e.to) (slice_get packets.now k) }
+{
+    let packet = packets.get(k)?;
+    Some(packet.to())
+}
+
+// The bytes of the packet of this index.
+fn bytes_at(alloc: Global, packets: &[Exported], k: usize) -> Result<Option<Vec<u8>>, AllocError>
+    ensures { IfOk result (λ found. option_map (λ bytes. bytes.items) found ≡ option_map (λ e. e.bytes) (slice_get packets.now k)) }
+{
+    match packets.get(k) {
+        Some(packet) => Ok(Some(packet.bytes(alloc)?)),
+        None => Ok(None),
+    }
+}

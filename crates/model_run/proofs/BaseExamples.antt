@@ -1,0 +1,248 @@
+-- Base files by computation: what is saved, what is read, and each fault.
+use Rattle.std.proofs.Common.{◌≡◌, ℕ, List, [], ◌∷◌, ◌++◌, ◌^◌, ◌<◌, refl, true, false, codes, length, lit<, lit≤, inl}
+use Rattle.std.specs.Fmt.{digits}
+use Rattle.echo_addr.specs.Entries.{entries, pair_of, tokens}
+use Rattle.echo_text.specs.Lines.{after_word, begins, lines, trimmed}
+use Rattle.echo_text.specs.Tail.{kept_of, path_lists, seen_lists}
+use Rattle.echo_text.specs.Echo.{msgid_of}
+use Rattle.echo_text.specs.Ids.{id_of}
+use Rattle.echo_text.specs.Refusal.{text_refusal}
+use Rattle.echo_filed.specs.Sets.{entry_set}
+use Rattle.base_file.specs.declared.fault.BaseFault.TheVariants as fault
+use Rattle.model_steps.specs.Stamps.{date_of}
+use Rattle.echo_filed.specs.Written.{echo_of, short_lines, text_of}
+use Rattle.model_steps.specs.Posting.{posted, posted_lines}
+use Rattle.echo_filed.specs.Stubs.{is_stub, stub_of}
+use Rattle.model_steps.specs.Purging.{changed, purged}
+use Rattle.echo_filed.specs.Stored.{IsStored, Stored, message_in, stored_bytes}
+use Rattle.echo_filed.specs.declared.stored.Version.{Version}
+use Rattle.echo_filed.specs.declared.stored.Version.TheVariants.{First, Second}
+use Rattle.base_file.specs.BaseFile.{BaseFaultOf, BaseOf, EndsInside, IsNoBase, head_bytes, is_damaged, saved_bytes, stored_at}
+use Rattle.model_run.proofs.Examples.{date_bytes, first_posting, id_text, kept_text}
+
+-- a number below 256 in four bytes
+abbrev pub small : ℕ → List ℕ
+small n = n ∷ (0 ∷ (0 ∷ (0 ∷ [])))
+
+-- the bytes of the posting's fields before its text, with this first byte
+abbrev pub fields_bytes : ℕ → List ℕ
+fields_bytes kind = kind ∷ (0 ∷ (0 ∷ (0 ∷ (0 ∷ (0 ∷ (0 ∷ (date_bytes ++ (3 ∷ codes "All" ++ (3 ∷ codes "Ann" ++ (2 ∷ codes "Hi"))))))))))
+
+-- and of the whole message, in a base
+abbrev pub text_bytes : List ℕ
+text_bytes = codes "AREA:TEST" ++ 13 ∷ kept_text 49
+
+abbrev pub whole_bytes : ℕ → List ℕ
+whole_bytes kind = fields_bytes kind ++ (small 78 ++ text_bytes)
+
+abbrev short_bytes : List ℕ
+short_bytes = fields_bytes 2 ++ (4 ∷ codes "TEST" ++ (small 15 ++ id_text))
+
+-- what is saved: no message, the posting before the scan, the posting after the scan and a purge
+empty_base : saved_bytes [] 0 ≡ codes "ECHOBAS2" ++ (small 0 ++ small 0)
+unfolding saved_bytes head_bytes
+empty_base = refl
+
+abbrev first_base : List ℕ
+first_base = codes "ECHOBAS2" ++ (small 0 ++ (small 1 ++ whole_bytes 0))
+
+saved_first : saved_bytes (first_posting ∷ []) 0 ≡ first_base
+unfolding saved_bytes head_bytes stored_bytes stored_at is_stub msgid_of begins after_word trimmed text_of short_lines posted posted_lines id_of lines digits date_of
+saved_first = refl
+
+first_size : length first_base ≡ 136
+first_size = refl
+
+abbrev purged_base : List ℕ
+purged_base = codes "ECHOBAS2" ++ (small 1 ++ (small 1 ++ short_bytes))
+
+saved_purged : saved_bytes (purged (first_posting ∷ []) 1) 1 ≡ purged_base
+unfolding saved_bytes head_bytes stored_bytes stored_at is_stub msgid_of begins after_word trimmed text_of short_lines posted posted_lines id_of lines digits date_of purged stub_of
+saved_purged = refl
+
+purged_size : length purged_base ≡ 78
+purged_size = refl
+
+-- a purge changes the message, and a second purge none
+purge_changes_one : changed (first_posting ∷ []) 1 ≡ 1
+unfolding changed is_stub msgid_of begins after_word trimmed posted posted_lines id_of lines digits date_of
+purge_changes_one = refl
+
+second_purge_changes_none : changed (purged (first_posting ∷ []) 1) 1 ≡ 0
+unfolding changed purged is_stub stub_of msgid_of begins after_word trimmed posted posted_lines id_of lines digits date_of
+second_purge_changes_none = refl
+
+purge_before_scan : changed (first_posting ∷ []) 0 ≡ 0
+unfolding changed
+purge_before_scan = refl
+
+-- the message as it is stored, with this first byte, zone of a sender and text
+abbrev pub stored_with : ℕ → ℕ → List ℕ → Stored
+stored_with kind zone last = record {
+  kind = kind;
+  zone = zone;
+  net = 0;
+  node = 0;
+  date = date_bytes;
+  to_name = codes "All";
+  from_name = codes "Ann";
+  subject = codes "Hi";
+  tag = [];
+  last = last;
+}
+
+-- with this first byte alone, and in short
+abbrev pub stored : ℕ → Stored
+stored kind = stored_with kind 0 text_bytes
+
+abbrev stored_short : ℕ → Stored
+stored_short kind = record (stored kind) { tag = codes "TEST"; last = id_text }
+
+-- its fields are of their sizes
+pub size_with : (version : Version) (kind zone : ℕ) (last : List ℕ) → kind < 2 ^ 8 → zone < 2 ^ 16 → length last < 2 ^ 32
+    → IsStored version (stored_with kind zone last)
+size_with version kind zone last small_kind small_zone short_last = record {
+  kind = small_kind;
+  zone = small_zone;
+  net = lit< tt;
+  node = lit< tt;
+  date_len = refl;
+  to_name = lit< tt;
+  from_name = lit< tt;
+  subject = lit< tt;
+  tag = lit< tt;
+  no_tag = λ _. refl;
+  last = short_last;
+}
+
+pub stored_size : (version : Version) (kind : ℕ) → kind < 2 ^ 8 → IsStored version (stored kind)
+stored_size version kind small_kind = size_with version kind 0 text_bytes small_kind (lit< tt) (lit< tt)
+
+-- a base of version 1 says the same message
+first_version : BaseOf (first_posting ∷ []) 0 (codes "ECHOBAS1" ++ (small 0 ++ (small 1 ++ whole_bytes 0)))
+unfolding head_bytes stored_bytes is_damaged message_in echo_of text_refusal lines begins after_word trimmed kept_of seen_lists path_lists entry_set entries tokens pair_of text_of short_lines is_stub msgid_of posted posted_lines id_of digits date_of
+first_version = record {
+  version = First;
+  all = stored 0 ∷ [];
+  begins = record {
+    number_fits = lit< tt;
+    cursor_within = lit≤ tt;
+    sizes = (stored_size First 0 (lit< tt), tt);
+    sound = (refl, tt);
+    whole = refl;
+  };
+  messages = refl;
+}
+
+-- F1: another beginning, also where little is there
+other_beginning : IsNoBase (codes "ECHOBAS3")
+other_beginning = inl refl
+
+other_front : IsNoBase (codes "EX")
+other_front = inl refl
+
+-- F2: the front of both beginnings, and no byte at all
+seven_bytes : BaseFaultOf (codes "ECHOBAS") (fault.Truncated 0)
+seven_bytes = inl (refl, refl, lit< tt)
+
+no_byte : BaseFaultOf [] (fault.Truncated 0)
+no_byte = inl (refl, refl, lit< tt)
+
+-- F2 before F3: a message that would be damaged is not there whole
+cut_before_judged : EndsInside 0 (codes "ECHOBAS2" ++ (small 0 ++ (small 1 ++ fields_bytes 5)))
+unfolding head_bytes stored_bytes
+cut_before_judged = record {
+  version = Second;
+  cursor = 0;
+  number = 1;
+  all = [];
+  rest = fields_bytes 5;
+  begins = record { number_fits = lit< tt; cursor_within = lit≤ tt; sizes = tt; sound = tt; whole = refl };
+  many = refl;
+  one_more = lit< tt;
+  next = stored 5;
+  size = stored_size Second 5 (lit< tt);
+  missing = small 78 ++ text_bytes;
+  some = lit< tt;
+  cut = refl;
+}
+
+-- a message that is sound by itself
+sound_message : is_damaged Second 0 [] (stored 0) ≡ false
+unfolding is_damaged message_in echo_of text_refusal lines begins after_word trimmed kept_of seen_lists path_lists entry_set entries tokens pair_of text_of short_lines
+sound_message = refl
+
+-- F3 of both versions
+third_kind_of_first : is_damaged First 0 [] (stored 2) ≡ true
+unfolding is_damaged
+third_kind_of_first = refl
+
+zero_in_name : is_damaged Second 0 [] (record (stored 0) { to_name = 65 ∷ (0 ∷ []) }) ≡ true
+unfolding is_damaged
+zero_in_name = refl
+
+no_echomail : is_damaged Second 0 [] (record (stored 0) { last = codes "Hello" }) ≡ true
+unfolding is_damaged text_refusal lines begins after_word trimmed
+no_echomail = refl
+
+-- received from 0:0/0 is no damage
+received_from_nobody : is_damaged Second 0 [] (stored 1) ≡ false
+unfolding is_damaged message_in echo_of text_refusal lines begins after_word trimmed kept_of seen_lists path_lists entry_set entries tokens pair_of text_of short_lines
+received_from_nobody = refl
+
+-- F3 of version 2
+sound_short : is_damaged Second 1 [] (stored_short 2) ≡ false
+unfolding is_damaged message_in trimmed begins after_word is_stub msgid_of
+sound_short = refl
+
+short_at_cursor : is_damaged Second 0 [] (stored_short 2) ≡ true
+unfolding is_damaged message_in trimmed begins after_word is_stub msgid_of
+short_at_cursor = refl
+
+short_with_sender : is_damaged Second 1 [] (record (stored_short 2) { node = 1 }) ≡ true
+unfolding is_damaged
+short_with_sender = refl
+
+short_without_tag : is_damaged Second 1 [] (record (stored_short 2) { tag = [] }) ≡ true
+unfolding is_damaged
+short_without_tag = refl
+
+short_small_tag : is_damaged Second 1 [] (record (stored_short 2) { tag = codes "tEST" }) ≡ true
+unfolding is_damaged
+short_small_tag = refl
+
+short_without_id : is_damaged Second 1 [] (record (stored_short 2) { last = [] }) ≡ true
+unfolding is_damaged
+short_without_id = refl
+
+short_zero_in_id : is_damaged Second 1 [] (record (stored_short 2) { last = 65 ∷ (0 ∷ (65 ∷ [])) }) ≡ true
+unfolding is_damaged
+short_zero_in_id = refl
+
+short_return_in_id : is_damaged Second 1 [] (record (stored_short 2) { last = 65 ∷ (13 ∷ (65 ∷ [])) }) ≡ true
+unfolding is_damaged
+short_return_in_id = refl
+
+short_blank_after_id : is_damaged Second 1 [] (record (stored_short 2) { last = codes "x " }) ≡ true
+unfolding is_damaged trimmed
+short_blank_after_id = refl
+
+-- a message of an id line alone is stored in short once it was scanned, and not before
+abbrev of_id : ℕ → List ℕ → Stored
+of_id kind line = record (stored kind) { last = codes "AREA:TEST" ++ 13 ∷ (1 ∷ line ++ 13 ∷ []) }
+
+long_before_cursor : is_damaged Second 1 [] (of_id 1 (codes "MSGID: x")) ≡ true
+unfolding is_damaged message_in echo_of text_refusal lines begins after_word trimmed kept_of seen_lists path_lists entry_set entries tokens pair_of text_of short_lines is_stub msgid_of
+long_before_cursor = refl
+
+long_at_cursor : is_damaged Second 0 [] (of_id 1 (codes "MSGID: x")) ≡ false
+unfolding is_damaged message_in echo_of text_refusal lines begins after_word trimmed kept_of seen_lists path_lists entry_set entries tokens pair_of text_of short_lines is_stub msgid_of
+long_at_cursor = refl
+
+no_blank_before_id : is_damaged Second 1 [] (of_id 1 (codes "MSGID:x")) ≡ false
+unfolding is_damaged message_in echo_of text_refusal lines begins after_word trimmed kept_of seen_lists path_lists entry_set entries tokens pair_of text_of short_lines is_stub msgid_of
+no_blank_before_id = refl
+
+long_of_first_version : is_damaged First 1 [] (of_id 0 (codes "MSGID: x")) ≡ false
+unfolding is_damaged message_in echo_of text_refusal lines begins after_word trimmed kept_of seen_lists path_lists entry_set entries tokens pair_of text_of short_lines is_stub msgid_of
+long_of_first_version = refl

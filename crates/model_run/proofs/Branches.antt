@@ -1,0 +1,222 @@
+-- A posting spreads in branches, one for each link of the poster: links join no two branches but at those links.
+use Rattle.std.proofs.Common.{◌≡◌, ◌≢◌, ◌⊎◌, inl, inr, refl, sym, subst, ap, ◌∙◌, ℕ, zero, suc, ◌≤◌, arith, IsTrue, List, [], ◌∷◌, ◌++◌, length, Some}
+use Rattle.std.specs.Prelude.{Bool, true, false}
+use Rattle.echo_addr.specs.declared.address.Address.{Address}
+use Rattle.echo_addr.specs.declared.address.NetNode.{NetNode}
+use Rattle.echo_addr.specs.Address.{net_node_of}
+use Rattle.model_graph.specs.Walk.{Among, Simple, Walk}
+use Rattle.echo_filed.specs.Filed.{Filed}
+use Rattle.model_steps.specs.Scanning.{is_seen_by}
+use Rattle.model_run.proofs.Lists.{not_both, yes_or_no}
+use Rattle.model_run.proofs.Spreads.{Came, IsNear, Spread, came_from, first_seen, from_poster, longer, near-is, one_or_two, source}
+
+-- the second entry of a path, or the entry of the system itself where it has none
+abbrev pub second : NetNode → List NetNode → NetNode
+second own [] = own
+second own (e ∷ []) = own
+second own (e ∷ g ∷ path) = g
+
+second-more : (own e g : NetNode) (path : List NetNode) → second own ((path ++ g ∷ []) ++ e ∷ []) ≡ second e (path ++ g ∷ [])
+second-more own e g [] = refl
+second-more own e g (h ∷ []) = refl
+second-more own e g (h ∷ k ∷ path) = refl
+
+-- the first system that the message went to from the poster: it stands second in PATH, or holds the message itself
+abbrev branch : Address → Filed → NetNode
+branch x m = second (net_node_of x) m.echo.path
+
+module _ (linked : Address → Address → Bool) (Carrier : Address → Type 0) (f : Address) (Holds : Address → Filed → Type 0)
+    (spread : Spread linked Carrier f Holds) (simple : Simple linked)
+    (known : (a b : Address) → IsTrue (linked a b) → Carrier b)
+    (apart : (a b : Address) → Carrier a → Carrier b → net_node_of a ≡ net_node_of b → a ≡ b) where
+  open spread use {posting}
+
+  -- what comes from a system other than the poster is of its branch
+  same_branch : (x : Address) (m : Filed) (c : Came linked Holds x m) → c.from ≢ f → branch x m ≡ branch c.from c.original
+  same_branch x m c other =
+      elim (source linked Carrier f Holds spread c.from c.original c.holds) [
+        | inl here ↦ absurd (other here.0)
+        | inr d ↦ (
+            let own = net_node_of x in
+            let e = net_node_of c.from in
+            let g = net_node_of d.from in
+            ap (λ (es : List NetNode). second own es) (c.path ∙ ap (λ (es : List NetNode). es ++ e ∷ []) d.path)
+            ∙ (second-more own e g d.original.echo.path ∙ ap (λ (es : List NetNode). second e es) (sym d.path))
+            )
+      ]
+
+  -- a link of the poster begins a branch
+  own_branch : (x : Address) (m : Filed) → IsTrue (linked f x) → Holds x m → branch x m ≡ net_node_of x
+  own_branch x m link h =
+      let (c, from) = came_from linked Carrier f Holds spread x m h f (from_poster linked Carrier f Holds spread x m link h) in
+      let P : Address → Type 0 = λ a. Holds a c.original in
+      let is_posting = spread.one f c.original posting (subst P from c.holds) spread.at_poster in
+      let none : c.original.echo.path ≡ [] = ap (λ (n : Filed). n.echo.path) is_posting ∙ spread.no_path in
+      ap (λ (es : List NetNode). second (net_node_of x) es) (c.path ∙ ap (λ (es : List NetNode). es ++ net_node_of c.from ∷ []) none)
+
+  -- whom a system sends the message is of its branch
+  sent_on : (u : Address) (n : Filed) → Holds u n → u ≢ f → (y : Address) (k : Filed) → Holds y k → IsTrue (linked u y) →
+      is_seen_by n y ≡ false → branch u n ≡ branch y k
+  sent_on u n at_u u_other y k at_y link unseen =
+      let not_sender : n.sender ≢ Some y = λ e.
+      (let (c, from) = came_from linked Carrier f Holds spread u n at_u y e in
+      not_both (is_seen_by n y) (c.seen_to y (inr (inl (ap (λ (a : Address). net_node_of a) (sym from))))) unseen) in
+      let (c, from) = came_from linked Carrier f Holds spread y k at_y u (spread.sole u n y k at_u link unseen not_sender at_y) in
+      let P : Address → Type 0 = λ a. Holds a c.original in
+      let same = spread.one u c.original n (subst P from c.holds) at_u in
+      let Q : Address → Type 0 = λ a. branch a c.original ≡ branch u c.original in
+      sym (same_branch y k c (λ e. u_other (sym from ∙ e)) ∙ (subst Q (sym from) refl ∙ ap (λ (m : Filed). branch u m) same))
+
+  -- who stands in SEEN-BY is a link of the poster or of the branch
+  module _ (y : Address) (k : Filed) (at_y : Holds y k) (y_other : y ≢ f) where
+    seen_side : (n : ℕ) (x : Address) (m : Filed) → length m.echo.path ≤ n → Holds x m → x ≢ f → is_seen_by m y ≡ true →
+        IsTrue (linked f y) ⊎ (branch x m ≡ branch y k)
+    seen_side zero x m few h other seen =
+        elim (source linked Carrier f Holds spread x m h) [
+          | inl here ↦ absurd (other here.0)
+          | inr c ↦ absurd (let long = longer linked Carrier f Holds spread x m c in omega arith)
+        ]
+    seen_side (suc n) x m few h other seen =
+        elim (source linked Carrier f Holds spread x m h) [
+          | inl here ↦ absurd (other here.0)
+          | inr c ↦ elim (one_or_two c.from f) [
+            | inl e ↦ (let P : Address → Type 0 = λ a. IsTrue (linked a x) in
+                elim (first_seen linked Carrier f Holds spread known apart x y m (subst P e c.link) h (spread.carriers y k at_y) seen) [
+                  | inl here ↦ absurd (y_other here)
+                  | inr link ↦ inl link
+                ])
+            | inr later ↦ from_branch c later
+                (λ before. seen_side n c.from c.original (let long = longer linked Carrier f Holds spread x m c in omega arith) c.holds later before)
+                (c.seen_from y seen)
+          ]
+        ]
+      where
+        from_branch : (c : Came linked Holds x m) → c.from ≢ f →
+            (is_seen_by c.original y ≡ true → IsTrue (linked f y) ⊎ (branch c.from c.original ≡ branch y k)) →
+            (is_seen_by c.original y ≡ true) ⊎ IsNear linked c.from y → IsTrue (linked f y) ⊎ (branch x m ≡ branch y k)
+        from_branch c later before where_seen =
+            let up = same_branch x m c later in
+            let further : IsTrue (linked f y) ⊎ (branch c.from c.original ≡ branch y k) → IsTrue (linked f y) ⊎ (branch x m ≡ branch y k) = λ side.
+            (elim side [ inl t ↦ inl t | inr e ↦ inr (up ∙ e) ]) in
+            elim where_seen [
+              | inl seen ↦ further (before seen)
+              | inr near ↦ elim (near-is linked Carrier f Holds spread known apart c.from y (spread.carriers c.from c.original c.holds) (spread.carriers y k at_y) near) [
+                | inl e ↦ (let P : Address → Type 0 = λ a. Holds a k in
+                    let same = spread.one c.from k c.original (subst P e at_y) c.holds in
+                    let Q : Address → Type 0 = λ a. branch c.from k ≡ branch a k in
+                    inr (up ∙ (ap (λ (n : Filed). branch c.from n) (sym same) ∙ subst Q (sym e) refl)))
+                | inr link ↦ elim (yes_or_no (is_seen_by c.original y)) [
+                  | inl seen ↦ further (before seen)
+                  | inr unseen ↦ inr (up ∙ sent_on c.from c.original c.holds later y k at_y link unseen)
+                ]
+              ]
+            ]
+
+  one_side : (x : Address) (m : Filed) (y : Address) (k : Filed) → Holds x m → Holds y k → x ≢ f → y ≢ f → IsTrue (linked x y) →
+      IsTrue (linked f y) ⊎ (branch x m ≡ branch y k)
+  one_side x m y k at_x at_y x_other y_other link =
+      elim (yes_or_no (is_seen_by m y)) [
+        | inl seen ↦ seen_side y k at_y y_other (length m.echo.path) x m (omega arith) at_x x_other seen
+        | inr unseen ↦ inr (sent_on x m at_x x_other y k at_y link unseen)
+      ]
+
+  -- a link joins two systems of one branch, or two links of the poster
+  both_sides : (x : Address) (m : Filed) (y : Address) (k : Filed) → Holds x m → Holds y k → x ≢ f → y ≢ f → IsTrue (linked x y) →
+      (IsTrue (linked f x) × IsTrue (linked f y)) ⊎ (branch x m ≡ branch y k)
+  both_sides x m y k at_x at_y x_other y_other link =
+      elim (one_side x m y k at_x at_y x_other y_other link) [
+        | inr same ↦ inr same
+        | inl to_y ↦ elim (one_side y k x m at_y at_x y_other x_other (simple.both_ways x y link)) [
+          | inr same ↦ inr (sym same)
+          | inl to_x ↦ inl (to_x, to_y)
+        ]
+      ]
+
+-- d is a, or a link of it
+abbrev pub Touches : (Address → Address → Bool) → Address → Address → Type 0
+Touches linked a d = (d ≡ a) ⊎ IsTrue (linked a d)
+
+pub touches-cases : (linked : Address → Address → Bool) (a d : Address) → Touches linked a d ⊎ (¬ Touches linked a d)
+touches-cases linked a d =
+    elim (one_or_two d a) [
+      | inl e ↦ inl (inl e)
+      | inr other ↦ elim (yes_or_no (linked a d)) [
+        | inl t ↦ inl (inr t)
+        | inr f ↦ inr (λ h. elim h [ inl e ↦ other e | inr t ↦ not_both (linked a d) t f ])
+      ]
+    ]
+
+-- of two links of b that are linked with each other c touches both or neither, where b is all that is linked so
+pub closed-by : (linked : Address → Address → Bool) (b c : Address) → ¬ IsTrue (linked b b) →
+    ((x y : Address) → IsTrue (linked c x) → IsTrue (linked b y) → IsTrue (linked x y) → y ≢ c → ¬ IsTrue (linked c y) → b ≡ x) →
+    (x y : Address) → IsTrue (linked b x) → IsTrue (linked b y) → IsTrue (linked x y) → Touches linked c x → Touches linked c y
+closed-by linked b c not_self no_kite x y to_x to_y side touches =
+    elim touches [
+      | inl e ↦ (let P : Address → Type 0 = λ z. IsTrue (linked z y) in inr (subst P e side))
+      | inr near ↦ elim (touches-cases linked c y) [
+        | inl so ↦ so
+        | inr not_so ↦ (
+            let P : Address → Type 0 = λ z. IsTrue (linked b z) in
+            absurd (not_self (subst P (sym (no_kite x y near to_y side (λ e. not_so (inl e)) (λ t. not_so (inr t)))) to_x))
+            )
+      ]
+    ]
+
+module _ (linked : Address → Address → Bool) (Carrier : Address → Type 0) (f : Address) (Holds : Address → Filed → Type 0)
+    (spread : Spread linked Carrier f Holds) (simple : Simple linked)
+    (known : (a b : Address) → IsTrue (linked a b) → Carrier b)
+    (apart : (a b : Address) → Carrier a → Carrier b → net_node_of a ≡ net_node_of b → a ≡ b) (a : Address)
+    (closed : (x y : Address) → IsTrue (linked f x) → IsTrue (linked f y) → IsTrue (linked x y) → Touches linked a x → Touches linked a y) where
+  -- a system of a branch whose first system is a, or a link of it
+  record IsClose (x : Address) : Type 0 where
+    message : Filed
+    holds : Holds x message
+    first : Address
+    is_first : branch x message ≡ net_node_of first
+    touches : Touches linked a first
+    from_f : IsTrue (linked f first)
+
+  stays_close : (x y : Address) → IsTrue (linked x y) → x ≢ f → y ≢ f → IsClose x → IsClose y
+  stays_close x y link x_other y_other close =
+      let (k, at_y) = spread.all y (known x y link) in
+      elim (both_sides linked Carrier f Holds spread simple known apart x close.message y k close.holds at_y x_other y_other link) [
+        | inr same ↦ record { message = k; holds = at_y; first = close.first; is_first = sym same ∙ close.is_first; touches = close.touches; from_f = close.from_f }
+        | inl both ↦ (
+            let own = own_branch linked Carrier f Holds spread simple known apart in
+            let here : close.first ≡ x = apart close.first x (known f close.first close.from_f) (known f x both.0)
+            (sym close.is_first ∙ own x close.message both.0 close.holds) in
+            let P : Address → Type 0 = λ z. Touches linked a z in
+            record {
+              message = k;
+              holds = at_y;
+              first = y;
+              is_first = own y k both.1 at_y;
+              touches = closed x y both.0 both.1 link (subst P here close.touches);
+              from_f = both.1;
+            }
+            )
+      ]
+
+  along_walk : (x : Address) (rest : List Address) (c : Address) → Walk linked x rest c → ¬ Among f (x ∷ rest) → IsClose x → IsClose c
+  along_walk x [] c w around close = let P : Address → Type 0 = IsClose in subst P w close
+  along_walk x (y ∷ rest) c w around close =
+      along_walk y rest c w.1 (λ h. around (inr h)) (stays_close x y w.0 (λ e. around (inl (sym e))) (λ e. around (inr (inl (sym e)))) close)
+
+  -- no walk leads around the poster from one of its links to another that is not linked with it
+  pub no_way_around : (c : Address) → IsTrue (linked f a) → IsTrue (linked f c) → ¬ Touches linked a c →
+      (rest : List Address) → Walk linked a rest c → ¬ Among f (a ∷ rest) → ⊥
+  no_way_around c to_a to_c none rest w around =
+      let own = own_branch linked Carrier f Holds spread simple known apart in
+      let (m, h) = spread.all a (known f a to_a) in
+      let close = along_walk a rest c w around (record {
+        message = m;
+        holds = h;
+        first = a;
+        is_first = own a m to_a h;
+        touches = inl refl;
+        from_f = to_a;
+      }) in
+      let here : close.first ≡ c = apart close.first c (known f close.first close.from_f) (known f c to_c)
+      (sym close.is_first ∙ own c close.message to_c close.holds) in
+      let P : Address → Type 0 = λ z. Touches linked a z in
+      none (subst P here close.touches)

@@ -1,0 +1,103 @@
+-- The chain 0, 1, 2: it is tidy, and a false SEEN-BY hides its end.
+use Rattle.std.proofs.Common.{◌≡◌, ◌≢◌, ◌⊎◌, inl, inr, refl, sym, subst, ◌∙◌, ℕ, ◌+◌, ◌<◌, arith, IsTrue, List, [], ◌∷◌}
+use Rattle.std.specs.Prelude.{Bool, true, false, ◌&&◌, ◌||◌, ◌==◌, nat_lt}
+use Rattle.std.proofs.lemmas.Bool.{ltb-true, lt-ltb, and_parts, and_from, or_cases, eq-eqb, eqb-true}
+use Rattle.model_graph.specs.Walk.{Different, Simple, Walk, Reaches}
+use Rattle.model_graph.specs.Cycle.{NoCycle}
+use Rattle.model_graph.proofs.Members.{ℕ-can_tell}
+use Rattle.model_graph.proofs.Walks.{Connected-from_root}
+use Rattle.model_graph.proofs.Cycles.{Polygons-from_no_cycle}
+use Rattle.model_run.specs.Nets.{Net, Tidy}
+
+-- neighbours are linked
+abbrev pub chain : Net ℕ ℕ
+chain = record {
+  carries = λ a. nat_lt a 3;
+  linked = λ a b. nat_lt a 3 && (nat_lt b 3 && ((a + 1 == b) || (b + 1 == a)));
+  net_node = λ a. a;
+}
+
+abbrev linked : ℕ → ℕ → Bool
+linked a b = chain.linked a b
+
+pub chain-parts : (a b : ℕ) → IsTrue (linked a b) → (a < 3) × (b < 3) × ((a + 1 ≡ b) ⊎ (b + 1 ≡ a))
+chain-parts a b h =
+    let first = and_parts (nat_lt a 3) (nat_lt b 3 && ((a + 1 == b) || (b + 1 == a))) h in
+    let second = and_parts (nat_lt b 3) ((a + 1 == b) || (b + 1 == a)) first.1 in (
+      ltb-true a 3 first.0,
+      ltb-true b 3 second.0,
+      elim (or_cases (a + 1 == b) (b + 1 == a) second.1) [ inl e ↦ inl (eqb-true (a + 1) b e) | inr e ↦ inr (eqb-true (b + 1) a e) ],
+    )
+
+both : (a b : ℕ) → IsTrue (linked a b) → IsTrue (linked b a)
+both a b h =
+    let p = chain-parts a b h in
+    and_from (nat_lt b 3) (nat_lt a 3 && ((b + 1 == a) || (a + 1 == b))) (lt-ltb b 3 p.1)
+    (and_from (nat_lt a 3) ((b + 1 == a) || (a + 1 == b)) (lt-ltb a 3 p.0) (near p.2))
+  where
+    right : (x y : Bool) → y ≡ true → x || y ≡ true
+    right true y e = refl
+    right false y e = e
+
+    left : (x y : Bool) → x ≡ true → x || y ≡ true
+    left true y e = refl
+    left false y e = cc
+
+    near : (a + 1 ≡ b) ⊎ (b + 1 ≡ a) → (b + 1 == a) || (a + 1 == b) ≡ true
+    near n = elim n [
+      | inl e ↦ right (b + 1 == a) (a + 1 == b) (eq-eqb (a + 1) b e)
+      | inr e ↦ left (b + 1 == a) (a + 1 == b) (eq-eqb (b + 1) a e)
+    ]
+
+simple : Simple linked
+simple = record { both_ways = both; no_self = λ a h. elim (chain-parts a a h).2 [ inl e ↦ omega (arith, e) | inr e ↦ omega (arith, e) ] }
+
+-- of three in a row that differ the one between is 1
+middle : (a b c : ℕ) → IsTrue (linked a b) → IsTrue (linked b c) → a ≢ c → b ≡ 1
+middle a b c to_b to_c other =
+    let (a_below, b_below, near) = chain-parts a b to_b in
+    let (again, c_below, next) = chain-parts b c to_c in
+    elim near [
+      | inl e ↦ elim next [ inl q ↦ omega (arith, e, q, c_below) | inr q ↦ absurd (other (omega (arith, e, q))) ]
+      | inr e ↦ elim next [ inl q ↦ absurd (other (omega (arith, e, q))) | inr q ↦ omega (arith, e, q, a_below) ]
+    ]
+
+no-cycle : NoCycle linked
+no-cycle first [] cycle = absurd (let long = cycle.long in omega (arith, long))
+no-cycle first (b ∷ []) cycle = absurd (let long = cycle.long in omega (arith, long))
+no-cycle first (b ∷ c ∷ rest) cycle =
+    let (last, walk, back) = cycle.closed in
+    let at_b = middle first b c walk.0 walk.1.0 (λ e. cycle.different.0 (inr (inl e))) in
+    behind rest last walk.1.1 back cycle.different.1 at_b walk.1.0
+  where
+    -- then c, between b and what is behind it, is 1 too
+    behind : (rest : List ℕ) (last : ℕ) → Walk linked c rest last → IsTrue (linked last first) → Different (b ∷ c ∷ rest) → b ≡ 1 →
+        IsTrue (linked b c) → ⊥
+    behind [] last walk back different at_b link =
+        let P : ℕ → Type 0 = λ a. IsTrue (linked a first) in
+        let at_c = middle b c first link (subst P (sym walk) back) (λ e. cycle.different.0 (inl (sym e))) in
+        different.0 (inl (at_b ∙ sym at_c))
+    behind (d ∷ more) last walk back different at_b link =
+        let at_c = middle b c d link walk.0 (λ e. different.0 (inr (inl e))) in
+        different.0 (inl (at_b ∙ sym at_c))
+
+pub chain-tidy : Tidy chain
+chain-tidy = record {
+  no_self = simple.no_self;
+  both = both;
+  carriers = λ a b h. lt-ltb a 3 (chain-parts a b h).0;
+  apart = λ a b at_a at_b e. e;
+  connected = Connected-from_root (λ a. IsTrue (chain.carries a)) linked simple 1 from_1;
+  cycles = Polygons-from_no_cycle linked no-cycle;
+}
+  where
+    from_1 : (a : ℕ) → IsTrue (nat_lt a 3) → Reaches linked 1 a
+    from_1 a h =
+        let below = ltb-true a 3 h in
+        elim (ℕ-can_tell a 0) [
+          | inl e ↦ (0 ∷ [], (refl, sym e))
+          | inr not_0 ↦ elim (ℕ-can_tell a 1) [
+            | inl e ↦ ([], sym e)
+            | inr not_1 ↦ (2 ∷ [], (refl, omega (arith, below, not_0, not_1)))
+          ]
+        ]

@@ -1,0 +1,287 @@
+-- The link files change, where the area has settled or the change is one of other areas.
+use Rattle.std.proofs.Common.{◌≡◌, ◌≢◌, ◌⊎◌, inl, inr, refl, sym, subst, ap, ◌∙◌, ℕ, List, [], ◌++◌, take, drop, map}
+use Rattle.std.specs.Prelude.{Bool, true}
+use Rattle.std.proofs.lemmas.List.{take-append-drop}
+use Rattle.echo_addr.specs.declared.address.Address.{Address}
+use Rattle.echo_addr.specs.declared.address.NetNode.{NetNode}
+use Rattle.echo_addr.specs.Address.{net_node_of}
+use Rattle.model_graph.specs.Walk.{Among}
+use Rattle.model_graph.proofs.Members.{Among-append_cases, Among-append_left}
+use Rattle.echo_links.specs.Links.{LinkFile}
+use Rattle.echo_filed.specs.declared.key.Key.{Key}
+use Rattle.echo_filed.specs.Filed.{Filed, key_of}
+use Rattle.model_run.specs.Nets.{Net}
+use Rattle.model_run.specs.Events as rules
+use Rattle.model_run.specs.RulesOrderly.{IsSettled, goal}
+use Rattle.model_run.proofs.Eras.{Given, Since, begins, filed-cases, filed-past, given-now, not-given, rests, still-given, whole-poster}
+use Rattle.model_run.specs.Run.{System, Run}
+use Rattle.model_run.specs.Orderly.{IsPosting, Settled}
+use Rattle.model_run.specs.Tidy.{Carries, Tidy}
+use Rattle.model_run.specs.Fits.{FilesFit}
+use Rattle.model_run.specs.Epochs.{Epoch, PostedBetween, SameArea, addresses, after_epoch, changed_to, with_files}
+use Rattle.model_run.specs.AreaNets.{net_of}
+use Rattle.model_run.specs.Keeping.{IsFiledIn, IsHistory, filed_as}
+use Rattle.model_run.proofs.TosserPremises.{Laws}
+use Rattle.model_run.proofs.Lists.{nth-split}
+use Rattle.model_run.proofs.Bases.{Kept-waiting}
+use Rattle.model_run.proofs.Areas.{Wrote, address_of, map-map, one-system, one-writer, tidy-net}
+use Rattle.model_run.proofs.Histories.{Among-in, RCopy, REvent, RFiled, among-nth}
+use Rattle.model_run.proofs.Renewal.{Renewed, SameSystems, renewed-back, renewed-files, renewed-ok, renewed-to}
+use Rattle.model_run.proofs.Standing.{Equal, Standing, can, can_keys, equal-compares, filed-event, wrote-event}
+use Rattle.model_run.proofs.StandingRuns.{events-stand}
+use Rattle.model_run.proofs.OverChanges.{Outlives, change-outlives, events-outlive}
+use Rattle.model_run.proofs.Unchanged.{one-message}
+
+-- systems that get other files filed the same
+module _ (tag : List ℕ) (part : System → List Filed) (keeps : (s z : System) → Renewed s z → part z ≡ part s) (systems : List System) (files : List LinkFile)
+    (same : SameSystems systems files) (m : RFiled) where
+  renewed-filed : IsFiledIn tag part systems m → IsFiledIn tag part (with_files files systems) m
+  renewed-filed is =
+      let (z, h, renewed) = renewed-to files systems is.system same is.there in
+      record {
+        system = z;
+        there = h;
+        message = is.message;
+        filed = Among-in is.message (part is.system) (part z) (sym (keeps is.system z renewed)) is.filed;
+        area = is.area;
+        same = is.same ∙ ap (λ (a : Address). filed_as a is.message) (sym renewed.address);
+      }
+
+  filed-renewed : IsFiledIn tag part (with_files files systems) m → IsFiledIn tag part systems m
+  filed-renewed is =
+      let (s, h, renewed) = renewed-back files systems is.system same is.there in
+      record {
+        system = s;
+        there = h;
+        message = is.message;
+        filed = Among-in is.message (part is.system) (part s) (keeps s is.system renewed) is.filed;
+        area = is.area;
+        same = is.same ∙ ap (λ (a : Address). filed_as a is.message) renewed.address;
+      }
+
+history-renewed : (tag : List ℕ) (run : Run) (files : List LinkFile) → SameSystems run.systems files → (events : List REvent) →
+    IsHistory tag run events → IsHistory tag (changed_to run files) events
+history-renewed tag run files same events history = record {
+  filed = λ m. (
+    λ h. renewed-filed tag (λ s. s.history) (λ s z r. r.history) run.systems files same m ((history.filed m).0 h),
+    λ is. (history.filed m).1 (filed-renewed tag (λ s. s.history) (λ s z r. r.history) run.systems files same m is),
+  );
+  exported = λ m. (
+    λ h. renewed-filed tag (λ s. take s.cursor s.history) scanned run.systems files same m ((history.exported m).0 h),
+    λ is. (history.exported m).1 (filed-renewed tag (λ s. take s.cursor s.history) scanned run.systems files same m is),
+  );
+  sent = history.sent;
+  as_many = history.as_many;
+  came = history.came;
+}
+  where
+    scanned : (s z : System) → Renewed s z → take z.cursor z.history ≡ take s.cursor s.history
+    scanned s z r = ap (λ (n : ℕ). take n z.history) r.cursor ∙ ap (λ (ms : List Filed). take s.cursor ms) r.history
+
+module _ (laws : Laws) (tag : List ℕ) where
+  -- a run of tidy files, and what has passed
+  pub record Stands (files : List LinkFile) (run : Run) : Type 0 where
+    pub tidy : Tidy files tag
+    pub past : List REvent
+    pub standing : Standing files tag past run
+
+  -- a change of link files that is in order
+  pub record Change (files : List LinkFile) (run : Run) (next : List LinkFile) : Type 0 where
+    pub fit : FilesFit next
+    pub tidy : Tidy next tag
+    pub same : addresses files ≡ addresses next
+    pub settled : Settled run tag ⊎ SameArea tag files next
+
+  pub same-systems : (files : List LinkFile) (run : Run) (next : List LinkFile) → map (λ (s : System). s.file) run.systems ≡ files →
+      addresses files ≡ addresses next → SameSystems run.systems next
+  same-systems files run next same_files same =
+      sym (map-map (λ (file : LinkFile). file.system) (λ (s : System). s.file) run.systems)
+      ∙ (ap (λ (fs : List LinkFile). addresses fs) same_files ∙ same)
+
+  -- where the area has settled, so have the events
+  pub all-settled : (files : List LinkFile) (run : Run) (st : Stands files run) → Settled run tag → IsSettled (st.standing.recent ++ st.past)
+  all-settled files run st settled =
+      let at = st.standing in
+      record {
+        all_exported = λ m h. exported m ((at.history.filed m).0 h);
+        all_came = λ c h.
+            let is = (at.history.sent c).0 h in
+            let (k, e) = among-nth is.packet run.packets is.there in
+            let split = nth-split k is.packet run.packets e in
+            let P : ℕ → Type 0 = λ j. Among j run.delivered in
+            let delivered = subst P split.index (settled.delivered split.before is.packet split.after split.whole is.message is.inside is.area) in
+            let came = at.history.came k delivered is.packet e is.message is.inside is.area in
+            let Q : RCopy → Type 0 = λ d. Among d (rules.came (at.recent ++ st.past)) in
+            subst Q (sym is.same) came;
+      }
+    where
+      exported : (m : RFiled) → IsFiledIn tag (λ s. s.history) run.systems m → Among m (rules.exported (st.standing.recent ++ st.past))
+      exported m is =
+          let s = is.system in
+          elim (Among-append_cases is.message (take s.cursor s.history) (drop s.cursor s.history)
+          (Among-in is.message s.history (take s.cursor s.history ++ drop s.cursor s.history) (sym (take-append-drop s.cursor s.history)) is.filed)) [
+            | inl done ↦ (st.standing.history.exported m).1 (record { system = s; there = is.there; message = is.message; filed = done; area = is.area; same = is.same })
+            | inr waits ↦ absurd (settled.scanned s is.there is.message
+                (Among-in is.message (drop s.cursor s.history) (drop s.cursor s.base) (sym (Kept-waiting s.cursor s.base s.history (st.standing.ok.systems s is.there).kept)) waits) is.area)
+          ]
+
+  module _ (files : List LinkFile) (run : Run) (next : List LinkFile) (st : Stands files run) (fit : FilesFit next) (tidy : Tidy next tag) (same : SameSystems run.systems next) where
+    abbrev changed : Run
+    changed = changed_to run next
+
+    with-files : (past recent : List REvent) → IsHistory tag run (recent ++ past) → Since Equal (net_of next tag) past recent → Standing next tag past changed
+    with-files past recent history since = record {
+      ok = renewed-ok laws run next fit st.standing.ok;
+      same_files = renewed-files next run.systems same;
+      delivered = record { once = st.standing.delivered.once; there = st.standing.delivered.there };
+      recent = recent;
+      history = history-renewed tag run next same (recent ++ past) history;
+      since = since;
+      wrote = λ z h m i posting.
+          let (s, j, renewed) = renewed-back next run.systems z same h in
+          let P : Address → Type 0 = λ a. Wrote tag a (key_of m) in
+          subst P (sym renewed.address) (st.standing.wrote s j m (Among-in m z.history s.history renewed.history i) posting);
+    }
+
+    same-net : SameArea tag files next → net_of files tag ≡ net_of next tag
+    same-net area = λ i. record { carries = λ a. area.carriers a i; linked = λ a b. area.links a b i; net_node = net_node_of }
+
+    -- what passed until now is a past, or the past stays
+    pub entered : Settled run tag ⊎ SameArea tag files next → Stands next changed
+    entered (inl settled) =
+        let at = st.standing in
+        let rest = rests (can laws) (can_keys laws) (net_of files tag) (tidy-net laws files tag st.tidy) Equal equal-compares st.past at.recent at.since (all-settled files run st settled) in
+        record {
+          tidy = tidy;
+          past = at.recent ++ st.past;
+          standing = with-files (at.recent ++ st.past) [] at.history (begins Equal (net_of next tag) (at.recent ++ st.past) rest);
+        }
+    entered (inr area) =
+        let P : Net Address NetNode → Type 0 = λ net. Since Equal net st.past st.standing.recent in
+        record { tidy = tidy; past = st.past; standing = with-files st.past st.standing.recent st.standing.history (subst P (same-net area) st.standing.since) }
+
+  -- an epoch begins, and runs
+  unfoldable pub stands-epoch : (files : List LinkFile) (run : Run) (epoch : Epoch) → Stands files run → Change files run epoch.files → Stands epoch.files (after_epoch run epoch)
+  stands-epoch files run epoch st change =
+      let begun = entered files run epoch.files st change.fit change.tidy (same-systems files run epoch.files st.standing.same_files change.same) change.settled in
+      record { tidy = begun.tidy; past = begun.past; standing = events-stand laws epoch.files tag begun.tidy begun.past epoch.events (changed_to run epoch.files) begun.standing }
+
+  -- some system has posted it
+  abbrev pub Posted : Run → Filed → Type 0
+  Posted run m = (f : System) × Among f run.systems × Among m f.history × IsPosting tag m
+
+  pub posted-later : (run after : Run) (m : Filed) → Outlives run after → Posted run m → Posted after m
+  posted-later run after m outlives posted =
+      let (f, h, i, posting) = posted in
+      let (z, j, grown) = outlives.later f h in
+      (z, j, Among-in m (f.history ++ grown.filed.0) z.history (sym grown.filed.1) (Among-append_left m f.history grown.filed.0 i), posting)
+
+  -- no message of the past has the key
+  abbrev pub IsNewKey : List REvent → Key → Type 0
+  IsNewKey past k = (n : RFiled) → Among n (rules.filed past) → k ≢ n.text.key
+
+  -- what is owed of a posting: in the past just those got it who had the area (`was`), or it is new and just these have the area
+  pub record Owed (was : Address → Type 0) (files : List LinkFile) (past : List REvent) (run : Run) (m : Filed) : Type 0 where
+    pub posted : Posted run m
+    pub due : Given was past (key_of m) ⊎ (IsNewKey past (key_of m) × ((a : Address) → was a → Carries files tag a) × ((a : Address) → Carries files tag a → was a))
+
+  module _ (was : Address → Type 0) (m : Filed) (files : List LinkFile) (run : Run) (st : Stands files run) (owed : Owed was files st.past run m) where
+    -- it was filed by the events
+    abbrev at : Standing files tag st.past run
+    at = st.standing
+
+    abbrev p : RFiled
+    p = filed_as (address_of owed.posted.0) m
+
+    abbrev whole : List REvent
+    whole = at.recent ++ st.past
+
+    pub filed-p : Among p (rules.filed whole)
+    filed-p = filed-event laws files tag st.tidy st.past run at owed.posted.0 owed.posted.1 m owed.posted.2 owed.posted.3.area
+
+    recent-p : IsNewKey st.past (key_of m) → Among p (rules.filed at.recent)
+    recent-p new =
+        elim (filed-cases at.recent st.past p filed-p) [
+          | inl now ↦ now
+          | inr before ↦ absurd (new p before refl)
+        ]
+
+    still : Given was st.past (key_of m) → Given was whole (key_of m)
+    still given = still-given (can laws) (can_keys laws) (net_of files tag) (tidy-net laws files tag st.tidy) Equal equal-compares st.past at.recent at.since was (key_of m) given
+
+    -- where all has settled it is given
+    pub paid : Settled run tag → Given was whole (key_of m)
+    paid settled = elim owed.due [
+      | inl given ↦ still given
+      | inr new ↦ given-now (can laws) (can_keys laws) (net_of files tag) (tidy-net laws files tag st.tidy) Equal equal-compares st.past at.recent at.since p (recent-p new.0)
+          (all-settled files run st settled) owed.posted.3.own was new.1 new.2
+    ]
+
+    -- the others never have it
+    pub spared : (a : Address) → ¬ was a → (¬ rules.Has a (key_of m) (rules.filed whole)) × (¬ Among (a, key_of m) (map goal (rules.copies whole)))
+    spared a without = elim owed.due [
+      | inl given ↦ (still given).to_others a without
+      | inr new ↦ not-given (can laws) (can_keys laws) (net_of files tag) (tidy-net laws files tag st.tidy) Equal equal-compares st.past at.recent at.since
+          p (recent-p new.0) a (λ c. without (new.2 a c))
+    ]
+
+    -- what is owed stays so over a change and an epoch
+    pub owed-epoch : (epoch : Epoch) (change : Change files run epoch.files) → Owed was epoch.files (stands-epoch files run epoch st change).past (after_epoch run epoch) m
+    unfolding entered stands-epoch
+    owed-epoch epoch change = record {
+      posted = posted-later (changed_to run epoch.files) (after_epoch run epoch) m outlives
+          (posted-later run (changed_to run epoch.files) m (change-outlives laws run epoch.files same) owed.posted);
+      due = due change.settled;
+    }
+      where
+        same : SameSystems run.systems epoch.files
+        same = same-systems files run epoch.files at.same_files change.same
+
+        outlives : Outlives (changed_to run epoch.files) (after_epoch run epoch)
+        outlives = events-outlive laws (changed_to run epoch.files) (renewed-ok laws run epoch.files change.fit at.ok) epoch.events
+
+        due : (settled : Settled run tag ⊎ SameArea tag files epoch.files) →
+            Given was (entered files run epoch.files st change.fit change.tidy same settled).past (key_of m)
+            ⊎ (IsNewKey (entered files run epoch.files st change.fit change.tidy same settled).past (key_of m)
+            × ((a : Address) → was a → Carries epoch.files tag a) × ((a : Address) → Carries epoch.files tag a → was a))
+        due (inl settled) = inl (paid settled)
+        due (inr area) = elim owed.due [
+          | inl given ↦ inl given
+          | inr new ↦ inr (
+            new.0,
+            λ a had. (let P : Bool → Type 0 = λ b. b ≡ true in subst P (area.carriers a) (new.1 a had)),
+            λ a c. new.2 a (let P : Bool → Type 0 = λ b. b ≡ true in subst P (sym (area.carriers a)) c),
+          )
+        ]
+
+  -- what was posted in an epoch is owed to those who have the area in it
+  pub owed-begins : (files : List LinkFile) (begun : Run) (st : Stands files begun) (after : Run) (at : Standing files tag st.past after) → Outlives begun after → (before : Run) →
+      ((z : System) → Among z begun.systems → (m : Filed) → Among m z.history → (s : System) × Among s before.systems × (address_of s ≡ address_of z) × Among m s.history) →
+      (m : Filed) → PostedBetween tag before after m → Owed (Carries files tag) files st.past after m
+  owed-begins files begun st after at outlives before back m posted = record {
+    posted = (posted.poster, posted.there, posted.filed, posted.posting);
+    due = inr (new, λ a c. c, λ a c. c);
+  }
+    where
+      new : IsNewKey st.past (key_of m)
+      new n h e =
+          let first = st.standing in
+          let (p, i, own, key) = whole-poster (can laws) (can_keys laws) (net_of files tag) (tidy-net laws files tag st.tidy) Equal equal-compares st.past first.recent first.since n
+          (filed-past first.recent st.past n h) in
+          let same_key : p.text.key ≡ key_of m = key ∙ sym e in
+          let P : Key → Type 0 = λ k. Wrote tag p.at k in
+          let one = one-writer laws tag p.at (address_of posted.poster) (key_of m)
+          (subst P same_key (wrote-event laws files tag st.tidy st.past begun first p i own))
+          (at.wrote posted.poster posted.there m posted.filed posted.posting) in
+          let is = (first.history.filed p).0 i in
+          let (z, j, grown) = outlives.later is.system is.there in
+          let here : address_of is.system ≡ address_of posted.poster = ap (λ (f : RFiled). f.at) (sym is.same) ∙ one in
+          let it : z ≡ posted.poster = one-system laws files tag st.tidy after.systems at.same_files z posted.poster j posted.there (grown.address ∙ here) in
+          let Q : System → Type 0 = λ t. Among is.message t.history in
+          let there : Among is.message posted.poster.history = subst Q it
+          (Among-in is.message (is.system.history ++ grown.filed.0) z.history (sym grown.filed.1) (Among-append_left is.message is.system.history grown.filed.0 is.filed)) in
+          let message : is.message ≡ m = one-message laws posted.poster (at.ok.systems posted.poster posted.there) is.message m there posted.filed
+          (ap (λ (f : RFiled). f.text.key) (sym is.same) ∙ same_key) in
+          let R : Filed → Type 0 = λ x. Among x is.system.history in
+          let (s, k, same_address, was) = back is.system is.there m (subst R message is.filed) in
+          posted.new s k (same_address ∙ here) was

@@ -1,0 +1,179 @@
+-- What stands in the packets of a scan.
+use Rattle.std.proofs.Common.{◌≡◌, ◌≢◌, inl, inr, refl, sym, subst, ap, ◌∙◌, ℕ, List, [], ◌∷◌, ◌++◌, map, Option, Some, None}
+use Rattle.std.specs.Prelude.{Bool, true, false, filter, not, ◌&&◌, is_none, unwrap_or, option_map}
+use Rattle.std.specs.List.{flat_map}
+use Rattle.echo_addr.specs.declared.address.Address.{Address}
+use Rattle.echo_addr.specs.declared.address.NetNode.{NetNode}
+use Rattle.echo_addr.specs.Address.{net_node_of}
+use Rattle.model_graph.specs.Walk.{Among, Different}
+use Rattle.model_graph.proofs.Members.{Among-at, Among-append_left, Among-append_right}
+use Rattle.echo_packet.specs.Message.{Message}
+use Rattle.echo_text.specs.Echo.{EchoText, IsEcho, msgid_of}
+use Rattle.echo_text.specs.Refusal.{text_refusal}
+use Rattle.echo_text.specs.declared.fault.TextFault.{TextFault}
+use Rattle.model_steps.specs.declared.stamp.Stamp.{Stamp}
+use Rattle.echo_links.specs.Links.{LinkFile, is_link, links_of, same_address}
+use Rattle.echo_filed.specs.Sets.{same_entry}
+use Rattle.echo_filed.specs.Filed.{Filed, key_of, key_with}
+use Rattle.model_steps.specs.Tossing.{received}
+use Rattle.model_steps.specs.Scanning.{packet_to, header_to, copy_to, exported, goes_to, targets, is_sender, is_seen_by, recipients}
+use Rattle.model_run.specs.Run.{destination}
+use Rattle.model_run.specs.Orderly.{copies}
+use Rattle.echo_links.specs.Links.{IsFile}
+use Rattle.model_run.proofs.TosserPremises.{Laws}
+use Rattle.model_run.proofs.Lists.{not_both, yes_or_no, and-parts, and-from, any-to, any-from, filter-yes, Among-filter_from, Among-filter_to}
+use Rattle.model_run.specs.Keeping.{content_of}
+
+-- the copy of a message, as whoever gets it files it
+unfoldable pub copied : LinkFile → Filed → Filed
+copied file m = record {
+  sender = Some file.system;
+  date = m.date;
+  to_name = m.to_name;
+  from_name = m.from_name;
+  subject = m.subject;
+  echo = exported file m.echo;
+}
+
+pub copied-key : (file : LinkFile) (m : Filed) → key_of (copied file m) ≡ key_of m
+unfolding key_of copied exported
+copied-key file m = with_id (msgid_of m.echo.kept)
+  where
+    with_id : (o : Option (List ℕ)) → key_with (copied file m) o ≡ key_with m o
+    with_id None = refl
+    with_id (Some id) = refl
+
+pub copied-tag : (file : LinkFile) (m : Filed) → (copied file m).echo.tag ≡ m.echo.tag
+unfolding copied exported
+copied-tag file m = refl
+
+pub copied-content : (file : LinkFile) (m : Filed) → content_of (copied file m) ≡ content_of m
+unfolding copied exported
+copied-content file m = refl
+
+module _ (laws : Laws) (file : LinkFile) where
+  pub copied-seen : (m : Filed) (n : NetNode) → Among n (copied file m).echo.seen → Among n (m.echo.seen ++ map net_node_of (file.system ∷ links_of file m.echo.tag))
+  unfolding copied exported
+  copied-seen m n h = laws.set_only n (m.echo.seen ++ map net_node_of (file.system ∷ links_of file m.echo.tag)) h
+
+  pub seen-copied : (m : Filed) (n : NetNode) → Among n (m.echo.seen ++ map net_node_of (file.system ∷ links_of file m.echo.tag)) → Among n (copied file m).echo.seen
+  unfolding copied exported
+  seen-copied m n h = laws.set_all n (m.echo.seen ++ map net_node_of (file.system ∷ links_of file m.echo.tag)) h
+
+  module _ (fits : IsFile file) where
+    received-copy : (address : Address) (m : Filed) → IsEcho m.echo →
+        (is_none (text_refusal (copy_to file address m).text) ≡ true) × (received file.system (copy_to file address m) ≡ copied file m)
+    unfolding copy_to received copied
+    received-copy address m echo =
+        let read = laws.read_back (exported file m.echo) (laws.exported_text file m.echo fits echo) in
+        let with_echo : EchoText → Filed = λ e. record {
+          sender = Some file.system;
+          date = m.date;
+          to_name = m.to_name;
+          from_name = m.from_name;
+          subject = m.subject;
+          echo = e;
+        } in
+        (ap (λ (o : Option TextFault). is_none o) read.0, ap with_echo read.1)
+
+    abbrev echomail : Message → Bool
+    echomail packed = is_none (text_refusal packed.text)
+
+    all_copied : (address : Address) (ms : List Filed) → ((m : Filed) → Among m ms → IsEcho m.echo) →
+        map (received file.system) (filter echomail (map (copy_to file address) ms)) ≡ map (copied file) ms
+    all_copied address [] valid = refl
+    all_copied address (m ∷ ms) valid =
+        let (read, same) = received-copy address m (valid m (inl refl)) in
+        let later = all_copied address ms (λ n i. valid n (inr i)) in
+        ap (λ (qs : List Message). map (received file.system) qs) (filter-yes echomail (copy_to file address m) (map (copy_to file address) ms) read)
+        ∙ (let q = same in let l = later in cc)
+
+    pub copies-are : (stamp : Stamp) (waiting : List Filed) (address : Address) → ((m : Filed) → Among m waiting → IsEcho m.echo) →
+        copies (packet_to file stamp waiting address) ≡ map (copied file) (filter (goes_to file address) waiting)
+    unfolding packet_to header_to
+    copies-are stamp waiting address valid =
+        all_copied address (filter (goes_to file address) waiting) (λ m i. valid m (Among-filter_from (goes_to file address) m waiting i).0)
+
+  pub packet-destination : (stamp : Stamp) (waiting : List Filed) (address : Address) → destination (packet_to file stamp waiting address) ≡ address
+  unfolding packet_to header_to
+  packet-destination stamp waiting address = refl
+
+  -- who is a target
+  pub record Targeted (m : Filed) (a : Address) : Type 0 where
+    pub link : is_link file m.echo.tag a ≡ true
+    pub not_sender : m.sender ≢ Some a
+    pub not_seen : ¬ Among (net_node_of a) m.echo.seen
+
+  abbrev is_target : Filed → Address → Bool
+  is_target m link = not (is_sender m link) && not (is_seen_by m link)
+
+  not-true : (b : Bool) → not b ≡ true → b ≡ false
+  not-true true e = sym e
+  not-true false e = refl
+
+  false-not : (b : Bool) → b ≡ false → not b ≡ true
+  false-not b e = ap not e
+
+  -- by cases on the sender
+  sender-is : (o : Option Address) (a : Address) → unwrap_or (option_map (same_address a) o) false ≡ true → o ≡ Some a
+  sender-is None a e = absurd (not_both false e refl)
+  sender-is (Some b) a e = (let q = laws.addresses.sound a b e in cc)
+
+  is-sender : (o : Option Address) (a : Address) → o ≡ Some a → unwrap_or (option_map (same_address a) o) false ≡ true
+  is-sender o a e =
+      let P : Option Address → Type 0 = λ p. unwrap_or (option_map (same_address a) p) false ≡ true in
+      subst P (sym e) (laws.addresses.full a a refl)
+
+  false-or : (b : Bool) → ¬ (b ≡ true) → b ≡ false
+  false-or b n = elim (yes_or_no b) [ inl t ↦ absurd (n t) | inr f ↦ f ]
+
+  pub targets-from : (m : Filed) (a : Address) → Among a (targets file m) → Targeted m a
+  unfolding targets
+  targets-from m a h =
+      let (i, t) = Among-filter_from (is_target m) a (links_of file m.echo.tag) h in
+      let both = and-parts (not (is_sender m a)) (not (is_seen_by m a)) t in
+      record {
+        link = any-to (same_address a) a (links_of file m.echo.tag) i (laws.addresses.full a a refl);
+        not_sender = λ e. not_both (is_sender m a) (is-sender m.sender a e) (not-true (is_sender m a) both.0);
+        not_seen = λ j. not_both (is_seen_by m a)
+            (any-to (same_entry (net_node_of a)) (net_node_of a) m.echo.seen j (laws.entries.full (net_node_of a) (net_node_of a) refl))
+            (not-true (is_seen_by m a) both.1);
+      }
+
+  pub targets-to : (m : Filed) (a : Address) → Targeted m a → Among a (targets file m)
+  unfolding targets
+  targets-to m a t =
+      let (b, i, e) = any-from (same_address a) (links_of file m.echo.tag) t.link in
+      let same = laws.addresses.sound a b e in
+      Among-filter_to (is_target m) a (links_of file m.echo.tag) (Among-at a b (links_of file m.echo.tag) same i)
+      (and-from (not (is_sender m a)) (not (is_seen_by m a))
+      (false-not (is_sender m a) (false-or (is_sender m a) (λ s. t.not_sender (sender-is m.sender a s))))
+      (false-not (is_seen_by m a) (false-or (is_seen_by m a) (λ s.
+      let (n, j, q) = any-from (same_entry (net_node_of a)) m.echo.seen s in
+      t.not_seen (Among-at (net_node_of a) n m.echo.seen (laws.entries.sound (net_node_of a) n q) j)))))
+
+  pub goes-from : (m : Filed) (a : Address) → goes_to file a m ≡ true → Targeted m a
+  goes-from m a h =
+      let (b, i, e) = any-from (same_address a) (targets file m) h in
+      targets-from m a (Among-at a b (targets file m) (laws.addresses.sound a b e) i)
+
+  pub goes-to : (m : Filed) (a : Address) → Targeted m a → goes_to file a m ≡ true
+  goes-to m a t = any-to (same_address a) a (targets file m) (targets-to m a t) (laws.addresses.full a a refl)
+
+  among_flat : {X Y : Type 0} (g : X → List Y) (y : Y) (x : X) (xs : List X) → Among x xs → Among y (g x) → Among y (flat_map g xs)
+  among_flat g y x [] h i = absurd h
+  among_flat {X} {Y} g y x (z ∷ xs) h i =
+      elim h [
+        | inl e ↦ (let P : X → Type 0 = λ w. Among y (g w) in Among-append_left y (g z) (flat_map g xs) (subst P e i))
+        | inr t ↦ Among-append_right y (g z) (flat_map g xs) (among_flat g y x xs t i)
+      ]
+
+  -- a target of a message gets a packet
+  pub target-recipient : (waiting : List Filed) (m : Filed) (a : Address) → Among m waiting → Targeted m a → Among a (recipients file waiting)
+  unfolding recipients
+  target-recipient waiting m a h t =
+      laws.addresses_all a (flat_map (targets file) waiting) (among_flat (targets file) a m waiting h (targets-to m a t))
+
+  pub recipients-differ : (waiting : List Filed) → Different (recipients file waiting)
+  unfolding recipients
+  recipients-differ waiting = laws.addresses_once (flat_map (targets file) waiting)

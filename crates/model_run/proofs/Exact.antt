@@ -1,0 +1,165 @@
+-- Where each carrier's posting does no harm, the area is tidy: so an area is tidy, or some posting does harm.
+use Rattle.std.proofs.Common.{◌≡◌, ◌≢◌, ◌⊎◌, inl, inr, sym, subst, ap, ◌∙◌, ℕ, zero, suc, ◌<◌, arith, IsTrue, List, ◌∷◌, length, Some}
+use Rattle.std.specs.Prelude.{Bool, true}
+use Rattle.std.proofs.lemmas.Bool.{cases_eq}
+use Rattle.echo_addr.specs.declared.address.Address.{Address}
+use Rattle.echo_addr.specs.Address.{net_node_of}
+use Rattle.model_graph.specs.Walk.{Among, Connected, Reaches, Simple}
+use Rattle.model_graph.specs.Beyond.{Parted}
+use Rattle.model_graph.specs.Cycle.{Polygons}
+use Rattle.model_graph.proofs.Cycles.{Polygons-from_Parted}
+use Rattle.model_graph.proofs.Members.{Among-cases}
+use Rattle.echo_links.specs.Links.{LinkFile, has_area}
+use Rattle.echo_filed.specs.Filed.{Filed}
+use Rattle.model_run.specs.Event.{RunEvent}
+use Rattle.model_run.specs.Run.{nth, run_of}
+use Rattle.model_run.specs.Tidy.{Carries, lists}
+use Rattle.model_run.proofs.Lists.{none_some, not_both, nth-cases, some_same, yes_or_no}
+use Rattle.model_run.specs.Grave.{AllAreCarriers, AreTakenForOne, AreTwins, HaveOwnAddresses}
+use Rattle.model_run.specs.Harms.{Harm}
+use Rattle.model_run.proofs.Branches.{Touches, closed-by, no_way_around}
+use Rattle.model_run.proofs.Holders.{Holds, Unharmed, harm-or_none, spread}
+use Rattle.model_run.specs.LawsOfRuns.{LawsOfRuns}
+use Rattle.model_run.proofs.HarmLists.{among-nth, nth-index}
+use Rattle.model_run.specs.Postings.{ComesToRest, trial_posting}
+use Rattle.model_run.proofs.Places.{carrier-file, lister-carries}
+use Rattle.model_run.proofs.Spreads.{IsNear, Spread, answered, from_poster, no_kite, not_hidden, one_or_two, reached}
+
+module _ (files : List LinkFile) (known : LawsOfRuns files) (tag : List ℕ) (one_file : HaveOwnAddresses files) (all_known : AllAreCarriers files tag)
+    (moves : ℕ → List RunEvent) (rests : (i : ℕ) → ComesToRest files tag i (moves i)) where
+  abbrev pub linked : Address → Address → Bool
+  linked = lists files tag
+
+  -- the posting of each carrier does no harm
+  abbrev pub NoneHarms : Type 0
+  NoneHarms = (i : ℕ) (file : LinkFile) (is : nth i files ≡ Some file) (area : has_area file tag ≡ true) →
+      Unharmed files known tag one_file all_known i file is area (moves i) (rests i).only_moves
+
+  module _ (none : NoneHarms) where
+    abbrev Held : (i : ℕ) (file : LinkFile) → nth i files ≡ Some file → has_area file tag ≡ true → Address → Filed → Type 0
+    Held i file is area x m = Holds files known tag one_file all_known i file is area (moves i) (rests i).only_moves x m
+
+    spread-at : (i : ℕ) (file : LinkFile) (is : nth i files ≡ Some file) (area : has_area file tag ≡ true) →
+        Spread linked (Carries files tag) file.system (Held i file is area)
+    spread-at i file is area = spread files known tag one_file all_known i file is area (moves i) (rests i).only_moves (none i file is area)
+
+    -- what is true of the poster wherever a posting spreads is true of each carrier
+    of_carriers : (P : Address → Type 0) →
+        ((f : Address) (Has : Address → Filed → Type 0) → Spread linked (Carries files tag) f Has → P f) → (a : Address) → Carries files tag a → P a
+    of_carriers P each a carries =
+        let (file, h, e, area) = carrier-file files tag a carries in
+        let (i, is) = among-nth file files h in
+        subst P e (each file.system (Held i file is area) (spread-at i file is area))
+
+    pub both : (a b : Address) → IsTrue (linked a b) → IsTrue (linked b a)
+    both a b link =
+        of_carriers (λ f. (IsTrue (linked f b) → IsTrue (linked b f))) (λ f Has spreads. answered linked (Carries files tag) f Has spreads b (all_known a b link))
+        a (lister-carries files tag a b link) link
+
+    pub connected : Connected (Carries files tag) linked
+    connected a b at_a at_b =
+        of_carriers (λ f. Reaches linked f b) (λ f Has spreads. reached linked (Carries files tag) f Has spreads b at_b) a at_a
+
+    -- a poster is sent nothing of its own
+    pub no_self : (a : Address) → ¬ IsTrue (linked a a)
+    no_self a link =
+        of_carriers (λ f. (IsTrue (linked f f) → ⊥))
+        (λ f Has spreads to_self. none_some (sym spreads.own ∙ from_poster linked (Carries files tag) f Has spreads f spreads.posting to_self spreads.at_poster))
+        a (lister-carries files tag a a link) link
+
+    -- nobody is hidden in a SEEN-BY from the first
+    open_to : (a y : Address) → Carries files tag a → Carries files tag y → IsNear linked a y → y ≢ a → IsTrue (linked a y)
+    open_to a y at_a at_y near other =
+        of_carriers (λ f. (IsNear linked f y → y ≢ f → IsTrue (linked f y)))
+        (λ f Has spreads near_f other_f. not_hidden linked (Carries files tag) f Has spreads y near_f at_y other_f) a at_a near other
+
+    pub not_taken : (a b : Address) → AreTwins files tag a b → ¬ AreTakenForOne files tag a b
+    not_taken a b twins taken =
+        elim taken [
+          | inl neither ↦ neither.0 (open_to a b twins.first twins.second (inl (sym twins.one_net_node)) (λ e. twins.two (sym e)))
+          | inr third ↦ elim third [
+            | inl alone ↦ alone.not_the_other (open_to alone.by b (lister-carries files tag alone.by a alone.lists_it) twins.second
+                (inr (a, alone.lists_it, sym twins.one_net_node)) (λ e. alone.another.1 (sym e)))
+            | inr alone ↦ alone.not_the_other (open_to alone.by a (lister-carries files tag alone.by b alone.lists_it) twins.first
+                (inr (b, alone.lists_it, twins.one_net_node)) (λ e. alone.another.1 (sym e)))
+          ]
+        ]
+
+    module _ (apart : (a b : Address) → Carries files tag a → Carries files tag b → net_node_of a ≡ net_node_of b → a ≡ b) where
+      simple : Simple linked
+      simple = record { both_ways = both; no_self = no_self }
+
+      -- of the links of b those that c touches are linked with no others
+      closed : (b c : Address) → IsTrue (linked b c) → (x y : Address) → IsTrue (linked b x) → IsTrue (linked b y) → IsTrue (linked x y) →
+          Touches linked c x → Touches linked c y
+      closed b c to_c = closed-by linked b c (no_self b) (λ x y near to_y side other unlinked.
+          of_carriers (λ f. (IsTrue (linked f b) → IsTrue (linked f x) → y ≢ f → ¬ IsTrue (linked f y) → b ≡ x))
+          (λ f Has spreads f_b f_x other_f none_f. no_kite linked (Carries files tag) f Has spreads all_known apart b x y f_b f_x to_y side other_f none_f)
+          c (all_known b c to_c) (both b c to_c) near other unlinked)
+
+      parted : Parted linked
+      parted b a c to_a to_c other unlinked way walk =
+          elim (Among-cases one_or_two b (a ∷ way)) [
+            | inl through ↦ through
+            | inr around ↦ absurd (of_carriers (λ f. (IsTrue (linked f a) → IsTrue (linked f c) →
+                ((x y : Address) → IsTrue (linked f x) → IsTrue (linked f y) → IsTrue (linked x y) → Touches linked a x → Touches linked a y) →
+                ¬ Among f (a ∷ way) → ⊥))
+                (λ f Has spreads f_a f_c closes avoids.
+                no_way_around linked (Carries files tag) f Has spreads simple all_known apart a closes c f_a f_c
+                (λ touches. elim touches [ inl e ↦ other (sym e) | inr t ↦ unlinked t ]) way walk avoids)
+                b (lister-carries files tag b a to_a) to_a to_c (closed b a to_a) around)
+          ]
+
+      pub polygons : Polygons linked
+      polygons = Polygons-from_Parted one_or_two linked simple parted
+
+  -- the posting of some system does harm
+  abbrev pub Shown : Type 0
+  Shown = (i : ℕ) × Harm (run_of files (trial_posting i tag ∷ moves i)) tag
+
+  -- a posting does harm, or none does
+  abbrev Harmless : ℕ → Type 0
+  Harmless i = (file : LinkFile) (is : nth i files ≡ Some file) (area : has_area file tag ≡ true) →
+      Unharmed files known tag one_file all_known i file is area (moves i) (rests i).only_moves
+
+  harms-or_not : (i : ℕ) → Shown ⊎ Harmless i
+  harms-or_not i =
+      elim (nth-cases i files) [
+        | inl none ↦ inr (λ file is area. absurd (none_some (sym none ∙ is)))
+        | inr found ↦ elim (yes_or_no (has_area found.0 tag)) [
+          | inr f ↦ inr (λ file is area. absurd (not_both (has_area file tag) area (ap (λ (g : LinkFile). has_area g tag) (some_same (sym is ∙ found.1)) ∙ f)))
+          | inl t ↦ elim (harm-or_none files known tag one_file all_known i found.0 found.1 t (moves i) (rests i).only_moves (rests i).settled) [
+            | inl harm ↦ inl (i, harm)
+            | inr unharmed ↦ inr (λ file is area.
+                let P : LinkFile → Type 0 = λ g. (is_g : nth i files ≡ Some g) (area_g : has_area g tag ≡ true) →
+                Unharmed files known tag one_file all_known i g is_g area_g (moves i) (rests i).only_moves in
+                subst P (some_same (sym found.1 ∙ is)) (λ is_g area_g. record {
+                  settled = unharmed.settled;
+                  sent_once = unharmed.sent_once;
+                  never_own = unharmed.never_own;
+                  filed = unharmed.filed;
+                }) is area)
+          ]
+        ]
+      ]
+
+  pub harms-or_none : Shown ⊎ NoneHarms
+  harms-or_none =
+      elim (below (length files)) [
+        | inl harmed ↦ inl harmed
+        | inr none ↦ inr (λ i file is area. none i (nth-index i file files is) file is area)
+      ]
+    where
+      below : (n : ℕ) → Shown ⊎ ((i : ℕ) → i < n → Harmless i)
+      below zero = inr (λ i less. absurd (omega arith))
+      below (suc n) =
+          elim (below n) [
+            | inl harmed ↦ inl harmed
+            | inr none ↦ elim (harms-or_not n) [
+              | inl harmed ↦ inl harmed
+              | inr last ↦ inr (λ i less. elim (cases_eq i n) [
+                | inl same ↦ subst Harmless (sym same) last
+                | inr other ↦ none i (omega arith)
+              ])
+            ]
+          ]

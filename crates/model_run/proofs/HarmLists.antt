@@ -1,0 +1,64 @@
+-- Items of lists by their index, and what stands behind some of them.
+use Rattle.std.proofs.Common.{◌≡◌, inl, inr, refl, sym, subst, ap, ◌∙◌, ℕ, zero, suc, ◌+◌, ◌<◌, arith, List, [], ◌∷◌, ◌++◌, length, map, Some, None}
+use Rattle.std.specs.Prelude.{Bool, false, not}
+use Rattle.std.specs.List.{position_or_len}
+use Rattle.std.proofs.lemmas.Bool.{cond-true, cond-false}
+use Rattle.model_graph.specs.Walk.{Among}
+use Rattle.model_run.specs.Run.{nth, change}
+use Rattle.model_run.proofs.Lists.{none_some, some_same, yes_or_no}
+
+-- an item stands at each index below the length, and at no other
+pub nth-below : {X : Type 0} (i : ℕ) (xs : List X) → i < length xs → (x : X) × (nth i xs ≡ Some x)
+nth-below i [] less = absurd (omega arith)
+nth-below zero (x ∷ xs) less = (x, refl)
+nth-below (suc i) (x ∷ xs) less = nth-below i xs (omega arith)
+
+pub nth-index : {X : Type 0} (i : ℕ) (x : X) (xs : List X) → nth i xs ≡ Some x → i < length xs
+nth-index {X} i x [] h = absurd (none_some h)
+nth-index zero x (y ∷ xs) h = omega arith
+nth-index (suc i) x (y ∷ xs) h = (let less = nth-index i x xs h in omega arith)
+
+pub among-nth : {X : Type 0} (x : X) (xs : List X) → Among x xs → (i : ℕ) × (nth i xs ≡ Some x)
+among-nth x [] h = absurd h
+among-nth {X} x (y ∷ xs) h =
+    elim h [
+      | inl e ↦ (0, ap (λ (z : X). Some z) (sym e))
+      | inr t ↦ (let (i, at) = among-nth x xs t in (suc i, at))
+    ]
+
+pub nth-middle : {X : Type 0} (x : X) (before after : List X) → nth (length before) (before ++ x ∷ after) ≡ Some x
+nth-middle x [] after = refl
+nth-middle x (y ∷ before) after = nth-middle x before after
+
+pub nth-map : {X Y : Type 0} (g : X → Y) (i : ℕ) (x : X) (xs : List X) → nth i xs ≡ Some x → nth i (map g xs) ≡ Some (g x)
+nth-map {X} g i x [] h = absurd (none_some h)
+nth-map {X} {Y} g zero x (y ∷ xs) h = (let e = some_same h in ap (λ (z : X). Some (g z)) e)
+nth-map g (suc i) x (y ∷ xs) h = nth-map g i x xs h
+
+pub nth-map_from : {X Y : Type 0} (g : X → Y) (i : ℕ) (y : Y) (xs : List X) → nth i (map g xs) ≡ Some y → (x : X) × (nth i xs ≡ Some x) × (y ≡ g x)
+nth-map_from {X} {Y} g i y [] h = absurd (none_some h)
+nth-map_from g zero y (x ∷ xs) h = (x, refl, sym (some_same h))
+nth-map_from g (suc i) y (x ∷ xs) h = nth-map_from g i y xs h
+
+-- where the item at an index is changed, it is
+pub nth-changed : {X : Type 0} (i : ℕ) (f : X → X) (x : X) (xs : List X) → nth i xs ≡ Some x → nth i (change i f xs) ≡ Some (f x)
+nth-changed {X} i f x [] h = absurd (none_some h)
+nth-changed {X} zero f x (y ∷ xs) h = ap (λ (z : X). Some (f z)) (some_same h)
+nth-changed (suc i) f x (y ∷ xs) h = nth-changed i f x xs h
+
+-- where none passes
+pub none_passes : {X : Type 0} (p : X → Bool) (xs : List X) → nth (position_or_len p xs) xs ≡ None → (x : X) → Among x xs → p x ≡ false
+none_passes p [] h x i = absurd i
+none_passes {X} p (y ∷ xs) h x i =
+    let P : ℕ → Type 0 = λ k. nth k (y ∷ xs) ≡ None in
+    elim (yes_or_no (p y)) [
+      | inl t ↦ (let here : position_or_len p (y ∷ xs) ≡ 0 = cond-false (not (p y)) (1 + position_or_len p xs) 0 (ap not t) in
+          absurd (none_some (sym (subst P here h))))
+      | inr f ↦ (let there : position_or_len p (y ∷ xs) ≡ suc (position_or_len p xs) = (
+          let first : position_or_len p (y ∷ xs) ≡ 1 + position_or_len p xs = cond-true (not (p y)) (1 + position_or_len p xs) 0 (ap not f) in
+          omega (arith, first)) in
+          elim i [ inl e ↦ ap p e ∙ f | inr t ↦ none_passes p xs (subst P there h) x t ])
+    ]
+
+same_list : {X : Type 0} (x : X) (xs ys : List X) → xs ≡ ys → Among x xs → Among x ys
+same_list {X} x xs ys e h = let P : List X → Type 0 = λ zs. Among x zs in subst P e h

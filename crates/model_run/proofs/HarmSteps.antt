@@ -1,0 +1,99 @@
+-- Runs event by event: what all events keep, the files that stay, and what a toss may file.
+use Rattle.std.proofs.Common.{◌≡◌, ◌⊎◌, inl, inr, refl, sym, subst, ap, ◌∙◌, ℕ, List, [], ◌∷◌, ◌++◌, take, map, Option, Some, None}
+use Rattle.std.specs.List.{AllByRecursion}
+use Rattle.std.proofs.lemmas.List.{append_assoc, append-nil}
+use Rattle.echo_addr.specs.declared.address.Address.{Address}
+use Rattle.model_graph.specs.Walk.{Among}
+use Rattle.model_graph.proofs.Members.{Among-append_cases}
+use Rattle.echo_packet.specs.Message.{Message}
+use Rattle.model_steps.specs.declared.outcome.Outcome.{Outcome}
+use Rattle.model_steps.specs.declared.outcome.Outcome.TheVariants as outcome
+use Rattle.model_steps.specs.declared.packet.Packet.{Packet}
+use Rattle.echo_links.specs.Links.{LinkFile}
+use Rattle.echo_filed.specs.Filed.{Filed}
+use Rattle.model_steps.specs.Tossing.{received, sender_of, toss_outcome, tossing, where_filed}
+use Rattle.model_run.specs.Event.{RunEvent}
+use Rattle.model_run.specs.Run.{System, Run, after_event, after_events, filing, run_of, start, taking, tossing_at}
+use Rattle.model_run.proofs.Lists.{none_some, some_same}
+use Rattle.model_run.proofs.WholeRuns.{event-files, files_of, filing-file, fresh-files}
+
+-- events one after another
+pub after-append : (events later : List RunEvent) (run : Run) → after_events run (events ++ later) ≡ after_events (after_events run events) later
+after-append [] later run = refl
+after-append (event ∷ events) later run = after-append events later (after_event run event)
+
+-- what holds after one event more
+pub after_one_more : (P : Run → Type 0) (files : List LinkFile) (events : List RunEvent) (event : RunEvent) →
+    P (after_event (run_of files events) event) → P (run_of files (events ++ event ∷ []))
+after_one_more P files events event h = subst P (sym (after-append events (event ∷ []) (start files))) h
+
+-- what each of these events keeps, all of them keep
+pub along : (Allowed : RunEvent → Type 0) (P : List RunEvent → Type 0) →
+    ((earlier : List RunEvent) (event : RunEvent) → Allowed event → P earlier → P (earlier ++ event ∷ [])) →
+    (earlier events : List RunEvent) → AllByRecursion Allowed events → P earlier → P (earlier ++ events)
+along Allowed P keeps earlier [] allowed h = subst P (sym (append-nil earlier)) h
+along Allowed P keeps earlier (event ∷ later) allowed h =
+    subst P (append_assoc earlier (event ∷ []) later)
+    (along Allowed P keeps (earlier ++ event ∷ []) later allowed.1 (keeps earlier event allowed.0 h))
+
+pub all-append : (Allowed : RunEvent → Type 0) (xs ys : List RunEvent) → AllByRecursion Allowed xs → AllByRecursion Allowed ys → AllByRecursion Allowed (xs ++ ys)
+all-append Allowed [] ys h k = k
+all-append Allowed (x ∷ xs) ys h k = (h.0, all-append Allowed xs ys h.1 k)
+
+-- the files stay
+pub tossing-file : (sender : Address) (ms : List Message) (s : System) → (tossing_at sender ms s).file ≡ s.file
+tossing-file sender [] s = refl
+tossing-file sender (q ∷ ms) s =
+    tossing-file sender ms (filing s (tossing s.file s.base sender q)) ∙ filing-file s (tossing s.file s.base sender q)
+
+pub taking-file : (p : Packet) (n : ℕ) (s : System) → (taking p n s).file ≡ s.file
+taking-file p n s = tossing-file (sender_of s.file p.header) (take n p.messages) s
+
+pub run-files : (files : List LinkFile) (events : List RunEvent) → map (λ (s : System). s.file) (run_of files events).systems ≡ files
+run-files files events = stay events (start files) ∙ fresh-files files
+  where
+    stay : (events : List RunEvent) (run : Run) → files_of (after_events run events) ≡ files_of run
+    stay [] run = refl
+    stay (event ∷ later) run = stay later (after_event run event) ∙ event-files run event
+
+-- what a posting or a toss files, if it files something
+pub filing-new : (s : System) (o : Option Filed) (m : Filed) → Among m (filing s o).history → Among m s.history ⊎ (o ≡ Some m)
+filing-new s None m h = inl h
+filing-new s (Some n) m h =
+    elim (Among-append_cases m s.history (n ∷ []) h) [
+      | inl old ↦ inl old
+      | inr new ↦ elim new [ inl e ↦ inr (ap (λ (x : Filed). Some x) (sym e)) | inr t ↦ absurd t ]
+    ]
+
+where_filed-is : (o : Outcome) (m n : Filed) → where_filed o m ≡ Some n → n ≡ m
+where_filed-is outcome.Filed m n h = sym (some_same h)
+where_filed-is outcome.Known m n h = absurd (none_some h)
+where_filed-is outcome.NoArea m n h = absurd (none_some h)
+where_filed-is outcome.NotLinked m n h = absurd (none_some h)
+where_filed-is outcome.NotEcho m n h = absurd (none_some h)
+where_filed-is outcome.BadTag m n h = absurd (none_some h)
+
+pub tossing-is : (file : LinkFile) (base : List Filed) (sender : Address) (q : Message) (m : Filed) → tossing file base sender q ≡ Some m → m ≡ received sender q
+unfolding tossing
+tossing-is file base sender q m h = where_filed-is (toss_outcome file base sender q) (received sender q) m h
+
+-- a message that messages of one sender brought: filed when it was not known
+pub record Brought (s : System) (sender : Address) (ms : List Message) (m : Filed) : Type 0 where
+  pub packed : Message
+  pub of : Among packed ms
+  pub base : List Filed
+  pub filed : tossing s.file base sender packed ≡ Some m
+
+pub tossing-new : (sender : Address) (ms : List Message) (s : System) (m : Filed) → Among m (tossing_at sender ms s).history →
+    Among m s.history ⊎ Brought s sender ms m
+tossing-new sender [] s m h = inl h
+tossing-new sender (q ∷ ms) s m h =
+    let next = filing s (tossing s.file s.base sender q) in
+    elim (tossing-new sender ms next m h) [
+      | inr later ↦ (let P : LinkFile → Type 0 = λ file. tossing file later.base sender later.packed ≡ Some m in
+          inr (record { packed = later.packed; of = inr later.of; base = later.base; filed = subst P (filing-file s (tossing s.file s.base sender q)) later.filed }))
+      | inl now ↦ elim (filing-new s (tossing s.file s.base sender q) m now) [
+        | inl old ↦ inl old
+        | inr e ↦ inr (record { packed = q; of = inl refl; base = s.base; filed = e })
+      ]
+    ]

@@ -1,0 +1,96 @@
+-- What can be read off a run tells that a posting does no harm.
+use Rattle.std.proofs.Common.{◌≡◌, inl, inr, refl, sym, subst, ap, ◌∙◌, ℕ, ◌≤◌, arith, List, [], ◌∷◌, Some}
+use Rattle.std.specs.Prelude.{Bool, true, bytes_eq, if◌then◌else◌, slice_get}
+use Rattle.std.specs.List.{AllByRecursion}
+use Rattle.std.proofs.lemmas.List.Sums.{sum_by-cons}
+use Rattle.std.specs.Cmp.Lexicographic.{bytes_decides}
+use Rattle.model_graph.specs.Walk.{Among}
+use Rattle.echo_text.specs.Ids.{id_of}
+use Rattle.echo_links.specs.Links.{LinkFile, has_area}
+use Rattle.echo_filed.specs.declared.key.Key.{Key}
+use Rattle.echo_filed.specs.declared.key.Key.TheVariants.{ById}
+use Rattle.echo_filed.specs.Filed.{Filed, key_of}
+use Rattle.model_run.specs.Event.{RunEvent}
+use Rattle.model_run.specs.Run.{Run, System, filing, fresh, nth, run_of}
+use Rattle.model_run.specs.Orderly.{IsPosting, Settled, count, sent_count}
+use Rattle.model_run.specs.World.{area_count}
+use Rattle.model_run.proofs.TosserLaws.{the_laws}
+use Rattle.model_run.proofs.Lists.{nth-among, yes_or_no}
+use Rattle.model_run.specs.Grave.{AllAreCarriers, HaveOwnAddresses}
+use Rattle.model_run.specs.LawsOfRuns.{LawsOfRuns}
+use Rattle.model_run.specs.Postings.{IsMove, trial_draft, trial_moment, trial_posting}
+use Rattle.model_run.proofs.HarmCounts.{has-one}
+use Rattle.model_run.proofs.Holders.{Unharmed, posting-own}
+use Rattle.model_run.proofs.HarmLists.{among-nth}
+use Rattle.model_run.proofs.OneMessage.{only-posted, post_of, post_of-tag, posted-at, poster}
+use Rattle.model_run.proofs.Tags.{upper-same}
+
+some_of-area : (tag : List ℕ) (ms : List Filed) → 1 ≤ area_count tag ms → (m : Filed) × Among m ms × (m.echo.tag ≡ tag)
+some_of-area tag [] h = absurd (omega (arith, h))
+some_of-area tag (m ∷ ms) h =
+    let weight : Bool → ℕ = λ b. if b then 1 else 0 in
+    elim (yes_or_no (bytes_eq m.echo.tag tag)) [
+      | inl t ↦ (m, inl refl, (bytes_decides m.echo.tag tag).0 t)
+      | inr f ↦ (let none = ap weight f in
+          let (n, i, e) = some_of-area tag ms (omega (arith, h, none, sum_by-cons (λ (x : Filed). weight (bytes_eq x.echo.tag tag)) m ms)) in
+          (n, inr i, e))
+    ]
+
+module _ (files : List LinkFile) (known : LawsOfRuns files) (tag : List ℕ) (i : ℕ) (file : LinkFile) (is : nth i files ≡ Some file) (area : has_area file tag ≡ true) where
+  -- the posting goes by its id
+  pub posting-key : key_of (post_of file tag) ≡ ById tag (id_of file.system 1)
+  posting-key =
+      let fits = known.fit file (nth-among i file files is) in
+      the_laws.posted_key file tag trial_draft 1 trial_moment fits ∙ ap (λ (t : List ℕ). ById t (id_of file.system 1)) (upper-same file tag fits area)
+
+  module _ (more : List RunEvent) (moves : AllByRecursion IsMove more) where
+    abbrev run : Run
+    run = run_of files (trial_posting i tag ∷ more)
+
+    -- it is the first that its poster has
+    pub record First : Type 0 where
+      pub system : System
+      pub at : nth i run.systems ≡ Some system
+      pub file_is : system.file ≡ file
+      pub first : slice_get system.base 0 ≡ Some (post_of file tag)
+
+    pub posting-first : First
+    posting-first =
+        let (z, there, later) = known.stays (trial_posting i tag ∷ []) more i (filing (fresh file) (Some (post_of file tag))) (posted-at files known tag i file is area) in
+        let whole = (only-posted files known tag i file is area more moves).whole i z there in
+        record {
+          system = z;
+          at = there;
+          file_is = later.file;
+          first = ap (λ (ms : List Filed). slice_get ms 0) (whole ∙ later.filed.1);
+        }
+
+    pub posting-is : IsPosting tag (post_of file tag)
+    posting-is = record { own = posting-own file tag; area = post_of-tag files known tag i file is area }
+
+    module _ (one_file : HaveOwnAddresses files) (all_known : AllAreCarriers files tag) (key : Key) (named : key_of (post_of file tag) ≡ key) where
+      filed-some : ((s : System) → Among s run.systems → (m : Filed) → Among m s.history → key_of m ≡ key) →
+          (j : ℕ) (s : System) → nth j run.systems ≡ Some s → 1 ≤ area_count tag s.base → 1 ≤ count key s.base
+      filed-some only j s at some =
+          let (m, h, _) = some_of-area tag s.base some in
+          let whole = (only-posted files known tag i file is area more moves).whole j s at in
+          let P : List Filed → Type 0 = λ ms. Among m ms in
+          has-one key s.base m h (only s (nth-among j s run.systems at) m (subst P whole h))
+
+      pub unharmed-by : Settled run tag → ((s : System) → Among s run.systems → (m : Filed) → Among m s.history → key_of m ≡ key) →
+          ((s : System) → nth i run.systems ≡ Some s → sent_count s.file.system key run.packets ≡ 0) →
+          ((j : ℕ) (s : System) → nth j run.systems ≡ Some s → has_area s.file tag ≡ true → sent_count s.file.system key run.packets ≤ 1) →
+          ((j : ℕ) (s : System) → nth j run.systems ≡ Some s → has_area s.file tag ≡ true → 1 ≤ area_count tag s.base) →
+          Unharmed files known tag one_file all_known i file is area more moves
+      unharmed-by settled only never once filed =
+          let P : Key → Type 0 = λ k. (s : System) → Among s run.systems → has_area s.file tag ≡ true → sent_count s.file.system k run.packets ≤ 1 in
+          let Q : Key → Type 0 = λ k. (s : System) → Among s run.systems → has_area s.file tag ≡ true → 1 ≤ count k s.base in
+          let R : Key → Type 0 = λ k. sent_count file.system k run.packets ≡ 0 in
+          let S : LinkFile → Type 0 = λ g. sent_count g.system key run.packets ≡ 0 in
+          let (z, at, same, _) = poster files known tag i file is area more in
+          record {
+            settled = settled;
+            sent_once = subst P (sym named) (λ s h has. let (j, there) = among-nth s run.systems h in once j s there has);
+            never_own = subst R (sym named) (subst S same (never z at));
+            filed = subst Q (sym named) (λ s h has. let (j, there) = among-nth s run.systems h in filed-some only j s there (filed j s there has));
+          }

@@ -1,0 +1,124 @@
+-- What a system has it keeps, whatever happens.
+use Rattle.std.proofs.Common.{◌≡◌, inl, inr, refl, sym, subst, ap, ◌∙◌, ℕ, arith, List, [], ◌∷◌, ◌++◌, length, Option, Some, None}
+use Rattle.std.specs.Prelude.{Bool, true, false, take, if◌then◌else◌}
+use Rattle.std.proofs.lemmas.List.{append_assoc, append-nil}
+use Rattle.echo_addr.specs.declared.address.Address.{Address}
+use Rattle.echo_packet.specs.Message.{Message}
+use Rattle.model_steps.specs.declared.packet.Packet.{Packet}
+use Rattle.model_steps.specs.declared.stamp.Stamp.{Stamp}
+use Rattle.echo_links.specs.Links.{LinkFile}
+use Rattle.echo_filed.specs.Filed.{Filed}
+use Rattle.model_steps.specs.Posting.{posting}
+use Rattle.model_steps.specs.Scanning.{scanned}
+use Rattle.model_steps.specs.Stamps.{is_stamp}
+use Rattle.model_steps.specs.Tossing.{sender_of, tossing}
+use Rattle.model_run.specs.Event.{RunEvent, Posting, Scanning, Delivery, PartDelivery, Purging}
+use Rattle.model_run.specs.Run.{IsLater, System, Run, after_event, after_events, change, coming, delivery, filing, nth, part_delivery, posting_at, purging_at, receiver, run_of, scanning, scanning_at, start, taking, tossing_at}
+use Rattle.model_run.proofs.TosserPremises.{Laws}
+use Rattle.model_run.proofs.Lists.{nth-among, nth-changed}
+use Rattle.model_run.proofs.Bases.{Kept, Kept-cursor, Kept-length}
+use Rattle.model_run.proofs.EachSystem.{AllKept, event-kept, run-kept}
+
+pub later-itself : (s : System) → IsLater s s
+later-itself s = record { file = refl; cursor = omega arith; filed = ([], sym (append-nil s.history)) }
+
+pub later-still : (s t z : System) → IsLater s t → IsLater t z → IsLater s z
+later-still s t z a b = record {
+  file = b.file ∙ a.file;
+  cursor = omega (arith, a.cursor, b.cursor);
+  filed = (
+    a.filed.0 ++ b.filed.0,
+    b.filed.1 ∙ (ap (λ (ms : List Filed). ms ++ b.filed.0) a.filed.1 ∙ append_assoc s.history a.filed.0 b.filed.0),
+  );
+}
+
+pub filing-later : (s : System) (o : Option Filed) → IsLater s (filing s o)
+filing-later s None = later-itself s
+filing-later s (Some m) = record { file = refl; cursor = omega arith; filed = (m ∷ [], refl) }
+
+pub scanning-later : (s : System) → Kept s.cursor s.base s.history → IsLater s (scanning_at s)
+scanning-later s kept = record {
+  file = refl;
+  cursor = omega (arith, Kept-cursor s.cursor s.base s.history kept, Kept-length s.cursor s.base s.history kept);
+  filed = ([], sym (append-nil s.history));
+}
+
+pub purging-later : (s : System) → IsLater s (purging_at s)
+purging-later s = record { file = refl; cursor = omega arith; filed = ([], sym (append-nil s.history)) }
+
+tossing-later : (sender : Address) (ms : List Message) (s : System) → IsLater s (tossing_at sender ms s)
+tossing-later sender [] s = later-itself s
+tossing-later sender (q ∷ ms) s =
+    let next = filing s (tossing s.file s.base sender q) in
+    later-still s next (tossing_at sender ms next) (filing-later s (tossing s.file s.base sender q)) (tossing-later sender ms next)
+
+taking-later : (p : Packet) (messages : ℕ) (s : System) → IsLater s (taking p messages s)
+taking-later p messages s = tossing-later (sender_of s.file p.header) (take messages p.messages) s
+
+-- what became of the system of an index
+abbrev Lasts : List System → List System → Type 0
+Lasts before after = (i : ℕ) (s : System) → nth i before ≡ Some s → (z : System) × (nth i after ≡ Some z) × IsLater s z
+
+same-last : (ss : List System) → Lasts ss ss
+same-last ss i s e = (s, e, later-itself s)
+
+change-last : (i : ℕ) (f : System → System) (ss : List System) → ((s : System) → nth i ss ≡ Some s → IsLater s (f s)) → Lasts ss (change i f ss)
+change-last i f ss later j s e =
+    elim (nth-changed i j f s ss e) [
+      | inl other ↦ (s, other.1, later-itself s)
+      | inr here ↦ (let P : ℕ → Type 0 = λ k. nth k ss ≡ Some s in (f s, here.1, later s (subst P (sym here.0) e)))
+    ]
+
+scanning-last : (run : Run) → AllKept run → (i : ℕ) (stamp : Stamp) (found : Option System) → Lasts run.systems (scanning run i stamp found).systems
+scanning-last run kept i stamp None = same-last run.systems
+scanning-last run kept i stamp (Some s) = scans (is_stamp stamp)
+  where
+    to_end : (t : System) → nth i run.systems ≡ Some t → IsLater t (scanning_at t)
+    to_end t e = scanning-later t (kept t (nth-among i t run.systems e))
+
+    scans : (b : Bool) → Lasts run.systems (if b then record {
+      systems = change i scanning_at run.systems;
+      packets = run.packets ++ scanned s.file s.base s.cursor stamp;
+      delivered = run.delivered;
+    } else run).systems
+    scans true = change-last i scanning_at run.systems to_end
+    scans false = same-last run.systems
+
+delivery-last : (run : Run) (k : ℕ) (found : Option Packet) → Lasts run.systems (delivery run k found).systems
+delivery-last run k None = same-last run.systems
+delivery-last run k (Some p) = came (nth (receiver run p) run.systems)
+  where
+    came : (o : Option System) → Lasts run.systems (coming run k p o).systems
+    came None = same-last run.systems
+    came (Some s) = change-last (receiver run p) (taking p (length p.messages)) run.systems (λ t _. taking-later p (length p.messages) t)
+
+part-last : (run : Run) (messages : ℕ) (found : Option Packet) → Lasts run.systems (part_delivery run messages found).systems
+part-last run messages None = same-last run.systems
+part-last run messages (Some p) = change-last (receiver run p) (taking p messages) run.systems (λ t _. taking-later p messages t)
+
+event-last : (run : Run) → AllKept run → (event : RunEvent) → Lasts run.systems (after_event run event).systems
+event-last run kept (Posting i tag draft serial stamp) =
+    change-last i (posting_at tag draft serial stamp) run.systems (λ s _. filing-later s (posting s.file s.base tag draft serial stamp))
+event-last run kept (Scanning i stamp) = scanning-last run kept i stamp (nth i run.systems)
+event-last run kept (Delivery k) = delivery-last run k (nth k run.packets)
+event-last run kept (PartDelivery k messages) = part-last run messages (nth k run.packets)
+event-last run kept (Purging i) =
+    change-last i purging_at run.systems (λ s _. purging-later s)
+
+pub events-last : Laws → (events : List RunEvent) (run : Run) → AllKept run → Lasts run.systems (after_events run events).systems
+events-last laws [] run kept = same-last run.systems
+events-last laws (event ∷ events) run kept = λ i s e.
+    let next = after_event run event in
+    let (t, at, first) = event-last run kept event i s e in
+    let (z, there, rest) = events-last laws events next (event-kept laws run event kept) i t at in
+    (z, there, later-still s t z first rest)
+
+-- events one after another
+pub after-append : (events later : List RunEvent) (run : Run) → after_events run (events ++ later) ≡ after_events (after_events run events) later
+after-append [] later run = refl
+after-append (event ∷ events) later run = after-append events later (after_event run event)
+
+pub run-last : Laws → (files : List LinkFile) (events later : List RunEvent) → Lasts (run_of files events).systems (run_of files (events ++ later)).systems
+run-last laws files events later =
+    let P : Run → Type 0 = λ run. Lasts (run_of files events).systems run.systems in
+    subst P (sym (after-append events later (start files))) (events-last laws later (run_of files events) (run-kept laws files events))

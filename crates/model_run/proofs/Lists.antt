@@ -1,0 +1,264 @@
+-- Items of lists by their index, and members of lists that were made of others.
+use Rattle.std.proofs.Common.{◌≡◌, ◌≢◌, ◌⊎◌, inl, inr, refl, sym, subst, ap, ◌∙◌, ℕ, zero, suc, ◌+◌, arith, List, [], ◌∷◌, ◌++◌, length, take, drop, map, Option, Some, None}
+use Rattle.std.specs.Prelude.{Bool, true, false, filter, not, ◌&&◌, ◌||◌, ◌==◌, if◌then◌else◌}
+use Rattle.std.specs.List.{list_any, position_or_len}
+use Rattle.std.proofs.lemmas.Bool.{cond-true, cond-false, eq-eqb}
+use Rattle.model_graph.specs.Walk.{Among, Different}
+use Rattle.model_run.specs.Run.{nth, change, with_index}
+
+-- a test says yes or no
+pub yes_or_no : (b : Bool) → (b ≡ true) ⊎ (b ≡ false)
+yes_or_no true = inl refl
+yes_or_no false = inr refl
+
+pub not_both : (b : Bool) → b ≡ true → b ≡ false → ⊥
+not_both b t f = absurd (bad (sym t ∙ f))
+  where
+    bad : (let yea : Bool = true in yea ≡ false) → ⊥
+    bad e = cc
+
+-- of an option that is there, and of one that is not
+pub some_same : {X : Type 0} {x y : X} → Some x ≡ Some y → x ≡ y
+some_same e = cc
+
+pub none_some : {X : Type 0} {x : X} → (let none : Option X = None in none ≡ Some x) → ⊥
+none_some e = cc
+
+-- a list around one of its items
+pub record Split {X : Type 0} (i : ℕ) (x : X) (xs : List X) : Type 0 where
+  pub before : List X
+  pub after : List X
+  pub whole : xs ≡ before ++ x ∷ after
+  pub index : length before ≡ i
+
+pub nth-cases : {X : Type 0} (i : ℕ) (xs : List X) → (nth i xs ≡ None) ⊎ ((x : X) × (nth i xs ≡ Some x))
+nth-cases i [] = inl refl
+nth-cases zero (x ∷ xs) = inr (x, refl)
+nth-cases (suc i) (x ∷ xs) = nth-cases i xs
+
+pub change-none : {X : Type 0} (i : ℕ) (f : X → X) (xs : List X) → nth i xs ≡ None → change i f xs ≡ xs
+change-none i f [] h = refl
+change-none zero f (x ∷ xs) h = absurd (some_none h)
+  where
+    some_none : {X : Type 0} {x : X} → Some x ≡ None → ⊥
+    some_none e = cc
+change-none (suc i) f (x ∷ xs) h = ap (λ (ys : List _). x ∷ ys) (change-none i f xs h)
+
+pub nth-split : {X : Type 0} (i : ℕ) (x : X) (xs : List X) → nth i xs ≡ Some x → Split i x xs
+nth-split {X} i x [] h = absurd (none_some h)
+nth-split zero x (y ∷ xs) h = record {
+  before = [];
+  after = xs;
+  whole = cc;
+  index = refl;
+}
+nth-split (suc i) x (y ∷ xs) h =
+    let s = nth-split i x xs h in
+    record {
+      before = y ∷ s.before;
+      after = s.after;
+      whole = (let e = s.whole in cc);
+      index = (let e = s.index in omega arith);
+    }
+
+pub nth-among : {X : Type 0} (i : ℕ) (x : X) (xs : List X) → nth i xs ≡ Some x → Among x xs
+nth-among {X} i x [] h = absurd (none_some h)
+nth-among zero x (y ∷ xs) h = inl (let e : Some y ≡ Some x = h in cc)
+nth-among (suc i) x (y ∷ xs) h = inr (nth-among i x xs h)
+
+-- where an item is changed: what is at an index was there before, or is the changed item
+pub nth-change : {X : Type 0} (i j : ℕ) (f : X → X) (z : X) (xs : List X) → nth j (change i f xs) ≡ Some z →
+    ((i ≢ j) × (nth j xs ≡ Some z)) ⊎ ((i ≡ j) × ((x : X) × (nth j xs ≡ Some x) × (z ≡ f x)))
+nth-change {X} i j f z [] h = absurd (none_some h)
+nth-change zero zero f z (x ∷ xs) h = inr (refl, (x, refl, (let e : Some (f x) ≡ Some z = h in cc)))
+nth-change zero (suc j) f z (x ∷ xs) h = inl (λ e. absurd (omega (arith, e)), h)
+nth-change (suc i) zero f z (x ∷ xs) h = inl (λ e. absurd (omega (arith, e)), h)
+nth-change (suc i) (suc j) f z (x ∷ xs) h =
+    elim (nth-change i j f z xs h) [
+      | inl k ↦ inl (λ e. k.0 (omega (arith, e)), k.1)
+      | inr k ↦ inr (ap suc k.0, k.1)
+    ]
+
+-- and what was there is there yet, or changed
+pub nth-changed : {X : Type 0} (i j : ℕ) (f : X → X) (x : X) (xs : List X) → nth j xs ≡ Some x →
+    ((i ≢ j) × (nth j (change i f xs) ≡ Some x)) ⊎ ((i ≡ j) × (nth j (change i f xs) ≡ Some (f x)))
+nth-changed {X} i j f x [] h = absurd (none_some h)
+nth-changed {X} zero zero f x (y ∷ xs) h = inr (refl, (let same : y ≡ x = (let e : Some y ≡ Some x = h in cc) in ap (λ (z : X). Some (f z)) same))
+nth-changed zero (suc j) f x (y ∷ xs) h = inl (λ e. absurd (omega (arith, e)), h)
+nth-changed (suc i) zero f x (y ∷ xs) h = inl (λ e. absurd (omega (arith, e)), h)
+nth-changed (suc i) (suc j) f x (y ∷ xs) h =
+    elim (nth-changed i j f x xs h) [
+      | inl k ↦ inl (λ e. k.0 (omega (arith, e)), k.1)
+      | inr k ↦ inr (ap suc k.0, k.1)
+    ]
+
+-- the first item that passes does
+pub first_passes : {X : Type 0} (p : X → Bool) (x : X) (xs : List X) → nth (position_or_len p xs) xs ≡ Some x → p x ≡ true
+first_passes {X} p x [] h = absurd (none_some h)
+first_passes {X} p x (y ∷ xs) h =
+    elim (yes_or_no (p y)) [
+      | inl t ↦ (let here : position_or_len p (y ∷ xs) ≡ 0 = cond-false (not (p y)) (1 + position_or_len p xs) 0 (negated-true t) in
+          let P : ℕ → Type 0 = λ i. nth i (y ∷ xs) ≡ Some x in
+          let e : Some y ≡ Some x = subst P here h in
+          let same : y ≡ x = cc in
+          ap p (sym same) ∙ t)
+      | inr f ↦ (let first : position_or_len p (y ∷ xs) ≡ 1 + position_or_len p xs = cond-true (not (p y)) (1 + position_or_len p xs) 0 (negated-false f) in
+          let there : position_or_len p (y ∷ xs) ≡ suc (position_or_len p xs) = omega (arith, first) in
+          let P : ℕ → Type 0 = λ i. nth i (y ∷ xs) ≡ Some x in
+          first_passes p x xs (subst P there h))
+    ]
+  where
+    negated-true : {b : Bool} → b ≡ true → not b ≡ false
+    negated-true e = ap not e
+
+    negated-false : {b : Bool} → b ≡ false → not b ≡ true
+    negated-false e = ap not e
+
+pub Among-map_to : {X Y : Type 0} (g : X → Y) (x : X) (xs : List X) → Among x xs → Among (g x) (map g xs)
+Among-map_to g x [] h = h
+Among-map_to g x (y ∷ xs) h = elim h [ inl e ↦ inl (ap g e) | inr t ↦ inr (Among-map_to g x xs t) ]
+
+pub Among-map_from : {X Y : Type 0} (g : X → Y) (y : Y) (xs : List X) → Among y (map g xs) → (x : X) × Among x xs × (y ≡ g x)
+Among-map_from g y [] h = absurd h
+Among-map_from g y (x ∷ xs) h =
+    elim h [
+      | inl e ↦ (x, inl refl, e)
+      | inr t ↦ (let (z, i, e) = Among-map_from g y xs t in (z, inr i, e))
+    ]
+
+pub filter-yes : {X : Type 0} (p : X → Bool) (x : X) (xs : List X) → p x ≡ true → filter p (x ∷ xs) ≡ x ∷ filter p xs
+filter-yes p x xs t = cond-true (p x) (x ∷ filter p xs) (filter p xs) t
+
+pub filter-no : {X : Type 0} (p : X → Bool) (x : X) (xs : List X) → p x ≡ false → filter p (x ∷ xs) ≡ filter p xs
+filter-no p x xs f = cond-false (p x) (x ∷ filter p xs) (filter p xs) f
+
+-- none passes, or all do
+pub filter-none : {X : Type 0} (p : X → Bool) (xs : List X) → ((x : X) → Among x xs → p x ≡ false) → filter p xs ≡ []
+filter-none p [] h = refl
+filter-none p (x ∷ xs) h = filter-no p x xs (h x (inl refl)) ∙ filter-none p xs (λ y i. h y (inr i))
+
+pub filter-all : {X : Type 0} (p : X → Bool) (xs : List X) → ((x : X) → Among x xs → p x ≡ true) → filter p xs ≡ xs
+filter-all p [] h = refl
+filter-all p (x ∷ xs) h =
+    filter-yes p x xs (h x (inl refl)) ∙ ap (λ (ys : List _). x ∷ ys) (filter-all p xs (λ y i. h y (inr i)))
+
+same_list : {X : Type 0} (x : X) (xs ys : List X) → xs ≡ ys → Among x xs → Among x ys
+same_list {X} x xs ys e h = let P : List X → Type 0 = λ zs. Among x zs in subst P e h
+
+pub Among-filter_from : {X : Type 0} (p : X → Bool) (x : X) (xs : List X) → Among x (filter p xs) → Among x xs × (p x ≡ true)
+Among-filter_from p x [] h = absurd h
+Among-filter_from p x (y ∷ xs) h =
+    elim (yes_or_no (p y)) [
+      | inl t ↦ elim (same_list x (filter p (y ∷ xs)) (y ∷ filter p xs) (filter-yes p y xs t) h) [
+        | inl e ↦ (inl e, ap p e ∙ t)
+        | inr i ↦ (let (k, q) = Among-filter_from p x xs i in (inr k, q))
+      ]
+      | inr f ↦ (let (k, q) = Among-filter_from p x xs (same_list x (filter p (y ∷ xs)) (filter p xs) (filter-no p y xs f) h) in (inr k, q))
+    ]
+
+pub Among-filter_to : {X : Type 0} (p : X → Bool) (x : X) (xs : List X) → Among x xs → p x ≡ true → Among x (filter p xs)
+Among-filter_to p x [] h q = h
+Among-filter_to p x (y ∷ xs) h q =
+    elim (yes_or_no (p y)) [
+      | inl t ↦ same_list x (y ∷ filter p xs) (filter p (y ∷ xs)) (sym (filter-yes p y xs t))
+          (elim h [ inl e ↦ inl e | inr i ↦ inr (Among-filter_to p x xs i q) ])
+      | inr f ↦ elim h [
+        | inl e ↦ absurd (not_both (p y) (ap p (sym e) ∙ q) f)
+        | inr i ↦ same_list x (filter p xs) (filter p (y ∷ xs)) (sym (filter-no p y xs f)) (Among-filter_to p x xs i q)
+      ]
+    ]
+
+pub Among-take : {X : Type 0} (n : ℕ) (x : X) (xs : List X) → Among x (take n xs) → Among x xs
+Among-take n x [] h = same_list x (take n []) [] (take_nil n) h
+  where
+    take_nil : {X : Type 0} (n : ℕ) → take {A = X} n [] ≡ []
+    take_nil zero = refl
+    take_nil (suc n) = refl
+Among-take zero x (y ∷ xs) h = absurd h
+Among-take (suc n) x (y ∷ xs) h = elim h [ inl e ↦ inl e | inr t ↦ inr (Among-take n x xs t) ]
+
+pub Among-drop : {X : Type 0} (n : ℕ) (x : X) (xs : List X) → Among x (drop n xs) → Among x xs
+Among-drop zero x xs h = h
+Among-drop (suc n) x [] h = h
+Among-drop (suc n) x (y ∷ xs) h = inr (Among-drop n x xs h)
+
+pub or-left : (a b : Bool) → a ≡ true → a || b ≡ true
+or-left true b e = refl
+or-left false b e = absurd (not_both false e refl)
+
+pub or-right : (a b : Bool) → b ≡ true → a || b ≡ true
+or-right true b e = refl
+or-right false b e = e
+
+pub or-rest : (a b : Bool) → a ≡ false → a || b ≡ true → b ≡ true
+or-rest true b f e = absurd (not_both true refl f)
+or-rest false b f e = e
+
+pub and-parts : (a b : Bool) → a && b ≡ true → (a ≡ true) × (b ≡ true)
+and-parts true b e = (refl, e)
+and-parts false b e = absurd (not_both false e refl)
+
+pub and-from : (a b : Bool) → a ≡ true → b ≡ true → a && b ≡ true
+and-from true b e q = q
+and-from false b e q = absurd (not_both false e refl)
+
+pub any-to : {X : Type 0} (p : X → Bool) (x : X) (xs : List X) → Among x xs → p x ≡ true → list_any p xs ≡ true
+any-to p x [] h q = absurd h
+any-to p x (y ∷ xs) h q =
+    elim h [
+      | inl e ↦ or-left (p y) (list_any p xs) (ap p (sym e) ∙ q)
+      | inr t ↦ or-right (p y) (list_any p xs) (any-to p x xs t q)
+    ]
+
+pub any-from : {X : Type 0} (p : X → Bool) (xs : List X) → list_any p xs ≡ true → (x : X) × Among x xs × (p x ≡ true)
+any-from p [] h = absurd (not_both false h refl)
+any-from p (y ∷ xs) h =
+    elim (yes_or_no (p y)) [
+      | inl t ↦ (y, inl refl, t)
+      | inr f ↦ (let (x, i, q) = any-from p xs (or-rest (p y) (list_any p xs) f h) in (x, inr i, q))
+    ]
+
+pub Among-change : {X : Type 0} (i : ℕ) (f : X → X) (z : X) (xs : List X) → Among z (change i f xs) →
+    Among z xs ⊎ ((x : X) × Among x xs × (z ≡ f x))
+Among-change i f z [] h = absurd h
+Among-change zero f z (x ∷ xs) h = elim h [ inl e ↦ inr (x, inl refl, e) | inr t ↦ inl (inr t) ]
+Among-change (suc i) f z (x ∷ xs) h =
+    elim h [
+      | inl e ↦ inl (inl e)
+      | inr t ↦ elim (Among-change i f z xs t) [ inl k ↦ inl (inr k) | inr k ↦ (let (y, j, e) = k in inr (y, inr j, e)) ]
+    ]
+
+pub map-change : {X Y : Type 0} (g : X → Y) (i : ℕ) (f : X → X) → ((x : X) → g (f x) ≡ g x) → (xs : List X) → map g (change i f xs) ≡ map g xs
+map-change g i f same [] = refl
+map-change g zero f same (x ∷ xs) = (let e = same x in cc)
+map-change g (suc i) f same (x ∷ xs) = (let e = map-change g i f same xs in cc)
+
+-- an index that was put to others is the new one or one of them
+pub with_index-from : (k j : ℕ) (ks : List ℕ) → Among j (with_index k ks) → (j ≡ k) ⊎ Among j ks
+with_index-from k j ks h = cases (list_any (λ d. d == k) ks) h
+  where
+    cases : (b : Bool) → Among j (if b then ks else k ∷ ks) → (j ≡ k) ⊎ Among j ks
+    cases true h = inr h
+    cases false h = h
+
+-- and all stay different
+pub with_index-different : (k : ℕ) (ks : List ℕ) → Different ks → Different (with_index k ks)
+with_index-different k ks d = cases (list_any (λ d. d == k) ks) refl
+  where
+    cases : (b : Bool) → list_any (λ d. d == k) ks ≡ b → Different (if b then ks else k ∷ ks)
+    cases true e = d
+    cases false e = (λ h. not_both (list_any (λ d. d == k) ks) (any-to (λ d. d == k) k ks h (eq-eqb k k refl)) e, d)
+
+pub nth-append : {X : Type 0} (i : ℕ) (x : X) (xs ys : List X) → nth i xs ≡ Some x → nth i (xs ++ ys) ≡ Some x
+nth-append {X} i x [] ys h = absurd (none_some h)
+nth-append zero x (z ∷ xs) ys h = h
+nth-append (suc i) x (z ∷ xs) ys h = nth-append i x xs ys h
+
+-- what holds of each item, and of what it is changed to, holds of each item after the change
+pub change-all : {X : Type 0} (P : X → Type 0) (i : ℕ) (f : X → X) → ((x : X) → P x → P (f x)) → (xs : List X) →
+    ((x : X) → Among x xs → P x) → (z : X) → Among z (change i f xs) → P z
+change-all P i f keeps xs all z h =
+    elim (Among-change i f z xs h) [
+      | inl old ↦ all z old
+      | inr new ↦ (let (x, j, e) = new in subst P (sym e) (keeps x (all x j)))
+    ]

@@ -1,0 +1,203 @@
+-- What goes to an address that no file has never comes.
+use Rattle.std.proofs.Common.{◌≡◌, ◌≢◌, ◌⊎◌, inl, inr, refl, sym, subst, ap, ◌∙◌, ℕ, zero, suc, ◌==◌, IsTrue, List, [], ◌∷◌, ◌++◌, length, Option, Some, None}
+use Rattle.std.specs.Prelude.{Bool, true, false, if◌then◌else◌}
+use Rattle.std.specs.List.{AllByRecursion, list_any}
+use Rattle.model_graph.specs.Walk.{Among}
+use Rattle.model_graph.proofs.Members.{Among-append_left}
+use Rattle.model_steps.specs.declared.packet.Packet.{Packet}
+use Rattle.model_steps.specs.declared.stamp.Stamp.{Stamp}
+use Rattle.echo_links.specs.Links.{LinkFile, has_area, is_link, same_address}
+use Rattle.echo_links.proofs.Addresses.{same_address_decides}
+use Rattle.echo_filed.specs.Filed.{Filed, key_of}
+use Rattle.model_steps.specs.Scanning.{scanned}
+use Rattle.model_steps.specs.Stamps.{is_stamp}
+use Rattle.model_run.specs.Event.{RunEvent, Posting, Scanning, Delivery, PartDelivery, Purging}
+use Rattle.model_run.specs.Run.{Run, System, after_event, change, changing, coming, delivery, destination, nth, part_delivery, posting_at, purging_at, receiver, run_of, scanning, scanning_at, taking, with_index}
+use Rattle.model_run.specs.Orderly.{Orderly, Settled, copies, tag_of}
+use Rattle.model_run.proofs.Lists.{Among-map_to, any-to, first_passes, none_some, nth-among, some_same}
+use Rattle.model_run.specs.Grave.{ListsNobody}
+use Rattle.model_run.specs.Harms.{NeverRests}
+use Rattle.model_run.specs.LawsOfRuns.{LawsOfRuns}
+use Rattle.model_run.specs.Postings.{post_and_scan, trial_moment, trial_posting}
+use Rattle.model_run.proofs.HarmCounts.{sent-packet}
+use Rattle.model_run.proofs.Entries.{link-among}
+use Rattle.model_run.proofs.Holders.{key-tag}
+use Rattle.model_run.proofs.OneMessage.{post_of, post_of-tag}
+use Rattle.model_run.proofs.PostAndScan.{sent-to_link}
+use Rattle.model_run.proofs.Places.{lists-file}
+use Rattle.model_run.proofs.Tags.{link-area}
+use Rattle.model_run.proofs.HarmLists.{among-nth, nth-middle}
+use Rattle.model_run.proofs.Resting.{file-there}
+use Rattle.model_run.proofs.HarmSteps.{after_one_more, along, run-files}
+
+-- where no file has the area, there is nothing that could go wrong
+pub nobody-orderly : (files : List LinkFile) (tag : List ℕ) → ¬ IsTrue (list_any (λ (file : LinkFile). has_area file tag) files) →
+    (events : List RunEvent) → Orderly (run_of files events) tag
+nobody-orderly files tag none events = record {
+  filed_once = λ s h has. absurd (has_none s h has);
+  sent_once = λ s h has. absurd (has_none s h has);
+  never_own = λ s h has. absurd (has_none s h has);
+  all_came = λ settled f at_f posting filed is s h has. absurd (has_none s h has);
+}
+  where
+    has_none : (s : System) → Among s (run_of files events).systems → has_area s.file tag ≡ true → ⊥
+    has_none s h has =
+        let P : List LinkFile → Type 0 = λ fs. Among s.file fs in
+        none (any-to (λ (file : LinkFile). has_area file tag) s.file files
+        (subst P (run-files files events) (Among-map_to (λ (z : System). z.file) s (run_of files events).systems h)) has)
+
+-- a packet stays under its index
+nth-more : {X : Type 0} (i : ℕ) (x : X) (xs ys : List X) → nth i xs ≡ Some x → nth i (xs ++ ys) ≡ Some x
+nth-more {X} i x [] ys h = absurd (none_some h)
+nth-more zero x (z ∷ xs) ys h = h
+nth-more (suc i) x (z ∷ xs) ys h = nth-more i x xs ys h
+
+with_index-from : (k j : ℕ) (ks : List ℕ) → Among j (with_index k ks) → (j ≡ k) ⊎ Among j ks
+with_index-from k j ks h = cases (list_any (λ d. d == k) ks) h
+  where
+    cases : (b : Bool) → Among j (if b then ks else k ∷ ks) → (j ≡ k) ⊎ Among j ks
+    cases true h = inr h
+    cases false h = h
+
+-- a packet that is for the address of a file
+record ToFile (files : List LinkFile) (run : Run) (k : ℕ) : Type 0 where
+  packet : Packet
+  at : nth k run.packets ≡ Some packet
+  file : LinkFile
+  there : Among file files
+  address : file.system ≡ destination packet
+
+module _ (files : List LinkFile) (p : Packet) where
+  -- the packet is there, and each packet that was delivered was for the address of a file
+  record Kept (run : Run) : Type 0 where
+    packet : Among p run.packets
+    delivered : (k : ℕ) → Among k run.delivered → ToFile files run k
+
+  -- more packets, and no delivery
+  kept-more : (run : Run) (systems : List System) (more : List Packet) → Kept run →
+      Kept (record { systems = systems; packets = run.packets ++ more; delivered = run.delivered })
+  kept-more run systems more kept = record {
+    packet = Among-append_left p run.packets more kept.packet;
+    delivered = λ k h. (let to = kept.delivered k h in
+        record { packet = to.packet; at = nth-more k to.packet run.packets more to.at; file = to.file; there = to.there; address = to.address });
+  }
+
+  kept-changed : (run : Run) (i : ℕ) (f : System → System) → Kept run → Kept (changing run i f)
+  kept-changed run i f kept = record {
+    packet = kept.packet;
+    delivered = λ k h. (let to = kept.delivered k h in record { packet = to.packet; at = to.at; file = to.file; there = to.there; address = to.address });
+  }
+
+  kept-scanned : (run : Run) (i : ℕ) (stamp : Stamp) (o : Option System) → Kept run → Kept (scanning run i stamp o)
+  kept-scanned run i stamp None kept = kept
+  kept-scanned run i stamp (Some s) kept = scans (is_stamp stamp)
+    where
+      scans : (b : Bool) → Kept (if b then record {
+        systems = change i scanning_at run.systems;
+        packets = run.packets ++ scanned s.file s.base s.cursor stamp;
+        delivered = run.delivered;
+      } else run)
+      scans false = kept
+      scans true = kept-more run (change i scanning_at run.systems) (scanned s.file s.base s.cursor stamp) kept
+
+  kept-part : (run : Run) (n : ℕ) (o : Option Packet) → Kept run → Kept (part_delivery run n o)
+  kept-part run n None kept = kept
+  kept-part run n (Some q) kept = kept-changed run (receiver run q) (taking q n) kept
+
+  module _ (known : LawsOfRuns files) (events : List RunEvent) (kept : Kept (run_of files events)) where
+    abbrev now : Run
+    now = run_of files events
+
+    kept-comes : (k : ℕ) (q : Packet) → nth k now.packets ≡ Some q → (o : Option System) → nth (receiver now q) now.systems ≡ o → Kept (coming now k q o)
+    kept-comes k q at None e = kept
+    kept-comes k q at (Some s) e = record {
+      packet = kept.packet;
+      delivered = λ j h. elim (with_index-from k j now.delivered h) [
+        | inr old ↦ (let to = kept.delivered j old in record { packet = to.packet; at = to.at; file = to.file; there = to.there; address = to.address })
+        | inl new ↦ (let P : ℕ → Type 0 = λ l. nth l now.packets ≡ Some q in
+            record {
+              packet = q;
+              at = subst P (sym new) at;
+              file = s.file;
+              there = file-there files known events s (nth-among (receiver now q) s now.systems e);
+              address = (same_address_decides s.file.system (destination q)).0 (first_passes (λ t. same_address t.file.system (destination q)) s now.systems e);
+            })
+      ];
+    }
+
+    kept-delivered : (k : ℕ) (o : Option Packet) → nth k now.packets ≡ o → Kept (delivery now k o)
+    kept-delivered k None e = kept
+    kept-delivered k (Some q) e = kept-comes k q e (nth (receiver now q) now.systems) refl
+
+  kept-event : LawsOfRuns files → (events : List RunEvent) (event : RunEvent) → Kept (run_of files events) → Kept (after_event (run_of files events) event)
+  kept-event known events (Posting i tag draft serial stamp) kept = kept-changed (run_of files events) i (posting_at tag draft serial stamp) kept
+  kept-event known events (Purging i) kept = kept-changed (run_of files events) i purging_at kept
+  kept-event known events (PartDelivery k n) kept = kept-part (run_of files events) n (nth k (run_of files events).packets) kept
+  kept-event known events (Scanning i stamp) kept = kept-scanned (run_of files events) i stamp (nth i (run_of files events).systems) kept
+  kept-event known events (Delivery k) kept = kept-delivered known events kept k (nth k (run_of files events).packets) refl
+
+  kept-all : LawsOfRuns files → (events more : List RunEvent) → Kept (run_of files events) → Kept (run_of files (events ++ more))
+  kept-all known events more kept =
+      along (λ event. Unit {0}) (λ es. Kept (run_of files es)) (λ earlier event _ before. after_one_more Kept files earlier event (kept-event known earlier event before))
+      events more (any_events more) kept
+    where
+      any_events : (es : List RunEvent) → AllByRecursion (λ (event : RunEvent). Unit {0}) es
+      any_events [] = tt
+      any_events (e ∷ es) = (tt, any_events es)
+
+split-at : {X : Type 0} (x : X) (xs : List X) → Among x xs → (before : List X) × (after : List X) × (xs ≡ before ++ x ∷ after)
+split-at x [] h = absurd h
+split-at {X} x (y ∷ xs) h =
+    elim h [
+      | inl e ↦ ([], xs, ap (λ (z : X). z ∷ xs) (sym e))
+      | inr t ↦ (let (before, after, e) = split-at x xs t in (y ∷ before, after, ap (λ (zs : List X). y ∷ zs) e))
+    ]
+
+scanning-delivered : (run : Run) (i : ℕ) (stamp : Stamp) (o : Option System) → (scanning run i stamp o).delivered ≡ run.delivered
+scanning-delivered run i stamp None = refl
+scanning-delivered run i stamp (Some s) = scans (is_stamp stamp)
+  where
+    scans : (b : Bool) → (if b then record {
+      systems = change i scanning_at run.systems;
+      packets = run.packets ++ scanned s.file s.base s.cursor stamp;
+      delivered = run.delivered;
+    } else run).delivered ≡ run.delivered
+    scans true = refl
+    scans false = refl
+
+-- once a packet is there that holds a message of the area and is for the address of no file, the area never settles
+never_settles : (files : List LinkFile) (known : LawsOfRuns files) (tag : List ℕ) (events : List RunEvent) (q : Packet) → Kept files q (run_of files events) →
+    ((file : LinkFile) → Among file files → file.system ≢ destination q) → (m : Filed) → Among m (copies q) → m.echo.tag ≡ tag →
+    (more : List RunEvent) → ¬ Settled (run_of files (events ++ more)) tag
+never_settles files known tag events q first nobody m in_copies of_area more settled =
+    let run = run_of files (events ++ more) in
+    let kept = kept-all files q known events more first in
+    let (before, after, whole) = split-at q run.packets kept.packet in
+    let came = kept.delivered (length before) (settled.delivered before q after whole m in_copies of_area) in
+    let P : List Packet → Type 0 = λ ps. nth (length before) ps ≡ Some q in
+    let same : came.packet ≡ q = some_same (sym came.at ∙ subst P (sym whole) (nth-middle q before after)) in
+    nobody came.file came.there (came.address ∙ ap (λ (x : Packet). destination x) same)
+
+-- a system that lists an address of no file posts and scans: that packet never comes
+pub nobody-never_rests : (files : List LinkFile) → LawsOfRuns files → (tag : List ℕ) → ListsNobody files tag → NeverRests files tag
+nobody-never_rests files known tag lost =
+    let (file, h, _, link) = lists-file files tag lost.system lost.link lost.listed in
+    let (i, is) = among-nth file files h in
+    lost_by i file is link
+  where
+    lost_by : (i : ℕ) (file : LinkFile) → nth i files ≡ Some file → is_link file tag lost.link ≡ true → NeverRests files tag
+    lost_by i file is link =
+        let area = link-area file tag lost.link (link-among file tag lost.link link) in
+        let one = run_of files (trial_posting i tag ∷ []) in
+        let p = post_of file tag in
+        let (q, at, to, copied) = sent-packet lost.link (key_of p) (run_of files (post_and_scan i tag)).packets
+        (sent-to_link files known tag i file is area lost.link link) in
+        let (m, in_copies, key) = copied in
+        let of_area : m.echo.tag ≡ tag = sym (key-tag m) ∙ (ap tag_of key ∙ (key-tag p ∙ post_of-tag files known tag i file is area)) in
+        let first : Kept files q (run_of files (post_and_scan i tag)) = record {
+          packet = at;
+          delivered = λ k there. absurd (subst (λ (ks : List ℕ). Among k ks) (scanning-delivered one i trial_moment (nth i one.systems)) there);
+        } in (
+          post_and_scan i tag,
+          never_settles files known tag (post_and_scan i tag) q first (λ f l same. lost.nobody f l (same ∙ to)) m in_copies of_area,
+        )

@@ -1,0 +1,269 @@
+-- One system posts, and from then on messages only move: who has the message, and from whom.
+use Rattle.std.proofs.Common.{◌≡◌, ◌⊎◌, inl, inr, refl, sym, subst, ap, ◌∙◌, ℕ, ◌≤◌, ◌==◌, arith, List, [], ◌∷◌, ◌++◌, length, take, map, Option, Some, None}
+use Rattle.std.specs.Prelude.{Bool, true, false, is_none, if◌then◌else◌}
+use Rattle.std.specs.List.{AllByRecursion}
+use Rattle.std.proofs.lemmas.Bool.{cond-false, eqb-true}
+use Rattle.echo_addr.specs.declared.address.Address.{Address}
+use Rattle.model_graph.specs.Walk.{Among}
+use Rattle.model_graph.proofs.Members.{Among-append_left}
+use Rattle.echo_packet.specs.Message.{Message}
+use Rattle.model_steps.specs.declared.packet.Packet.{Packet}
+use Rattle.model_steps.specs.declared.stamp.Stamp.{Stamp}
+use Rattle.model_steps.specs.declared.fault.PostFault.{PostFault}
+use Rattle.echo_links.specs.Links.{LinkFile, has_area, is_link, same_address, upper}
+use Rattle.echo_links.proofs.Addresses.{same_address_decides}
+use Rattle.echo_filed.specs.Written.{echo_of}
+use Rattle.echo_filed.specs.Filed.{Filed}
+use Rattle.model_steps.specs.Posting.{posted, posting}
+use Rattle.model_steps.specs.Tossing.{received, sender_of, tossing, zone_of}
+use Rattle.model_steps.specs.Scanning.{scanned}
+use Rattle.model_steps.specs.Stamps.{is_stamp}
+use Rattle.model_run.specs.Event.{RunEvent, Posting, Scanning, Delivery, PartDelivery, Purging}
+use Rattle.model_run.specs.Run.{System, Run, after_event, change, coming, delivery, destination, filing, fresh, nth, posting_at, receiver, run_of, scanning, scanning_at, taking, tossing_at}
+use Rattle.model_run.specs.Orderly.{copies, origin}
+use Rattle.model_run.proofs.Lists.{Among-take, first_passes, nth-among, nth-change, some_same, yes_or_no}
+use Rattle.model_run.specs.Postings.{IsMove, trial_moment, trial_posting, trial_draft}
+use Rattle.model_run.proofs.HarmLists.{nth-changed, nth-map, nth-map_from}
+use Rattle.model_run.specs.LawsOfRuns.{LawsOfRuns}
+use Rattle.model_run.proofs.Resting.{copy-there, export-of, file-there}
+use Rattle.model_run.proofs.HarmSteps.{along, after_one_more, taking-file, tossing-is, tossing-new}
+use Rattle.model_run.proofs.Tags.{upper-same}
+
+-- the message that it files
+abbrev pub post_of : LinkFile → List ℕ → Filed
+post_of file tag = posted file tag trial_draft 1 trial_moment
+
+post-accepted : (files : List LinkFile) → LawsOfRuns files → (file : LinkFile) (tag : List ℕ) → has_area file (upper tag) ≡ true →
+    posting file [] tag trial_draft 1 trial_moment ≡ Some (post_of file tag)
+unfolding posting
+post-accepted files known file tag h =
+    ap (λ (o : Option PostFault). if is_none o then Some (post_of file tag) else None) (known.allowed file [] tag trial_draft 1 trial_moment (record {
+      area = h;
+      zero = refl;
+      short = refl;
+      moment = refl;
+      reply = refl;
+      new = refl;
+    }))
+
+received-tag : (a : Address) (q : Message) → (received a q).echo.tag ≡ (echo_of q.text).tag
+unfolding received
+received-tag a q = refl
+
+-- a message that came to the system in a packet of the run, from a link of the area
+pub record Arrived (run : Run) (s : System) (m : Filed) : Type 0 where
+  pub packet : Packet
+  pub there : Among packet run.packets
+  pub to : destination packet ≡ s.file.system
+  pub copy : Among m (copies packet)
+  pub link : is_link s.file m.echo.tag (origin packet) ≡ true
+
+-- only this message is filed, by its poster and where it came in a packet, and nothing was purged
+pub record OnlyPosted (i : ℕ) (p : Filed) (run : Run) : Type 0 where
+  pub from : (j : ℕ) (s : System) → nth j run.systems ≡ Some s → (m : Filed) → Among m s.history → ((j ≡ i) × (m ≡ p)) ⊎ Arrived run s m
+  pub whole : (j : ℕ) (s : System) → nth j run.systems ≡ Some s → s.base ≡ s.history
+
+filing-whole : (s : System) (o : Option Filed) → s.base ≡ s.history → (filing s o).base ≡ (filing s o).history
+filing-whole s None e = e
+filing-whole s (Some m) e = ap (λ (ms : List Filed). ms ++ m ∷ []) e
+
+tossing-whole : (sender : Address) (ms : List Message) (s : System) → s.base ≡ s.history → (tossing_at sender ms s).base ≡ (tossing_at sender ms s).history
+tossing-whole sender [] s e = e
+tossing-whole sender (q ∷ ms) s e =
+    tossing-whole sender ms (filing s (tossing s.file s.base sender q)) (filing-whole s (tossing s.file s.base sender q) e)
+
+-- a packet with more of the run, or a system that stays the one of its file
+arrived-more : (run after : Run) (s z : System) (m : Filed) → ((q : Packet) → Among q run.packets → Among q after.packets) → z.file ≡ s.file →
+    Arrived run s m → Arrived after z m
+arrived-more run after s z m more same a = record {
+  packet = a.packet;
+  there = more a.packet a.there;
+  to = a.to ∙ ap (λ (file : LinkFile). file.system) (sym same);
+  copy = a.copy;
+  link = ap (λ (file : LinkFile). is_link file m.echo.tag (origin a.packet)) same ∙ a.link;
+}
+
+module _ (files : List LinkFile) (known : LawsOfRuns files) (i : ℕ) (p : Filed) where
+  -- the first messages of a packet come to the system that it is for
+  module _ (events : List RunEvent) (only : OnlyPosted i p (run_of files events)) (q : Packet) (at : Among q (run_of files events).packets) (n : ℕ) where
+    abbrev run : Run
+    run = run_of files events
+
+    -- its zone is not 0, so the sender is its origin
+    zone-is : (file : LinkFile) → zone_of file q.header.orig_zone ≡ q.header.orig_zone
+    zone-is file =
+        let (e, at_e, same) = export-of files known events q at in
+        let (s, there, is, _) = known.made events e at_e in
+        let fits = known.fit s.file (file-there files known events s (nth-among e.system s run.systems there)) in
+        let zone = ap (λ (a : Address). a.zone) is in
+        let own = ap (λ (x : Packet). x.header.orig_zone) same in
+        let low : 1 ≤ s.file.system.zone = fits.address.zone.0 in
+        cond-false (q.header.orig_zone == 0) file.system.zone q.header.orig_zone (not_zero (q.header.orig_zone) (omega (arith, zone, own, low)))
+      where
+        not_zero : (z : ℕ) → 1 ≤ z → (z == 0) ≡ false
+        not_zero z low = elim (yes_or_no (z == 0)) [ inr f ↦ f | inl t ↦ absurd (omega (arith, eqb-true z 0 t)) ]
+
+    origin-is : (file : LinkFile) → sender_of file q.header ≡ origin q
+    origin-is file =
+        let of_zone : ℕ → Address = λ z. record { zone = z; net = q.header.orig_net; node = q.header.orig_node } in
+        ap of_zone (zone-is file)
+
+    taken-from : (after : Run) → ((x : Packet) → Among x run.packets → Among x after.packets) → (j : ℕ) (s : System) →
+        nth j run.systems ≡ Some s → nth (receiver run q) run.systems ≡ Some s →
+        (m : Filed) → Among m (taking q n s).history → ((j ≡ i) × (m ≡ p)) ⊎ Arrived after (taking q n s) m
+    taken-from after more j s is here m h =
+        let sender = sender_of s.file q.header in
+        let to_after = arrived-more run after s (taking q n s) m more (taking-file q n s) in
+        elim (tossing-new sender (take n q.messages) s m h) [
+          | inl old ↦ elim (only.from j s is m old) [ inl posting ↦ inl posting | inr arrived ↦ inr (to_after arrived) ]
+          | inr new ↦ (
+              let is_received = tossing-is s.file new.base sender new.packed m new.filed in
+              let to_file = (known.toss s.file new.base sender new.packed).0 (new.filed ∙ ap (λ (x : Filed). Some x) is_received) in
+              let from = origin-is s.file in
+              let is_copy : m ≡ received (origin q) new.packed = is_received ∙ ap (λ (a : Address). received a new.packed) from in
+              let P : Filed → Type 0 = λ x. Among x (copies q) in
+              let tag_is : m.echo.tag ≡ (echo_of new.packed.text).tag = ap (λ (x : Filed). x.echo.tag) is_copy ∙ received-tag (origin q) new.packed in
+              let link : is_link s.file m.echo.tag (origin q) ≡ true =
+              ap (λ (t : List ℕ). is_link s.file t (origin q)) tag_is ∙ (ap (λ (a : Address). is_link s.file (echo_of new.packed.text).tag a) (sym from) ∙ to_file.link) in
+              inr (to_after (record {
+                packet = q;
+                there = at;
+                to = sym ((same_address_decides s.file.system (destination q)).0 (first_passes (λ t. same_address t.file.system (destination q)) s run.systems here));
+                copy = subst P (sym is_copy) (copy-there files known events q at new.packed (Among-take n new.packed q.messages new.of));
+                link = link;
+              }))
+              )
+        ]
+
+  -- a scan and a delivery keep it
+  module _ (events : List RunEvent) (only : OnlyPosted i p (run_of files events)) where
+    abbrev now : Run
+    now = run_of files events
+
+    scans : (k : ℕ) (stamp : Stamp) (s : System) (b : Bool) → OnlyPosted i p (if b then record {
+      systems = change k scanning_at now.systems;
+      packets = now.packets ++ scanned s.file s.base s.cursor stamp;
+      delivered = now.delivered;
+    } else now)
+    scans k stamp s false = only
+    scans k stamp s true =
+        let after : Run = record {
+          systems = change k scanning_at now.systems;
+          packets = now.packets ++ scanned s.file s.base s.cursor stamp;
+          delivered = now.delivered;
+        } in
+        let more : (x : Packet) → Among x now.packets → Among x after.packets = λ x h. Among-append_left x now.packets (scanned s.file s.base s.cursor stamp) h in
+        record {
+          from = λ j z at m h. elim (nth-change k j scanning_at z now.systems at) [
+            | inl other ↦ elim (only.from j z other.1 m h) [ inl posting ↦ inl posting | inr arrived ↦ inr (arrived-more now after z z m more refl arrived) ]
+            | inr here ↦ (let (x, is, same) = here.1 in
+                let P : System → Type 0 = λ t. Among m t.history in
+                elim (only.from j x is m (subst P same h)) [
+                  | inl posting ↦ inl posting
+                  | inr arrived ↦ inr (arrived-more now after x z m more (ap (λ (t : System). t.file) same) arrived)
+                ])
+          ];
+          whole = λ j z at. elim (nth-change k j scanning_at z now.systems at) [
+            | inl other ↦ only.whole j z other.1
+            | inr here ↦ (let (x, is, same) = here.1 in
+                let P : System → Type 0 = λ t. t.base ≡ t.history in
+                subst P (sym same) (only.whole j x is))
+          ];
+        }
+
+    scanned-so : (k : ℕ) (stamp : Stamp) (o : Option System) → OnlyPosted i p (scanning now k stamp o)
+    scanned-so k stamp None = only
+    scanned-so k stamp (Some s) = scans k stamp s (is_stamp stamp)
+
+    comes : (k : ℕ) (q : Packet) → Among q now.packets → (o : Option System) → OnlyPosted i p (coming now k q o)
+    comes k q at None = only
+    comes k q at (Some s) =
+        let n = length q.messages in
+        let after : Run = coming now k q (Some s) in
+        record {
+          from = λ j z is m h. elim (nth-change (receiver now q) j (taking q n) z now.systems is) [
+            | inl other ↦ elim (only.from j z other.1 m h) [ inl posting ↦ inl posting | inr arrived ↦ inr (arrived-more now after z z m (λ x l. l) refl arrived) ]
+            | inr here ↦ (let (x, is_x, same) = here.1 in
+                let P : System → Type 0 = λ t. Among m t.history in
+                let Q : ℕ → Type 0 = λ l. nth l now.systems ≡ Some x in
+                let R : System → Type 0 = λ t. ((j ≡ i) × (m ≡ p)) ⊎ Arrived after t m in
+                subst R (sym same) (taken-from events only q at n after (λ y l. l) j x is_x (subst Q (sym here.0) is_x) m (subst P same h)))
+          ];
+          whole = λ j z is. elim (nth-change (receiver now q) j (taking q n) z now.systems is) [
+            | inl other ↦ only.whole j z other.1
+            | inr here ↦ (let (x, is_x, same) = here.1 in
+                let P : System → Type 0 = λ t. t.base ≡ t.history in
+                subst P (sym same) (tossing-whole (sender_of x.file q.header) (take n q.messages) x (only.whole j x is_x)))
+          ];
+        }
+
+    delivered-so : (k : ℕ) (o : Option Packet) → nth k now.packets ≡ o → OnlyPosted i p (delivery now k o)
+    delivered-so k None e = only
+    delivered-so k (Some q) e = comes k q (nth-among k q now.packets e) (nth (receiver now q) now.systems)
+
+  moved : (events : List RunEvent) (event : RunEvent) → IsMove event → OnlyPosted i p (run_of files events) → OnlyPosted i p (after_event (run_of files events) event)
+  moved events (Posting k tag draft serial stamp) move only = absurd move
+  moved events (PartDelivery k messages) move only = absurd move
+  moved events (Purging k) move only = absurd move
+  moved events (Scanning k stamp) move only = scanned-so events only k stamp (nth k (run_of files events).systems)
+  moved events (Delivery k) move only = delivered-so events only k (nth k (run_of files events).packets) refl
+
+  moved-all : (events more : List RunEvent) → AllByRecursion IsMove more → OnlyPosted i p (run_of files events) → OnlyPosted i p (run_of files (events ++ more))
+  moved-all events more moves only =
+      along IsMove (λ es. OnlyPosted i p (run_of files es))
+      (λ earlier event move before. after_one_more (OnlyPosted i p) files earlier event (moved earlier event move before)) events more moves only
+
+-- after the posting and any moves
+module _ (files : List LinkFile) (known : LawsOfRuns files) (tag : List ℕ) (i : ℕ) (file : LinkFile) (is : nth i files ≡ Some file) (area : has_area file tag ≡ true) where
+  raised : upper tag ≡ tag
+  raised = upper-same file tag (known.fit file (nth-among i file files is)) area
+
+  pub post_of-tag : (post_of file tag).echo.tag ≡ tag
+  unfolding posted
+  post_of-tag = raised
+
+  filed-first : posting_at tag trial_draft 1 trial_moment (fresh file) ≡ filing (fresh file) (Some (post_of file tag))
+  filed-first = ap (λ (o : Option Filed). filing (fresh file) o)
+      (post-accepted files known file tag (ap (λ (t : List ℕ). has_area file t) raised ∙ area))
+
+  only-first : OnlyPosted i (post_of file tag) (run_of files (trial_posting i tag ∷ []))
+  only-first = record {
+    from = λ j z at m h. elim (nth-change i j (posting_at tag trial_draft 1 trial_moment) z (map fresh files) at) [
+      | inl other ↦ (let (f, _, same) = nth-map_from fresh j z files other.1 in
+          let P : System → Type 0 = λ t. Among m t.history in
+          absurd (subst P same h))
+      | inr here ↦ (let is_z = the_first z j here.0 here.1 in
+          let P : System → Type 0 = λ t. Among m t.history in
+          inl (sym here.0, elim (subst P is_z h) [ inl e ↦ e | inr t ↦ absurd t ]))
+    ];
+    whole = λ j z at. elim (nth-change i j (posting_at tag trial_draft 1 trial_moment) z (map fresh files) at) [
+      | inl other ↦ (let (f, _, same) = nth-map_from fresh j z files other.1 in
+          let P : System → Type 0 = λ t. t.base ≡ t.history in
+          subst P (sym same) refl)
+      | inr here ↦ (let is_z = the_first z j here.0 here.1 in
+          let P : System → Type 0 = λ t. t.base ≡ t.history in
+          subst P (sym is_z) refl)
+    ];
+  }
+    where
+      the_first : (z : System) (j : ℕ) → i ≡ j → (x : System) × (nth j (map fresh files) ≡ Some x) × (z ≡ posting_at tag trial_draft 1 trial_moment x) →
+          z ≡ filing (fresh file) (Some (post_of file tag))
+      the_first z j e found =
+          let (x, at, same) = found in
+          let P : ℕ → Type 0 = λ l. nth l (map fresh files) ≡ Some x in
+          let is_x : x ≡ fresh file = some_same (sym (subst P (sym e) at) ∙ nth-map fresh i file files is) in
+          same ∙ (ap (λ (t : System). posting_at tag trial_draft 1 trial_moment t) is_x ∙ filed-first)
+
+  pub only-posted : (more : List RunEvent) → AllByRecursion IsMove more → OnlyPosted i (post_of file tag) (run_of files (trial_posting i tag ∷ more))
+  only-posted more moves = moved-all files known i (post_of file tag) (trial_posting i tag ∷ []) more moves only-first
+
+  -- the poster has the posting, and keeps it
+  pub posted-at : nth i (run_of files (trial_posting i tag ∷ [])).systems ≡ Some (filing (fresh file) (Some (post_of file tag)))
+  posted-at = nth-changed i (posting_at tag trial_draft 1 trial_moment) (fresh file) (map fresh files) (nth-map fresh i file files is)
+      ∙ ap (λ (t : System). Some t) filed-first
+
+  pub poster : (more : List RunEvent) → (s : System) × (nth i (run_of files (trial_posting i tag ∷ more)).systems ≡ Some s) × (s.file ≡ file) × Among (post_of file tag) s.history
+  poster more =
+      let (z, there, later) = known.stays (trial_posting i tag ∷ []) more i (filing (fresh file) (Some (post_of file tag))) posted-at in
+      let P : List Filed → Type 0 = λ ms. Among (post_of file tag) ms in
+      (z, there, later.file, subst P (sym later.filed.1) (inl refl))

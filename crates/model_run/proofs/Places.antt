@@ -1,0 +1,103 @@
+-- In a net where each address has one file: which system has an address, and which links it lists.
+use Rattle.std.proofs.Common.{◌≡◌, inl, inr, refl, sym, subst, ap, ◌∙◌, ℕ, zero, suc, IsTrue, List, [], ◌∷◌, map, Some}
+use Rattle.std.specs.Prelude.{true, ◌&&◌}
+use Rattle.echo_addr.specs.declared.address.Address.{Address}
+use Rattle.model_graph.specs.Walk.{Among, Different}
+use Rattle.echo_links.specs.Links.{LinkFile, has_area, is_link, links_of, same_address}
+use Rattle.echo_links.proofs.Addresses.{same_address_decides}
+use Rattle.model_run.specs.Event.{RunEvent}
+use Rattle.model_run.specs.Run.{System, nth, run_of}
+use Rattle.model_run.specs.Tidy.{Carries, lists}
+use Rattle.model_run.proofs.Lists.{Among-map_to, and-from, and-parts, any-from, any-to, none_some, nth-among, some_same}
+use Rattle.model_run.proofs.Entries.{link-among}
+use Rattle.model_run.specs.LawsOfRuns.{LawsOfRuns}
+use Rattle.model_run.proofs.HarmLists.{nth-map}
+use Rattle.model_run.proofs.Resting.{file-there}
+use Rattle.model_run.proofs.Tags.{link-area}
+use Rattle.model_run.proofs.HarmSteps.{run-files}
+
+-- in a list of different images an image stands at one index
+different-index : {X Y : Type 0} (g : X → Y) (xs : List X) → Different (map g xs) → (i j : ℕ) (x y : X) → nth i xs ≡ Some x → nth j xs ≡ Some y → g x ≡ g y → i ≡ j
+different-index {X} {Y} g [] d i j x y at_i at_j e = absurd (none_some at_i)
+different-index g (z ∷ xs) d zero zero x y at_i at_j e = refl
+different-index {X} {Y} g (z ∷ xs) d zero (suc j) x y at_i at_j e =
+    let P : Y → Type 0 = λ w. Among w (map g xs) in
+    absurd (d.0 (subst P (sym e ∙ ap g (sym (some_same at_i))) (Among-map_to g y xs (nth-among j y xs at_j))))
+different-index {X} {Y} g (z ∷ xs) d (suc i) zero x y at_i at_j e =
+    let P : Y → Type 0 = λ w. Among w (map g xs) in
+    absurd (d.0 (subst P (e ∙ ap g (sym (some_same at_j))) (Among-map_to g x xs (nth-among i x xs at_i))))
+different-index g (z ∷ xs) d (suc i) (suc j) x y at_i at_j e = ap suc (different-index g xs d.1 i j x y at_i at_j e)
+
+-- and is of one of them
+different-same : {X Y : Type 0} (g : X → Y) (xs : List X) → Different (map g xs) → (x y : X) → Among x xs → Among y xs → g x ≡ g y → x ≡ y
+different-same g [] d x y h i e = absurd h
+different-same {X} {Y} g (z ∷ xs) d x y h i e =
+    let P : Y → Type 0 = λ w. Among w (map g xs) in
+    elim h [
+      | inl x_first ↦ elim i [
+        | inl y_first ↦ x_first ∙ sym y_first
+        | inr y_later ↦ absurd (d.0 (subst P (sym e ∙ ap g x_first) (Among-map_to g y xs y_later)))
+      ]
+      | inr x_later ↦ elim i [
+        | inl y_first ↦ absurd (d.0 (subst P (e ∙ ap g y_first) (Among-map_to g x xs x_later)))
+        | inr y_later ↦ different-same g xs d.1 x y x_later y_later e
+      ]
+    ]
+
+-- a file that has the area carries it, and lists its links
+pub file-carries : (files : List LinkFile) (tag : List ℕ) (file : LinkFile) → Among file files → has_area file tag ≡ true → Carries files tag file.system
+file-carries files tag file h area =
+    any-to (λ f. same_address f.system file.system && has_area f tag) file files h
+    (and-from (same_address file.system file.system) (has_area file tag) ((same_address_decides file.system file.system).1 refl) area)
+
+pub file-lists : (files : List LinkFile) (tag : List ℕ) (file : LinkFile) → Among file files → (a : Address) → is_link file tag a ≡ true → IsTrue (lists files tag file.system a)
+file-lists files tag file h a link =
+    any-to (λ f. same_address f.system file.system && is_link f tag a) file files h
+    (and-from (same_address file.system file.system) (is_link file tag a) ((same_address_decides file.system file.system).1 refl) link)
+
+pub carrier-file : (files : List LinkFile) (tag : List ℕ) (a : Address) → Carries files tag a →
+    (file : LinkFile) × Among file files × (file.system ≡ a) × (has_area file tag ≡ true)
+carrier-file files tag a h =
+    let (file, i, t) = any-from (λ f. same_address f.system a && has_area f tag) files h in
+    let both = and-parts (same_address file.system a) (has_area file tag) t in
+    (file, i, (same_address_decides file.system a).0 both.0, both.1)
+
+pub lists-file : (files : List LinkFile) (tag : List ℕ) (a b : Address) → IsTrue (lists files tag a b) →
+    (file : LinkFile) × Among file files × (file.system ≡ a) × (is_link file tag b ≡ true)
+lists-file files tag a b h =
+    let (file, i, t) = any-from (λ f. same_address f.system a && is_link f tag b) files h in
+    let both = and-parts (same_address file.system a) (is_link file tag b) t in
+    (file, i, (same_address_decides file.system a).0 both.0, both.1)
+
+module _ (files : List LinkFile) (known : LawsOfRuns files) (one_file : Different (map (λ (file : LinkFile). file.system) files)) (events : List RunEvent) where
+  -- a system of a run is known by its address
+  pub one-system : (i j : ℕ) (s z : System) → nth i (run_of files events).systems ≡ Some s → nth j (run_of files events).systems ≡ Some z →
+      s.file.system ≡ z.file.system → i ≡ j
+  one-system i j s z at_i at_j e =
+      let ss = (run_of files events).systems in
+      let P : List LinkFile → Type 0 = λ fs. Different (map (λ (file : LinkFile). file.system) fs) in
+      different-index (λ (file : LinkFile). file.system) (map (λ (t : System). t.file) ss) (subst P (sym (run-files files events)) one_file) i j s.file z.file
+      (nth-map (λ (t : System). t.file) i s ss at_i) (nth-map (λ (t : System). t.file) j z ss at_j) e
+
+  -- and lists what its file lists
+  pub lists-link : (tag : List ℕ) (s : System) → Among s (run_of files events).systems → (b : Address) → IsTrue (lists files tag s.file.system b) →
+      Among b (links_of s.file tag)
+  lists-link tag s h b link =
+      let (file, i, e, t) = lists-file files tag s.file.system b link in
+      let same = different-same (λ (f : LinkFile). f.system) files one_file file s.file i (file-there files known events s h) e in
+      link-among s.file tag b (ap (λ (f : LinkFile). is_link f tag b) (sym same) ∙ t)
+
+-- the one file of a carrier has the area
+pub carrier-area : (files : List LinkFile) (tag : List ℕ) → Different (map (λ (file : LinkFile). file.system) files) → (file : LinkFile) → Among file files →
+    (a : Address) → file.system ≡ a → Carries files tag a → has_area file tag ≡ true
+carrier-area files tag one_file file h a e carries =
+    let (own, i, q, area) = carrier-file files tag a carries in
+    let same = different-same (λ (f : LinkFile). f.system) files one_file file own h i (e ∙ sym q) in
+    ap (λ (f : LinkFile). has_area f tag) same ∙ area
+
+-- who lists a link is a carrier
+pub lister-carries : (files : List LinkFile) (tag : List ℕ) (a b : Address) → IsTrue (lists files tag a b) → Carries files tag a
+lister-carries files tag a b link =
+    let (file, h, e, t) = lists-file files tag a b link in
+    let P : Address → Type 0 = λ x. Carries files tag x in
+    subst P e (file-carries files tag file h (link-area file tag b (link-among file tag b t)))

@@ -1,0 +1,412 @@
+-- Any run is brought to rest by scans and deliveries.
+use Rattle.std.proofs.Common.{◌≡◌, ◌≢◌, ◌⊎◌, inl, inr, refl, sym, subst, ap, ◌∙◌, ℕ, zero, suc, ◌<◌, ◌≤◌, ◌==◌, arith, List, [], ◌∷◌, ◌++◌, length, take, drop, map, Option, Some, None}
+use Rattle.std.specs.Prelude.{Bool, true, false, ◌&&◌, filter, is_none, if◌then◌else◌}
+use Rattle.std.specs.List.{AllByRecursion, list_any}
+use Rattle.std.proofs.lemmas.Bool.{cases_eq, eqb-true}
+use Rattle.std.proofs.lemmas.List.{append_assoc, append-nil, drop_all}
+use Rattle.echo_addr.specs.declared.address.Address.{Address}
+use Rattle.model_graph.specs.Walk.{Among}
+use Rattle.model_graph.proofs.Members.{Among-append_left, Among-append_right}
+use Rattle.echo_packet.specs.Message.{Message}
+use Rattle.echo_text.specs.Refusal.{text_refusal}
+use Rattle.echo_text.specs.declared.fault.TextFault.{TextFault}
+use Rattle.echo_text.specs.Echo.{msgid_of}
+use Rattle.model_steps.specs.declared.packet.Packet.{Packet}
+use Rattle.echo_links.specs.Links.{LinkFile, has_area, is_link, same_address}
+use Rattle.echo_links.proofs.Addresses.{same_address_decides}
+use Rattle.echo_filed.specs.declared.key.Key.{Key}
+use Rattle.echo_filed.specs.Written.{echo_of}
+use Rattle.echo_filed.specs.Filed.{Filed, key_of, key_with}
+use Rattle.base_file.specs.Base.{is_known}
+use Rattle.model_steps.specs.Tossing.{received, sender_of, tossing}
+use Rattle.model_run.specs.Event.{RunEvent, Scanning, Delivery}
+use Rattle.model_run.specs.Run.{System, Run, change, coming, delivery, destination, nth, receiver, run_of, scanning, scanning_at, taking, with_index}
+use Rattle.model_run.specs.Orderly.{Settled, copies, origin}
+use Rattle.model_run.specs.Exports.{Export, exports}
+use Rattle.model_run.specs.Tidy.{lists}
+use Rattle.model_run.proofs.Lists.{Among-change, Among-filter_to, Among-map_from, Among-map_to, Among-take, and-from, and-parts, any-from, any-to, none_some, not_both, nth-among, nth-change, some_same}
+use Rattle.model_run.specs.Grave.{AllAreCarriers}
+use Rattle.model_run.specs.Postings.{IsMove, trial_moment}
+use Rattle.model_run.proofs.Entries.{among-link, exported-tag, target-link}
+use Rattle.model_run.proofs.HarmLists.{none_passes, among-nth, nth-index, nth-middle}
+use Rattle.model_run.specs.LawsOfRuns.{LawsOfRuns}
+use Rattle.model_run.proofs.Lacking.{all_lacking, change-fewer, change-same, lacking, tossing-fewer}
+use Rattle.model_run.proofs.HarmSteps.{after_one_more, all-append, run-files, tossing-is, tossing-new}
+
+-- the key of a received message does not hang on its sender
+key-same : (a b : Address) (q : Message) (o : Option (List ℕ)) → key_with (received a q) o ≡ key_with (received b q) o
+unfolding received
+key-same a b q None = refl
+key-same a b q (Some id) = refl
+
+received-key : (a b : Address) (q : Message) → key_of (received a q) ≡ key_of (received b q)
+unfolding key_of received
+received-key a b q = key-same a b q (msgid_of (echo_of q.text).kept)
+
+module _ (files : List LinkFile) (known : LawsOfRuns files) where
+  -- a system of a run has one of the files, and each file is a system's
+  pub file-there : (events : List RunEvent) (s : System) → Among s (run_of files events).systems → Among s.file files
+  file-there events s h =
+      let P : List LinkFile → Type 0 = λ fs. Among s.file fs in
+      subst P (run-files files events) (Among-map_to (λ (z : System). z.file) s (run_of files events).systems h)
+
+  pub system-there : (events : List RunEvent) (file : LinkFile) → Among file files →
+      (s : System) × Among s (run_of files events).systems × (file ≡ s.file)
+  system-there events file h =
+      let P : List LinkFile → Type 0 = λ fs. Among file fs in
+      Among-map_from (λ (z : System). z.file) file (run_of files events).systems (subst P (sym (run-files files events)) h)
+
+  -- each message of a packet is a copy
+  pub copy-there : (events : List RunEvent) (p : Packet) → Among p (run_of files events).packets → (q : Message) → Among q p.messages →
+      Among (received (origin p) q) (copies p)
+  copy-there events p h q i =
+      Among-map_to (received (origin p)) q (filter (λ packed. is_none (text_refusal packed.text)) p.messages)
+      (Among-filter_to (λ packed. is_none (text_refusal packed.text)) q p.messages i
+      (ap (λ (o : Option TextFault). is_none o) (known.accepted events p h q i)))
+
+  -- each packet was made by a scan
+  pub export-of : (events : List RunEvent) (p : Packet) → Among p (run_of files events).packets → (e : Export) × Among e (exports files events) × (p ≡ e.packet)
+  export-of events p h =
+      let P : List Packet → Type 0 = λ ps. Among p ps in
+      Among-map_from (λ (e : Export). e.packet) p (exports files events) (subst P (sym (known.packets events)) h)
+
+  module _ (keys : List Key) where
+    -- all that was filed has some of these keys
+    abbrev pub Within : Run → Type 0
+    Within run = (s : System) → Among s run.systems → (m : Filed) → Among m s.history → Among (key_of m) keys
+
+    pub packed-within : (events : List RunEvent) → Within (run_of files events) → (p : Packet) → Among p (run_of files events).packets →
+        (q : Message) → Among q p.messages → (a : Address) → Among (key_of (received a q)) keys
+    packed-within events within p h q i a =
+        let (e, at, same) = export-of events p h in
+        let (s, there, _, copied) = known.made events e at in
+        let P : Packet → Type 0 = λ x. Among (received (origin p) q) (copies x) in
+        let (m, j, is_copy) = copied (received (origin p) q) (subst P same (copy-there events p h q i)) in
+        let Q : Key → Type 0 = λ k. Among k keys in
+        subst Q (sym (received-key a (origin p) q ∙ is_copy.key))
+        (within s (nth-among e.system s (run_of files events).systems there) m (Among-take s.cursor m s.history j))
+
+    pub new-key : (s : System) (sender : Address) (q : Message) (m : Filed) → tossing s.file s.base sender q ≡ Some m → is_known s.base (key_of m) ≡ false
+    new-key s sender q m h =
+        let same = tossing-is s.file s.base sender q m h in
+        let to_file = (known.toss s.file s.base sender q).0 (h ∙ ap (λ (x : Filed). Some x) same) in
+        ap (λ (x : Filed). is_known s.base (key_of x)) same ∙ to_file.new
+
+    -- what a delivery does: no system changes, or more is filed
+    record Fewer (before after : Run) : Type 0 where
+      within : Within after
+      fewer : all_lacking keys after.systems < all_lacking keys before.systems
+
+    -- nothing waits anywhere
+    abbrev Quiet : Run → Type 0
+    Quiet run = (s : System) → Among s run.systems → drop s.cursor s.base ≡ []
+
+    -- no file is of the address that the packet goes to
+    abbrev GoesNowhere : Packet → Type 0
+    GoesNowhere p = (file : LinkFile) → Among file files → file.system ≢ destination p
+
+    -- the first packets came, and no system changed
+    record Rests (before after : Run) (n : ℕ) : Type 0 where
+      systems : after.systems ≡ before.systems
+      packets : after.packets ≡ before.packets
+      came : (k : ℕ) (p : Packet) → k < n → nth k after.packets ≡ Some p → Among k after.delivered ⊎ GoesNowhere p
+
+    pub with_index-new : (k : ℕ) (ks : List ℕ) → Among k (with_index k ks)
+    with_index-new k ks = cases (list_any (λ d. d == k) ks) refl
+      where
+        cases : (b : Bool) → list_any (λ d. d == k) ks ≡ b → Among k (if b then ks else k ∷ ks)
+        cases true e =
+            let (d, i, q) = any-from (λ d. d == k) ks e in
+            let P : ℕ → Type 0 = λ x. Among x ks in
+            subst P (eqb-true d k q) i
+        cases false e = inl refl
+
+    pub with_index-old : (k j : ℕ) (ks : List ℕ) → Among j ks → Among j (with_index k ks)
+    with_index-old k j ks h = cases (list_any (λ d. d == k) ks)
+      where
+        cases : (b : Bool) → Among j (if b then ks else k ∷ ks)
+        cases true = h
+        cases false = inr h
+
+    -- a packet comes
+    module _ (events : List RunEvent) (within : Within (run_of files events)) (k : ℕ) where
+      abbrev run : Run
+      run = run_of files events
+
+      pub taken-within : (p : Packet) → Among p run.packets → (n i : ℕ) → (s : System) → Among s (change i (taking p n) run.systems) →
+          (m : Filed) → Among m s.history → Among (key_of m) keys
+      taken-within p at n i s h m j =
+          elim (Among-change i (taking p n) s run.systems h) [
+            | inl old ↦ within s old m j
+            | inr now ↦ (let (z, l, e) = now in
+                let P : System → Type 0 = λ x. Among m x.history in
+                let sender = sender_of z.file p.header in
+                elim (tossing-new sender (take n p.messages) z m (subst P e j)) [
+                  | inl old ↦ within z l m old
+                  | inr new ↦ (let Q : Filed → Type 0 = λ x. Among (key_of x) keys in
+                      subst Q (sym (tossing-is z.file new.base sender new.packed m new.filed))
+                      (packed-within events within p at new.packed (Among-take n new.packed p.messages new.of) sender))
+                ])
+          ]
+
+      -- before that others may have come
+      module _ (before : Run) (rests : Rests before run k) where
+        earlier : (after : List ℕ) → ((j : ℕ) → Among j run.delivered → Among j after) → (j : ℕ) (q : Packet) → j < k → nth j run.packets ≡ Some q →
+            Among j after ⊎ GoesNowhere q
+        earlier after more j q less at = elim (rests.came j q less at) [ inl old ↦ inl (more j old) | inr none ↦ inr none ]
+
+        next : (after : List ℕ) → ((j : ℕ) → Among j run.delivered → Among j after) →
+            ((q : Packet) → nth k run.packets ≡ Some q → Among k after ⊎ GoesNowhere q) →
+            (j : ℕ) (q : Packet) → j < suc k → nth j run.packets ≡ Some q → Among j after ⊎ GoesNowhere q
+        next after more here j q less at =
+            elim (cases_eq j k) [
+              | inr other ↦ earlier after more j q (omega arith) at
+              | inl same ↦ (let P : ℕ → Type 0 = λ i. (nth i run.packets ≡ Some q → Among i after ⊎ GoesNowhere q) in
+                  subst P (sym same) (here q) at)
+            ]
+
+        module _ (p : Packet) (is : nth k run.packets ≡ Some p) where
+          each : (s : System) → Among s run.systems →
+              (taking p (length p.messages) s ≡ s) ⊎ (lacking keys (taking p (length p.messages) s).base < lacking keys s.base)
+          each s h =
+              let sender = sender_of s.file p.header in
+              tossing-fewer keys sender (take (length p.messages) p.messages)
+              (λ q i. packed-within events within p (nth-among k p run.packets is) q (Among-take (length p.messages) q p.messages i) sender)
+              (λ z q m h. new-key z sender q m h) s
+
+          nowhere : nth (receiver run p) run.systems ≡ None → GoesNowhere p
+          nowhere e file h same =
+              let (s, i, is_file) = system-there events file h in
+              let at : s.file.system ≡ destination p = ap (λ (f : LinkFile). f.system) (sym is_file) ∙ same in
+              not_both (same_address s.file.system (destination p)) ((same_address_decides s.file.system (destination p)).1 at)
+              (none_passes (λ z. same_address z.file.system (destination p)) run.systems e s i)
+
+          comes : (o : Option System) → nth (receiver run p) run.systems ≡ o →
+              Fewer before (coming run k p o) ⊎ Rests before (coming run k p o) (suc k)
+          comes None e = inr (record {
+            systems = rests.systems;
+            packets = rests.packets;
+            came = next run.delivered (λ j h. h) (λ q at. (let P : Packet → Type 0 = GoesNowhere in inr (subst P (some_same (sym is ∙ at)) (nowhere e))));
+          })
+          comes (Some s) e =
+              elim (change-fewer keys (taking p (length p.messages)) run.systems each (receiver run p)) [
+                | inl same ↦ inr (record {
+                  systems = same ∙ rests.systems;
+                  packets = rests.packets;
+                  came = next (with_index k run.delivered) (λ j h. with_index-old k j run.delivered h) (λ q at. inl (with_index-new k run.delivered));
+                })
+                | inr less ↦ inl (record {
+                  within = taken-within p (nth-among k p run.packets is) (length p.messages) (receiver run p);
+                  fewer = omega (arith, less, ap (λ (ss : List System). all_lacking keys ss) rests.systems);
+                })
+              ]
+
+        delivered : (o : Option Packet) → nth k run.packets ≡ o → Fewer before (delivery run k o) ⊎ Rests before (delivery run k o) (suc k)
+        delivered None e = inr (record {
+          systems = rests.systems;
+          packets = rests.packets;
+          came = next run.delivered (λ j h. h) (λ q at. absurd (none_some (sym e ∙ at)));
+        })
+        delivered (Some p) e = comes p e (nth (receiver run p) run.systems) refl
+
+    -- the first packets come, until something is filed
+    record Delivered (events : List RunEvent) (n : ℕ) : Type 0 where
+      more : List RunEvent
+      moves : AllByRecursion IsMove more
+      out : Fewer (run_of files events) (run_of files (events ++ more)) ⊎ Rests (run_of files events) (run_of files (events ++ more)) n
+
+    deliver : (events : List RunEvent) → Within (run_of files events) → (n : ℕ) → Delivered events n
+    deliver events within zero = record {
+      more = [];
+      moves = tt;
+      out = (let P : List RunEvent → Type 0 = λ es. Fewer (run_of files events) (run_of files es) ⊎ Rests (run_of files events) (run_of files es) 0 in
+          subst P (sym (append-nil events)) (inr (record { systems = refl; packets = refl; came = λ k p less. absurd (omega arith) })));
+    }
+    deliver events within (suc n) =
+        let so_far = deliver events within n in
+        let now = events ++ so_far.more in
+        let before = run_of files events in
+        elim so_far.out [
+          | inl fewer ↦ record { more = so_far.more; moves = so_far.moves; out = inl fewer }
+          | inr rests ↦ (let W : List System → Type 0 = λ ss. (s : System) → Among s ss → (m : Filed) → Among m s.history → Among (key_of m) keys in
+              let within_now = subst W (sym rests.systems) within in
+              let P : Run → Type 0 = λ run. Fewer before run ⊎ Rests before run (suc n) in
+              let Q : List RunEvent → Type 0 = λ es. P (run_of files es) in
+              record {
+                more = so_far.more ++ Delivery n ∷ [];
+                moves = all-append IsMove so_far.more (Delivery n ∷ []) so_far.moves (tt, tt);
+                out = subst Q (append_assoc events so_far.more (Delivery n ∷ []))
+                    (after_one_more P files now (Delivery n) (delivered now within_now n before rests (nth n (run_of files now).packets) refl));
+              })
+        ]
+
+    -- all systems scan
+    pub record Scanned (before after : Run) (n : ℕ) : Type 0 where
+      pub within : Within after
+      pub lacks : all_lacking keys after.systems ≡ all_lacking keys before.systems
+      pub quiet : (i : ℕ) (s : System) → i < n → nth i after.systems ≡ Some s → drop s.cursor s.base ≡ []
+      pub size : length after.systems ≡ length before.systems
+
+    length-change : (i : ℕ) (f : System → System) (ss : List System) → length (change i f ss) ≡ length ss
+    length-change i f [] = refl
+    length-change zero f (s ∷ ss) = refl
+    length-change (suc i) f (s ∷ ss) = ap suc (length-change i f ss)
+
+    pub scanned-more : (before run : Run) (n : ℕ) → Scanned before run n → (o : Option System) → nth n run.systems ≡ o → Scanned before (scanning run n trial_moment o) (suc n)
+    scanned-more before run n so_far None e = record {
+      within = so_far.within;
+      lacks = so_far.lacks;
+      quiet = λ i s less at. elim (cases_eq i n) [
+        | inr other ↦ so_far.quiet i s (omega arith) at
+        | inl same ↦ (let P : ℕ → Type 0 = λ j. nth j run.systems ≡ Some s in absurd (none_some (sym e ∙ subst P same at)))
+      ];
+      size = so_far.size;
+    }
+    scanned-more before run n so_far (Some z) e = record {
+      within = λ s h m j. elim (Among-change n scanning_at s run.systems h) [
+        | inl old ↦ so_far.within s old m j
+        | inr now ↦ (let (x, l, same) = now in let P : System → Type 0 = λ y. Among m y.history in so_far.within x l m (subst P same j))
+      ];
+      lacks = change-same keys scanning_at (λ s. refl) n run.systems ∙ so_far.lacks;
+      quiet = λ i s less at. elim (nth-change n i scanning_at s run.systems at) [
+        | inl other ↦ so_far.quiet i s (let differ : n ≢ i = other.0 in omega arith) other.1
+        | inr here ↦ (let (x, _, same) = here.1 in
+            let P : System → Type 0 = λ y. drop y.cursor y.base ≡ [] in
+            subst P (sym same) (drop_all (length x.base) x.base (omega arith)))
+      ];
+      size = length-change n scanning_at run.systems ∙ so_far.size;
+    }
+
+    record AllScanned (events : List RunEvent) (n : ℕ) : Type 0 where
+      more : List RunEvent
+      moves : AllByRecursion IsMove more
+      out : Scanned (run_of files events) (run_of files (events ++ more)) n
+
+    scan : (events : List RunEvent) → Within (run_of files events) → (n : ℕ) → AllScanned events n
+    scan events within zero = record {
+      more = [];
+      moves = tt;
+      out = (let P : List RunEvent → Type 0 = λ es. Scanned (run_of files events) (run_of files es) 0 in
+          subst P (sym (append-nil events)) (record { within = within; lacks = refl; quiet = λ i s less. absurd (omega arith); size = refl }));
+    }
+    scan events within (suc n) =
+        let so_far = scan events within n in
+        let now = events ++ so_far.more in
+        let before = run_of files events in
+        let P : Run → Type 0 = λ run. Scanned before run (suc n) in
+        let Q : List RunEvent → Type 0 = λ es. P (run_of files es) in
+        record {
+          more = so_far.more ++ Scanning n trial_moment ∷ [];
+          moves = all-append IsMove so_far.more (Scanning n trial_moment ∷ []) so_far.moves (tt, tt);
+          out = subst Q (append_assoc events so_far.more (Scanning n trial_moment ∷ []))
+              (after_one_more P files now (Scanning n trial_moment) (scanned-more before (run_of files now) n so_far.out (nth n (run_of files now).systems) refl));
+        }
+
+    module _ (tag : List ℕ) (all_known : AllAreCarriers files tag) where
+      -- a packet with a message of the area goes somewhere
+      goes_somewhere : (events : List RunEvent) (p : Packet) → Among p (run_of files events).packets → (c : Filed) → Among c (copies p) → c.echo.tag ≡ tag →
+          ¬ GoesNowhere p
+      goes_somewhere events p h c i of_area nowhere =
+          let (e, at, same) = export-of events p h in
+          let (s, there, _, copied) = known.made events e at in
+          let P : Packet → Type 0 = λ x. Among c (copies x) in
+          let (m, _, is_copy) = copied c (subst P same i) in
+          let to = destination e.packet in
+          let tag_is : m.echo.tag ≡ tag = sym (exported-tag s.file m.echo) ∙ (ap (λ (x : _). x.tag) (sym is_copy.text) ∙ of_area) in
+          let link : is_link s.file tag to ≡ true = ap (λ (t : List ℕ). is_link s.file t to) (sym tag_is) ∙ among-link s.file m.echo.tag to (target-link s.file m to is_copy.target) in
+          let listed : lists files tag s.file.system to ≡ true =
+          any-to (λ file. same_address file.system s.file.system && is_link file tag to) s.file files
+          (file-there events s (nth-among e.system s (run_of files events).systems there)) (and-from (same_address s.file.system s.file.system) (is_link s.file tag to) ((same_address_decides s.file.system s.file.system).1 refl) link) in
+          let (file, j, t) = any-from (λ file. same_address file.system to && has_area file tag) files (all_known s.file.system to listed) in
+          nowhere file j ((same_address_decides file.system to).0 (and-parts (same_address file.system to) (has_area file tag) t).0 ∙ ap (λ (x : Packet). destination x) (sym same))
+
+      -- one round: all systems scan, and packets come until one of them is news
+      record Round (events : List RunEvent) : Type 0 where
+        more : List RunEvent
+        moves : AllByRecursion IsMove more
+        out : Fewer (run_of files events) (run_of files (events ++ more)) ⊎ Settled (run_of files (events ++ more)) tag
+
+      round : (events : List RunEvent) → Within (run_of files events) → Round events
+      round events within =
+          let first = scan events within (length (run_of files events).systems) in
+          let scans = events ++ first.more in
+          let start = run_of files scans in
+          let second = deliver scans first.out.within (length start.packets) in
+          let P : List RunEvent → Type 0 = λ es. Fewer (run_of files events) (run_of files es) ⊎ Settled (run_of files es) tag in
+          let quiet : Quiet start = λ s h.
+          let (i, at) = among-nth s start.systems h in
+          first.out.quiet i s (let below = nth-index i s start.systems at in let size = first.out.size in omega arith) at in
+          record {
+            more = first.more ++ second.more;
+            moves = all-append IsMove first.more second.more first.moves second.moves;
+            out = subst P (append_assoc events first.more second.more) (elim second.out [
+              | inl fewer ↦ inl (record { within = fewer.within; fewer = omega (arith, fewer.fewer, first.out.lacks) })
+              | inr rests ↦ inr (at_rest scans (scans ++ second.more) quiet rests)
+            ]);
+          }
+        where
+          at_rest : (scans later : List RunEvent) → Quiet (run_of files scans) → Rests (run_of files scans) (run_of files later) (length (run_of files scans).packets) →
+              Settled (run_of files later) tag
+          at_rest scans later quiet rests =
+              let run = run_of files later in
+              let Q : List System → Type 0 = λ ss. (s : System) → Among s ss → drop s.cursor s.base ≡ [] in
+              let still = subst Q (sym rests.systems) quiet in
+              record {
+                scanned = λ s h m i of_area. (let R : List Filed → Type 0 = λ ms. Among m ms in subst R (still s h) i);
+                delivered = λ before p after whole m i of_area.
+                    let S : List Packet → Type 0 = λ ps. nth (length before) ps ≡ Some p in
+                    let at = subst S (sym whole) (nth-middle p before after) in
+                    let below = nth-index (length before) p run.packets at in
+                    let size = ap (λ (ps : List Packet). length ps) rests.packets in
+                    elim (rests.came (length before) p (omega (arith, below, size)) at) [
+                      | inl came ↦ came
+                      | inr nowhere ↦ absurd (goes_somewhere later p (nth-among (length before) p run.packets at) m i of_area nowhere)
+                    ];
+              }
+
+      record Settling (events : List RunEvent) : Type 0 where
+        more : List RunEvent
+        moves : AllByRecursion IsMove more
+        settled : Settled (run_of files (events ++ more)) tag
+
+      settle : (n : ℕ) (events : List RunEvent) → Within (run_of files events) → all_lacking keys (run_of files events).systems ≤ n → Settling events
+      settle zero events within few =
+          let one = round events within in
+          elim one.out [
+            | inl fewer ↦ absurd (let less = fewer.fewer in omega arith)
+            | inr settled ↦ record { more = one.more; moves = one.moves; settled = settled }
+          ]
+      settle (suc n) events within few =
+          let one = round events within in
+          elim one.out [
+            | inl fewer ↦ (let rest = settle n (events ++ one.more) fewer.within (let less = fewer.fewer in omega arith) in
+                let P : List RunEvent → Type 0 = λ es. Settled (run_of files es) tag in
+                record {
+                  more = one.more ++ rest.more;
+                  moves = all-append IsMove one.more rest.more one.moves rest.moves;
+                  settled = subst P (append_assoc events one.more rest.more) rest.settled;
+                })
+            | inr settled ↦ record { more = one.more; moves = one.moves; settled = settled }
+          ]
+
+-- the keys of all that systems filed
+all_keys : List System → List Key
+all_keys [] = []
+all_keys (s ∷ ss) = map key_of s.history ++ all_keys ss
+
+all_keys-has : (ss : List System) (s : System) → Among s ss → (m : Filed) → Among m s.history → Among (key_of m) (all_keys ss)
+unfolding all_keys
+all_keys-has [] s h m i = absurd h
+all_keys-has (z ∷ ss) s h m i =
+    elim h [
+      | inl e ↦ (let P : System → Type 0 = λ x. Among m x.history in
+          Among-append_left (key_of m) (map key_of z.history) (all_keys ss) (Among-map_to key_of m z.history (subst P e i)))
+      | inr t ↦ Among-append_right (key_of m) (map key_of z.history) (all_keys ss) (all_keys-has ss s t m i)
+    ]
+
+pub runs-settle : (files : List LinkFile) → LawsOfRuns files → (tag : List ℕ) → AllAreCarriers files tag → (events : List RunEvent) →
+    (more : List RunEvent) × AllByRecursion IsMove more × Settled (run_of files (events ++ more)) tag
+runs-settle files known tag all_known events =
+    let ss = (run_of files events).systems in
+    let rest = settle files known (all_keys ss) tag all_known (all_lacking (all_keys ss) ss) events (all_keys-has ss) (omega arith) in
+    (rest.more, rest.moves, rest.settled)

@@ -1,0 +1,322 @@
+-- Rounds bring one message to rest: each is news to a system, or the last.
+use Rattle.std.proofs.Common.{◌≡◌, ◌⊎◌, inl, inr, refl, sym, subst, ap, ◌∙◌, ℕ, zero, suc, ◌+◌, ◌<◌, ◌≤◌, ◌==◌, arith, List, [], ◌∷◌, ◌++◌, length, take, drop, Option, Some, None}
+use Rattle.std.specs.Prelude.{Bool, true, false, ◌&&◌, if◌then◌else◌, nat_le}
+use Rattle.std.specs.List.{flat_map, list_all, list_any}
+use Rattle.std.proofs.lemmas.Bool.{cases_eq}
+use Rattle.std.proofs.lemmas.Bool.Decides.{nat_tests}
+use Rattle.std.proofs.lemmas.List.{append_assoc, append-nil, length-drop, length-map}
+use Rattle.echo_addr.specs.declared.address.Address.{Address}
+use Rattle.model_graph.specs.Walk.{Among}
+use Rattle.model_graph.proofs.Members.{Among-append_cases}
+use Rattle.model_steps.specs.declared.packet.Packet.{Packet}
+use Rattle.echo_links.specs.Links.{LinkFile, has_area, is_link, same_address}
+use Rattle.echo_links.proofs.Addresses.{same_address_decides}
+use Rattle.echo_filed.specs.declared.key.Key.{Key}
+use Rattle.echo_filed.specs.Filed.{Filed, key_of}
+use Rattle.model_steps.specs.Scanning.{recipients, scanned, targets}
+use Rattle.model_steps.specs.Tossing.{sender_of}
+use Rattle.model_run.specs.Event.{RunEvent, Delivery, Scanning}
+use Rattle.model_run.specs.Run.{Run, System, change, coming, delivery, destination, nth, receiver, run_of, scanning, taking, with_index}
+use Rattle.model_run.specs.Orderly.{tag_of}
+use Rattle.model_run.specs.World.{is_settled, missing, undelivered}
+use Rattle.model_run.proofs.Copies.{packet-destination}
+use Rattle.model_run.proofs.Lists.{Among-drop, Among-take, any-to, none_some, not_both, nth-among}
+use Rattle.model_run.proofs.TosserLaws.{the_laws}
+use Rattle.model_run.proofs.WellFormed.{scanned-from}
+use Rattle.model_run.specs.Grave.{AllAreCarriers}
+use Rattle.model_run.specs.LawsOfRuns.{LawsOfRuns}
+use Rattle.model_run.specs.Postings.{trial_moment, trial_posting}
+use Rattle.model_run.specs.Rounds.{deliveries, round_after, scans}
+use Rattle.model_run.proofs.Entries.{among-link, target-link}
+use Rattle.base_file.specs.Base.{is_known}
+use Rattle.model_run.proofs.Holders.{key-tag}
+use Rattle.model_run.proofs.Lacking.{all_lacking, change-fewer, lacking, tossing-fewer, weight}
+use Rattle.model_run.proofs.HarmLists.{among-nth, none_passes, nth-below, nth-index}
+use Rattle.model_run.proofs.OneMessage.{only-posted, post_of, post_of-tag}
+use Rattle.model_run.proofs.Places.{carrier-file, file-lists}
+use Rattle.model_run.proofs.Resting.{Scanned, Within, file-there, new-key, packed-within, scanned-more, system-there, taken-within, with_index-new, with_index-old}
+use Rattle.model_run.proofs.HarmSteps.{after_one_more, run-files}
+
+among-flat : {X Y : Type 0} (g : X → List Y) (y : Y) (xs : List X) → Among y (flat_map g xs) → (x : X) × Among x xs × Among y (g x)
+among-flat g y [] h = absurd h
+among-flat g y (x ∷ xs) h =
+    elim (Among-append_cases y (g x) (flat_map g xs) h) [
+      | inl here ↦ (x, inl refl, here)
+      | inr later ↦ (let (z, i, there) = among-flat g y xs later in (z, inr i, there))
+    ]
+
+-- a packet of a scan goes to a target of something that waits
+recipient-target : (file : LinkFile) (waiting : List Filed) (a : Address) → Among a (recipients file waiting) →
+    (m : Filed) × Among m waiting × Among a (targets file m)
+unfolding recipients
+recipient-target file waiting a h = among-flat (targets file) a waiting (the_laws.addresses_only a (flat_map (targets file) waiting) h)
+
+-- nothing is missing where all indexes are delivered
+none-missing : (delivered : List ℕ) (k : ℕ) (ps : List Packet) → ((j : ℕ) → j < length ps → Among (k + j) delivered) → missing delivered k ps ≡ 0
+none-missing delivered k [] all = refl
+none-missing delivered k (p ∷ ps) all =
+    let P : ℕ → Type 0 = λ n. Among n delivered in
+    let here : Among k delivered = subst P (omega arith) (all 0 (omega arith)) in
+    let yes : list_any (λ d. d == k) delivered ≡ true = any-to (λ d. d == k) k delivered here (is-same k) in
+    let weight : Bool → ℕ = λ b. if b then 0 else 1 in
+    let first : weight (list_any (λ d. d == k) delivered) ≡ 0 = ap weight yes in
+    let later = none-missing delivered (k + 1) ps (λ j less. subst P (omega arith) (all (j + 1) (omega arith))) in
+    omega (arith, first, later)
+  where
+    is-same : (n : ℕ) → (n == n) ≡ true
+    is-same n = grind (arith, nat_tests)
+
+-- nothing waits where each list from the cursor on is empty
+all-scanned : (ss : List System) → ((s : System) → Among s ss → drop s.cursor s.base ≡ []) → list_all (λ s. nat_le (length s.base) s.cursor) ss ≡ true
+all-scanned [] quiet = refl
+all-scanned (s ∷ ss) quiet =
+    let none = ap (λ (ms : List Filed). length ms) (quiet s (inl refl)) in
+    let here : length s.base ≤ s.cursor = omega (arith, length-drop s.cursor s.base, none) in
+    both (nat_le (length s.base) s.cursor) (list_all (λ z. nat_le (length z.base) z.cursor) ss) (passes (length s.base) s.cursor here)
+    (all-scanned ss (λ z h. quiet z (inr h)))
+  where
+    passes : (a b : ℕ) → a ≤ b → nat_le a b ≡ true
+    passes a b h = grind (arith, nat_tests)
+
+    both : (a b : Bool) → a ≡ true → b ≡ true → a && b ≡ true
+    both true b e f = f
+    both false b e f = absurd (not_both false e refl)
+
+-- each system lacks one key at most
+few_lack : (key : Key) (ss : List System) → all_lacking (key ∷ []) ss ≤ length ss
+few_lack key [] = omega arith
+few_lack key (s ∷ ss) = omega (arith, few_lack key ss, one (is_known s.base key))
+  where
+    one : (b : Bool) → weight b ≤ 1
+    one true = omega arith
+    one false = omega arith
+
+module _ (files : List LinkFile) (known : LawsOfRuns files) (tag : List ℕ) (all_known : AllAreCarriers files tag)
+    (i : ℕ) (file : LinkFile) (is : nth i files ≡ Some file) (area : has_area file tag ≡ true) where
+  abbrev keys : List Key
+  keys = key_of (post_of file tag) ∷ []
+
+  abbrev Only : Run → Type 0
+  Only run = Within files known keys run
+
+  -- each packet is for the address of a file
+  abbrev Home : Run → Type 0
+  Home run = (p : Packet) → Among p run.packets → (f : LinkFile) × Among f files × (f.system ≡ destination p)
+
+  of_area : (m : Filed) → Among (key_of m) keys → m.echo.tag ≡ tag
+  of_area m h =
+      elim h [
+        | inl e ↦ sym (key-tag m) ∙ (ap tag_of e ∙ (key-tag (post_of file tag) ∙ post_of-tag files known tag i file is area))
+        | inr none ↦ absurd none
+      ]
+
+  module _ (events : List RunEvent) (only : Only (run_of files events)) where
+    abbrev now : Run
+    now = run_of files events
+
+    sent-home : (s : System) → Among s now.systems → (p : Packet) → Among p (scanned s.file s.base s.cursor trial_moment) →
+        (f : LinkFile) × Among f files × (f.system ≡ destination p)
+    sent-home s h p new =
+        let (to, j, made) = scanned-from the_laws s.file s.base s.cursor trial_moment p new in
+        let (m, waits, target) = recipient-target s.file (drop s.cursor s.base) to j in
+        let P : List Filed → Type 0 = λ ms. Among m ms in
+        let tag_is = of_area m (only s h m (Among-drop s.cursor m s.history (subst P (known.waiting events s h) waits))) in
+        let link : is_link s.file tag to ≡ true =
+        ap (λ (t : List ℕ). is_link s.file t to) (sym tag_is) ∙ among-link s.file m.echo.tag to (target-link s.file m to target) in
+        let (f, at, e, _) = carrier-file files tag to (all_known s.file.system to (file-lists files tag s.file (file-there files known events s h) to link)) in
+        (f, at, e ∙ (sym (packet-destination the_laws s.file trial_moment (drop s.cursor s.base) to) ∙ ap (λ (q : Packet). destination q) (sym made)))
+
+    home-scanned : Home now → (n : ℕ) (o : Option System) → nth n now.systems ≡ o → Home (scanning now n trial_moment o)
+    home-scanned home n None e = home
+    home-scanned home n (Some s) e = λ p h. elim (Among-append_cases p now.packets (scanned s.file s.base s.cursor trial_moment) h) [
+      | inl old ↦ home p old
+      | inr new ↦ sent-home s (nth-among n s now.systems e) p new
+    ]
+
+  -- all systems scan
+  record AllScanned (before after : Run) (n : ℕ) : Type 0 where
+    scanned : Scanned files known keys before after n
+    home : Home after
+
+  all_scan : (events : List RunEvent) → Only (run_of files events) → Home (run_of files events) → (n : ℕ) →
+      AllScanned (run_of files events) (run_of files (events ++ scans n)) n
+  all_scan events only home zero =
+      let P : List RunEvent → Type 0 = λ es. AllScanned (run_of files events) (run_of files es) 0 in
+      subst P (sym (append-nil events)) (record {
+        scanned = record { within = only; lacks = refl; quiet = λ j s less. absurd (omega arith); size = refl };
+        home = home;
+      })
+  all_scan events only home (suc n) =
+      let before = run_of files events in
+      let so_far = all_scan events only home n in
+      let then_ = events ++ scans n in
+      let P : Run → Type 0 = λ run. AllScanned before run (suc n) in
+      let Q : List RunEvent → Type 0 = λ es. P (run_of files es) in
+      subst Q (append_assoc events (scans n) (Scanning n trial_moment ∷ []))
+      (after_one_more P files then_ (Scanning n trial_moment) (record {
+        scanned = scanned-more files known keys before (run_of files then_) n so_far.scanned (nth n (run_of files then_).systems) refl;
+        home = home-scanned then_ so_far.scanned.within so_far.home n (nth n (run_of files then_).systems) refl;
+      }))
+
+  -- all packets come
+  record AllCame (start run : Run) (n : ℕ) : Type 0 where
+    within : Only run
+    home : Home run
+    packets : run.packets ≡ start.packets
+    fewer : (run.systems ≡ start.systems) ⊎ (all_lacking keys run.systems < all_lacking keys start.systems)
+    came : (k : ℕ) → k < n → k < length start.packets → Among k run.delivered
+
+  fewer-still : (start : Run) (before after : List System) →
+      (before ≡ start.systems) ⊎ (all_lacking keys before < all_lacking keys start.systems) →
+      (after ≡ before) ⊎ (all_lacking keys after < all_lacking keys before) →
+      (after ≡ start.systems) ⊎ (all_lacking keys after < all_lacking keys start.systems)
+  fewer-still start before after (inl same) (inl still) = inl (still ∙ same)
+  fewer-still start before after (inl same) (inr less) = inr (let e = ap (λ (ss : List System). all_lacking keys ss) same in omega (arith, less, e))
+  fewer-still start before after (inr less) (inl still) = inr (let e = ap (λ (ss : List System). all_lacking keys ss) still in omega (arith, less, e))
+  fewer-still start before after (inr less) (inr lesser) = inr (omega (arith, less, lesser))
+
+  module _ (start : Run) (events : List RunEvent) (k : ℕ) (so_far : AllCame start (run_of files events) k) where
+    abbrev then_ : Run
+    then_ = run_of files events
+
+    up-to : (after : List ℕ) → ((j : ℕ) → Among j then_.delivered → Among j after) → (k < length start.packets → Among k after) →
+        (j : ℕ) → j < suc k → j < length start.packets → Among j after
+    up-to after more here j less there =
+        elim (cases_eq j k) [
+          | inr other ↦ more j (so_far.came j (omega arith) there)
+          | inl same ↦ (let P : ℕ → Type 0 = λ n. Among n after in subst P (sym same) (here (omega (arith, same))))
+        ]
+
+    module _ (p : Packet) (at : nth k then_.packets ≡ Some p) where
+      there : Among p then_.packets
+      there = nth-among k p then_.packets at
+
+      each : (s : System) → Among s then_.systems →
+          (taking p (length p.messages) s ≡ s) ⊎ (lacking keys (taking p (length p.messages) s).base < lacking keys s.base)
+      each s h =
+          let sender = sender_of s.file p.header in
+          tossing-fewer keys sender (take (length p.messages) p.messages)
+          (λ q j. packed-within files known keys events so_far.within p there q (Among-take (length p.messages) q p.messages j) sender)
+          (λ z q m e. new-key files known keys z sender q m e) s
+
+      comes : (o : Option System) → nth (receiver then_ p) then_.systems ≡ o → AllCame start (coming then_ k p o) (suc k)
+      comes None e =
+          let (f, h, same) = so_far.home p there in
+          let (s, j, is_file) = system-there files known events f h in
+          let to : s.file.system ≡ destination p = ap (λ (g : LinkFile). g.system) (sym is_file) ∙ same in
+          absurd (not_both (same_address s.file.system (destination p)) ((same_address_decides s.file.system (destination p)).1 to)
+          (none_passes (λ z. same_address z.file.system (destination p)) then_.systems e s j))
+      comes (Some s) e = record {
+        within = taken-within files known keys events so_far.within k p there (length p.messages) (receiver then_ p);
+        home = so_far.home;
+        packets = so_far.packets;
+        fewer = fewer-still start then_.systems (change (receiver then_ p) (taking p (length p.messages)) then_.systems) so_far.fewer
+            (change-fewer keys (taking p (length p.messages)) then_.systems each (receiver then_ p));
+        came = up-to (with_index k then_.delivered) (λ j h. with_index-old files known keys k j then_.delivered h) (λ _. with_index-new files known keys k then_.delivered);
+      }
+
+    one_comes : (o : Option Packet) → nth k then_.packets ≡ o → AllCame start (delivery then_ k o) (suc k)
+    one_comes None e = record {
+      within = so_far.within;
+      home = so_far.home;
+      packets = so_far.packets;
+      fewer = so_far.fewer;
+      came = up-to then_.delivered (λ j h. h) (λ below.
+          let size = ap (λ (ps : List Packet). length ps) so_far.packets in
+          let (p, at) = nth-below k then_.packets (omega (arith, below, size)) in
+          absurd (none_some (sym e ∙ at)));
+    }
+    one_comes (Some p) e = comes p e (nth (receiver then_ p) then_.systems) refl
+
+  all_come : (events : List RunEvent) → Only (run_of files events) → Home (run_of files events) → (n : ℕ) →
+      AllCame (run_of files events) (run_of files (events ++ deliveries n)) n
+  all_come events only home zero =
+      let P : List RunEvent → Type 0 = λ es. AllCame (run_of files events) (run_of files es) 0 in
+      subst P (sym (append-nil events)) (record {
+        within = only;
+        home = home;
+        packets = refl;
+        fewer = inl refl;
+        came = λ k less _. absurd (omega arith);
+      })
+  all_come events only home (suc n) =
+      let start = run_of files events in
+      let so_far = all_come events only home n in
+      let before = events ++ deliveries n in
+      let P : Run → Type 0 = λ run. AllCame start run (suc n) in
+      let Q : List RunEvent → Type 0 = λ es. P (run_of files es) in
+      subst Q (append_assoc events (deliveries n) (Delivery n ∷ []))
+      (after_one_more P files before (Delivery n) (one_comes start before n so_far (nth n (run_of files before).packets) refl))
+
+  -- after so many rounds the run has settled, or so few systems lack the message
+  pub record Progress (events : List RunEvent) (n : ℕ) : Type 0 where
+    pub within : Only (run_of files events)
+    home : Home (run_of files events)
+    out : (is_settled (run_of files events) ≡ true) ⊎ (all_lacking keys (run_of files events).systems + n ≤ length files)
+
+  settled-run : (start run : Run) → ((s : System) → Among s start.systems → drop s.cursor s.base ≡ []) → run.systems ≡ start.systems →
+      AllCame start run (length start.packets) → is_settled run ≡ true
+  settled-run start run quiet same all =
+      let Q : List System → Type 0 = λ ss. (s : System) → Among s ss → drop s.cursor s.base ≡ [] in
+      let size = ap (λ (ps : List Packet). length ps) all.packets in
+      let none = none-missing run.delivered 0 run.packets (λ j less. let P : ℕ → Type 0 = λ k. Among k run.delivered in
+      subst P (omega arith) (all.came j (omega (arith, less, size)) (omega (arith, less, size)))) in
+      both (list_all (λ s. nat_le (length s.base) s.cursor) run.systems) (undelivered run) (all-scanned run.systems (subst Q (sym same) quiet)) none
+    where
+      both : (a : Bool) (n : ℕ) → a ≡ true → n ≡ 0 → a && (n == 0) ≡ true
+      both true n e f = grind (arith, nat_tests)
+      both false n e f = absurd (not_both false e refl)
+
+  pub round-progress : (events : List RunEvent) (n next : ℕ) → next ≡ n + 1 → Progress events n → is_settled (run_of files events) ≡ false →
+      Progress (events ++ round_after files events) next
+  round-progress events n next e so_far moving =
+      let before = run_of files events in
+      let few : all_lacking keys before.systems + n ≤ length files = elim so_far.out [
+        | inl settled ↦ absurd (not_both (is_settled before) settled moving)
+        | inr few ↦ few
+      ] in
+      let first = all_scan events so_far.within so_far.home (length files) in
+      let after_scans = events ++ scans (length files) in
+      let start = run_of files after_scans in
+      let second = all_come after_scans first.scanned.within first.home (length start.packets) in
+      let last = run_of files (after_scans ++ deliveries (length start.packets)) in
+      let quiet : (s : System) → Among s start.systems → drop s.cursor s.base ≡ [] = λ s h.
+      let (j, at) = among-nth s start.systems h in
+      first.scanned.quiet j s (omega (arith, nth-index j s start.systems at, sizes after_scans)) at in
+      let P : List RunEvent → Type 0 = λ es. Progress es next in
+      subst P (append_assoc events (scans (length files)) (deliveries (length start.packets))) (record {
+        within = second.within;
+        home = second.home;
+        out = elim second.fewer [
+          | inl same ↦ inl (settled-run start last quiet same second)
+          | inr less ↦ inr (let lacks = first.scanned.lacks in omega (arith, e, less, few, lacks))
+        ];
+      })
+    where
+      sizes : (es : List RunEvent) → length (run_of files es).systems ≡ length files
+      sizes es = sym (length-map (run_of files es).systems (λ (s : System). s.file)) ∙ ap (λ (fs : List LinkFile). length fs) (run-files files es)
+
+  -- nothing but the posting has happened
+  pub first-progress : Progress (trial_posting i tag ∷ []) 0
+  first-progress =
+      let run = run_of files (trial_posting i tag ∷ []) in
+      let only = only-posted files known tag i file is area [] tt in
+      let size = sym (length-map run.systems (λ (s : System). s.file)) ∙ ap (λ (fs : List LinkFile). length fs) (run-files files (trial_posting i tag ∷ [])) in
+      record {
+        within = λ s h m l.
+            let (j, at) = among-nth s run.systems h in
+            elim (only.from j s at m l) [
+              | inl posting ↦ inl (ap key_of posting.1)
+              | inr arrived ↦ absurd arrived.there
+            ];
+        home = λ p h. absurd h;
+        out = inr (omega (arith, few_lack (key_of (post_of file tag)) run.systems, size));
+      }
+
+  -- there are no more rounds than systems, and one
+  pub rounds-settle : (events : List RunEvent) (n : ℕ) → length files < n → Progress events n → is_settled (run_of files events) ≡ true
+  rounds-settle events n many so_far =
+      elim so_far.out [
+        | inl settled ↦ settled
+        | inr few ↦ absurd (omega (arith, few, many))
+      ]

@@ -1,0 +1,321 @@
+-- A scan exports what it passes, one message at a time.
+use Rattle.std.proofs.Common.{◌≡◌, ◌≢◌, ◌⊎◌, ◌↔◌, inl, inr, refl, sym, subst, ap, ◌∙◌, ℕ, ◌+◌, arith, List, [], ◌∷◌, ◌++◌, append_assoc, length, take, drop, map, Some}
+use Rattle.std.specs.Prelude.{Bool, false, bytes_eq, filter, ◌&&◌}
+use Rattle.std.proofs.lemmas.Bool.{cond-false}
+use Rattle.std.proofs.lemmas.List.{take-append-drop, take_all}
+use Rattle.echo_addr.specs.declared.address.Address.{Address}
+use Rattle.echo_addr.specs.declared.address.NetNode.{NetNode}
+use Rattle.model_graph.specs.Walk.{Among, Different}
+use Rattle.model_graph.proofs.Members.{Among-at, Among-append_left, Among-append_right, Among-append_cases}
+use Rattle.model_steps.specs.declared.packet.Packet.{Packet}
+use Rattle.model_steps.specs.declared.stamp.Stamp.{Stamp}
+use Rattle.model_steps.specs.Scanning.{goes_to, scanned, targets}
+use Rattle.echo_links.specs.Links.{same_address}
+use Rattle.echo_filed.specs.declared.key.Key.{Key}
+use Rattle.echo_filed.specs.Sets.{address_set}
+use Rattle.echo_filed.specs.Filed.{Filed, key_of, same_key}
+use Rattle.model_run.specs.Events.{Exports, Text, copy_to}
+use Rattle.model_run.specs.Events as rules
+use Rattle.model_run.specs.Run.{System, Run, change, destination, nth, scanning_at}
+use Rattle.model_run.specs.Orderly.{count, origin, sent_count, tag_of}
+use Rattle.model_run.specs.Keeping.{Content, IsFiledIn, IsHistory, IsSent, copy_count, filed_as, said, sent_as}
+use Rattle.model_run.proofs.Counts.{one_if}
+use Rattle.model_run.proofs.TosserPremises.{Laws}
+use Rattle.model_run.proofs.Lists.{yes_or_no, not_both, and-parts, filter-yes, filter-no, nth-append, some_same, Among-drop, Among-filter_from, Among-filter_to, Among-map_from, Among-map_to}
+use Rattle.model_run.proofs.Bases.{Kept-length, SystemOk}
+use Rattle.model_run.proofs.Areas.{address_of, bytes-equal, bytes-same, key-tag}
+use Rattle.model_run.proofs.Copies.{copied, copied-key, copied-tag, goes-from, goes-to, targets-from, targets-to}
+use Rattle.model_run.proofs.DeliveredOnce.{IsDeliveredOnce}
+use Rattle.model_run.proofs.ScanPackets.{scanned-copied, scanned-count, scanned-origin, target-packet}
+use Rattle.model_run.proofs.ExportLists.{sent-append}
+use Rattle.model_run.proofs.Histories.{Among-in, RCopy, REvent, RFiled, filed-after, filed-before, filed-new}
+
+-- how many copies went to an address, of lists put together, and of one message
+copy_count-append : (x : Address) (k : Key) (cs ds : List RCopy) → copy_count x k (cs ++ ds) ≡ copy_count x k cs + copy_count x k ds
+copy_count-append x k [] ds = omega arith
+copy_count-append x k (c ∷ cs) ds = omega (arith, copy_count-append x k cs ds)
+
+module _ (laws : Laws) (m : RFiled) (text : Text NetNode Key Content) (x : Address) (k : Key) where
+  abbrev copy : Address → RCopy
+  copy = copy_to m (λ y. text)
+
+  other-goal : (y : Address) → y ≢ x → one_if (same_address y x && same_key text.key k) ≡ 0
+  other-goal y other = cond-false {A = ℕ} (same_address y x && same_key text.key k) 1 0 (elim (yes_or_no (same_address y x && same_key text.key k)) [
+    | inr f ↦ f
+    | inl t ↦ absurd (other (laws.addresses.sound y x (and-parts (same_address y x) (same_key text.key k) t).0))
+  ])
+
+  pub sent-nowhere : (to : List Address) → ¬ Among x to → copy_count x k (map copy to) ≡ 0
+  sent-nowhere [] h = refl
+  sent-nowhere (y ∷ to) h = omega (arith, other-goal y (λ e. h (inl (sym e))), sent-nowhere to (λ t. h (inr t)))
+
+  pub sent-there : (to : List Address) → Different to → Among x to → copy_count x k (map copy to) ≡ one_if (same_key text.key k)
+  sent-there [] d h = absurd h
+  sent-there (y ∷ to) d h = elim h [
+    | inr t ↦ omega (arith, other-goal y (λ e. d.0 (Among-at y x to e t)), sent-there to d.1 t)
+    | inl e ↦ (let P : Address → Type 0 = λ a. one_if (same_address a x && same_key text.key k) ≡ one_if (same_key text.key k) in
+        omega (arith, subst P e itself, sent-nowhere to (λ t. d.0 (Among-at y x to (sym e) t))))
+  ]
+    where
+      itself : one_if (same_address x x && same_key text.key k) ≡ one_if (same_key text.key k)
+      itself = ap (λ (b : Bool). one_if (b && same_key text.key k)) (laws.addresses.full x x refl)
+
+module _ (laws : Laws) (tag : List ℕ) (s : System) (ok : SystemOk s) where
+  abbrev targets_of : Filed → List Address
+  targets_of m = address_set (targets s.file m)
+
+  abbrev text_of : Filed → Text NetNode Key Content
+  text_of m = said (copied s.file m)
+
+  abbrev pub export : Filed → REvent
+  export m = Exports (filed_as (address_of s) m) (targets_of m) (λ x. text_of m)
+
+  -- the last message first
+  abbrev pub exports : List Filed → List REvent → List REvent
+  exports [] events = events
+  exports (m ∷ ms) events = export m ∷ exports ms events
+
+  abbrev new_copies : List Filed → List RCopy
+  new_copies [] = []
+  new_copies (m ∷ ms) = map (copy_to (filed_as (address_of s) m) (λ x. text_of m)) (targets_of m) ++ new_copies ms
+
+  pub exports-append : (ms : List Filed) (events past : List REvent) → exports ms events ++ past ≡ exports ms (events ++ past)
+  exports-append [] events past = refl
+  exports-append (m ∷ ms) events past = ap (λ (es : List REvent). export m ∷ es) (exports-append ms events past)
+
+  pub filed-are : (ms : List Filed) (events : List REvent) → rules.filed (exports ms events) ≡ rules.filed events
+  filed-are [] events = refl
+  filed-are (m ∷ ms) events = filed-are ms events
+
+  came-are : (ms : List Filed) (events : List REvent) → rules.came (exports ms events) ≡ rules.came events
+  came-are [] events = refl
+  came-are (m ∷ ms) events = came-are ms events
+
+  pub exported-are : (ms : List Filed) (events : List REvent) → rules.exported (exports ms events) ≡ map (filed_as (address_of s)) ms ++ rules.exported events
+  exported-are [] events = refl
+  exported-are (m ∷ ms) events = ap (λ (fs : List RFiled). filed_as (address_of s) m ∷ fs) (exported-are ms events)
+
+  copies-are : (ms : List Filed) (events : List REvent) → rules.copies (exports ms events) ≡ new_copies ms ++ rules.copies events
+  copies-are [] events = refl
+  copies-are (m ∷ ms) events =
+      let mine = map (copy_to (filed_as (address_of s) m) (λ x. text_of m)) (targets_of m) in
+      ap (λ (cs : List RCopy). mine ++ cs) (copies-are ms events) ∙ sym (append_assoc mine (new_copies ms) (rules.copies events))
+
+  abbrev copy_of : Address → Filed → RCopy
+  copy_of x m = record { from = address_of s; to = x; text = text_of m }
+
+  new-from : (ms : List Filed) (c : RCopy) → Among c (new_copies ms) → (m : Filed) × Among m ms × ((x : Address) × Among x (targets_of m) × (c ≡ copy_of x m))
+  new-from [] c h = absurd h
+  new-from (m ∷ ms) c h =
+      elim (Among-append_cases c (map (copy_to (filed_as (address_of s) m) (λ x. text_of m)) (targets_of m)) (new_copies ms) h) [
+        | inl here ↦ (let (x, i, e) = Among-map_from (copy_to (filed_as (address_of s) m) (λ x. text_of m)) c (targets_of m) here in (m, inl refl, (x, i, e)))
+        | inr later ↦ (let (n, i, rest) = new-from ms c later in (n, inr i, rest))
+      ]
+
+  new-to : (ms : List Filed) (m : Filed) (x : Address) → Among m ms → Among x (targets_of m) → Among (copy_of x m) (new_copies ms)
+  new-to [] m x h i = absurd h
+  new-to (n ∷ ms) m x h i =
+      elim h [
+        | inl e ↦ (let P : Filed → Type 0 = λ z. Among (copy_of x z) (new_copies (n ∷ ms)) in
+            let Q : Filed → Type 0 = λ z. Among x (targets_of z) in
+            subst P (sym e) (Among-append_left (copy_of x n) (map (copy_to (filed_as (address_of s) n) (λ x. text_of n)) (targets_of n)) (new_copies ms)
+            (Among-map_to (copy_to (filed_as (address_of s) n) (λ x. text_of n)) x (targets_of n) (subst Q e i))))
+        | inr t ↦ Among-append_right (copy_of x m) (map (copy_to (filed_as (address_of s) n) (λ x. text_of n)) (targets_of n)) (new_copies ms) (new-to ms m x t i)
+      ]
+
+  -- as many copies as messages that go there
+  count-new : (x : Address) (k : Key) (ms : List Filed) → copy_count x k (new_copies ms) ≡ count k (filter (goes_to s.file x) ms)
+  count-new x k [] = refl
+  count-new x k (m ∷ ms) =
+      let mine = map (copy_to (filed_as (address_of s) m) (λ y. text_of m)) (targets_of m) in
+      let whole = copy_count-append x k mine (new_copies ms) in
+      let size : List Filed → ℕ = λ ns. count k ns in
+      elim (yes_or_no (goes_to s.file x m)) [
+        | inl t ↦ (let there = laws.addresses_all x (targets s.file m) (targets-to laws s.file m x (goes-from laws s.file m x t)) in
+            omega (
+              arith,
+              whole,
+              count-new x k ms,
+              ap size (filter-yes (goes_to s.file x) m ms t),
+              sent-there laws (filed_as (address_of s) m) (text_of m) x k (targets_of m) (laws.addresses_once (targets s.file m)) there,
+              ap (λ (own : Key). one_if (same_key own k)) (copied-key s.file m),
+            ))
+        | inr f ↦ omega (
+          arith,
+          whole,
+          count-new x k ms,
+          ap size (filter-no (goes_to s.file x) m ms f),
+          sent-nowhere laws (filed_as (address_of s) m) (text_of m) x k (targets_of m) (λ h.
+              not_both (goes_to s.file x m) (goes-to laws s.file m x (targets-from laws s.file m x (laws.addresses_only x (targets s.file m) h))) f),
+        )
+      ]
+
+  -- of those of the area where the key is of the area
+  abbrev in_area : Filed → Bool
+  in_area m = bytes_eq m.echo.tag tag
+
+  count-area : (k : Key) → tag_of k ≡ tag → (g : Filed → Bool) (ms : List Filed) → count k (filter g (filter in_area ms)) ≡ count k (filter g ms)
+  count-area k e g [] = refl
+  count-area k e g (m ∷ ms) =
+      let size : List Filed → ℕ = λ ns. count k ns in
+      let inner : List Filed → ℕ = λ ns. count k (filter g ns) in
+      let later = count-area k e g ms in
+      elim (yes_or_no (in_area m)) [
+        | inl t ↦ elim (yes_or_no (g m)) [
+          | inl u ↦ omega (arith, later, ap inner (filter-yes in_area m ms t), ap size (filter-yes g m (filter in_area ms) u), ap size (filter-yes g m ms u))
+          | inr u ↦ omega (arith, later, ap inner (filter-yes in_area m ms t), ap size (filter-no g m (filter in_area ms) u), ap size (filter-no g m ms u))
+        ]
+        | inr f ↦ (let other : same_key (key_of m) k ≡ false = elim (yes_or_no (same_key (key_of m) k)) [
+          | inr u ↦ u
+          | inl u ↦ absurd (not_both (in_area m) (bytes-equal laws m.echo.tag tag (sym (key-tag m) ∙ (ap tag_of (laws.keys.sound (key_of m) k u) ∙ e))) f)
+        ] in
+            elim (yes_or_no (g m)) [
+              | inl u ↦ omega (arith, later, ap inner (filter-no in_area m ms f), ap size (filter-yes g m ms u), cond-false {A = ℕ} (same_key (key_of m) k) 1 0 other)
+              | inr u ↦ omega (arith, later, ap inner (filter-no in_area m ms f), ap size (filter-no g m ms u))
+            ])
+      ]
+
+  -- what waits of the area
+  abbrev pub waits : List Filed
+  waits = filter in_area (drop s.cursor s.history)
+
+  pub waits-from : (m : Filed) → Among m waits → Among m (drop s.cursor s.history) × (m.echo.tag ≡ tag)
+  waits-from m h = (let (i, t) = Among-filter_from in_area m (drop s.cursor s.history) h in (i, bytes-same laws m.echo.tag tag t))
+
+  waits-to : (m : Filed) → Among m (drop s.cursor s.history) → m.echo.tag ≡ tag → Among m waits
+  waits-to m h e = Among-filter_to in_area m (drop s.cursor s.history) h (bytes-equal laws m.echo.tag tag e)
+
+  module _ (run : Run) (i : ℕ) (at_s : nth i run.systems ≡ Some s) (stamp : Stamp) (delivered : IsDeliveredOnce run)
+      (events : List REvent) (history : IsHistory tag run events) where
+    abbrev made : List Packet
+    made = scanned s.file s.base s.cursor stamp
+
+    abbrev after : Run
+    after = record { systems = change i scanning_at run.systems; packets = run.packets ++ made; delivered = run.delivered }
+
+    abbrev scanned_part : System → List Filed
+    scanned_part t = take t.cursor t.history
+
+    all-done : take (length s.base) s.history ≡ s.history
+    all-done = take_all (length s.base) s.history (omega (arith, Kept-length s.cursor s.base s.history ok.kept))
+
+    split : (n : Filed) → Among n s.history → Among n (take s.cursor s.history) ⊎ Among n (drop s.cursor s.history)
+    split n h =
+        Among-append_cases n (take s.cursor s.history) (drop s.cursor s.history)
+        (Among-in n s.history (take s.cursor s.history ++ drop s.cursor s.history) (sym (take-append-drop s.cursor s.history)) h)
+
+    in-done : (n : Filed) → Among n s.history → Among n (take (length s.base) s.history)
+    in-done n h = Among-in n s.history (take (length s.base) s.history) (sym all-done) h
+
+    more : (n : Filed) → Among n (take (length s.base) s.history) → Among n (take s.cursor s.history) ⊎ Among n (drop s.cursor s.history)
+    more n h = split n (Among-in n (take (length s.base) s.history) s.history all-done h)
+
+    keeps : (n : Filed) → Among n (take s.cursor s.history) → Among n (take (length s.base) s.history)
+    keeps n h = in-done n (Among-in n (take s.cursor s.history ++ drop s.cursor s.history) s.history (take-append-drop s.cursor s.history)
+        (Among-append_left n (take s.cursor s.history) (drop s.cursor s.history) h))
+
+    comes : (n : Filed) → Among n (drop s.cursor s.history) → Among n (take (length s.base) s.history)
+    comes n h = in-done n (Among-drop s.cursor n s.history h)
+
+    exported-then : (m : RFiled) → Among m (rules.exported (exports waits events)) ↔ IsFiledIn tag scanned_part (change i scanning_at run.systems) m
+    exported-then m = (
+      λ h. elim (Among-append_cases m (map (filed_as (address_of s)) waits) (rules.exported events)
+          (Among-in m (rules.exported (exports waits events)) (map (filed_as (address_of s)) waits ++ rules.exported events) (exported-are waits events) h)) [
+            | inr old ↦ filed-after tag run.systems i scanning_at s at_s refl scanned_part (drop s.cursor s.history) more keeps comes m ((history.exported m).0 old)
+            | inl now ↦ (let (n, j, e) = Among-map_from (filed_as (address_of s)) m waits now in
+                let (k, area) = waits-from n j in
+                filed-new tag run.systems i scanning_at s at_s refl scanned_part (drop s.cursor s.history) more keeps comes m (n, k, area, e))
+          ],
+      λ is. Among-in m (map (filed_as (address_of s)) waits ++ rules.exported events) (rules.exported (exports waits events)) (sym (exported-are waits events))
+          (elim (filed-before tag run.systems i scanning_at s at_s refl scanned_part (drop s.cursor s.history) more keeps comes m is) [
+            | inl old ↦ Among-append_right m (map (filed_as (address_of s)) waits) (rules.exported events) ((history.exported m).1 old)
+            | inr now ↦ (let (n, j, area, e) = now in
+                let P : RFiled → Type 0 = λ f. Among f (map (filed_as (address_of s)) waits) in
+                Among-append_left m (map (filed_as (address_of s)) waits) (rules.exported events)
+                (subst P (sym e) (Among-map_to (filed_as (address_of s)) n waits (waits-to n j area))))
+          ]),
+    )
+
+    filed-then : (m : RFiled) → Among m (rules.filed (exports waits events)) ↔ IsFiledIn tag (λ t. t.history) (change i scanning_at run.systems) m
+    filed-then m = (
+      λ h. filed-after tag run.systems i scanning_at s at_s refl (λ t. t.history) [] (λ n j. inl j) (λ n j. j) (λ n j. absurd j) m
+          ((history.filed m).0 (Among-in m (rules.filed (exports waits events)) (rules.filed events) (filed-are waits events) h)),
+      λ is. Among-in m (rules.filed events) (rules.filed (exports waits events)) (sym (filed-are waits events))
+          (elim (filed-before tag run.systems i scanning_at s at_s refl (λ t. t.history) [] (λ n j. inl j) (λ n j. j) (λ n j. absurd j) m is) [
+            | inl old ↦ (history.filed m).1 old
+            | inr none ↦ absurd none.1
+          ]),
+    )
+
+    sent-then : (c : RCopy) → Among c (rules.copies (exports waits events)) ↔ IsSent tag (run.packets ++ made) c
+    sent-then c = (
+      λ h. elim (Among-append_cases c (new_copies waits) (rules.copies events)
+          (Among-in c (rules.copies (exports waits events)) (new_copies waits ++ rules.copies events) (copies-are waits events) h)) [
+            | inr old ↦ (let is = (history.sent c).0 old in record {
+              packet = is.packet;
+              there = Among-append_left is.packet run.packets made is.there;
+              message = is.message;
+              inside = is.inside;
+              area = is.area;
+              same = is.same;
+            })
+            | inl now ↦ (let (m, j, (x, target, e)) = new-from waits c now in
+                let (k, area) = waits-from m j in
+                let (p, l, from, to, inside) = target-packet laws s ok stamp m k x (targets-from laws s.file m x (laws.addresses_only x (targets s.file m) target)) in
+                let whole : Address → Address → RCopy = λ a b. record { from = a; to = b; text = text_of m } in
+                record {
+                  packet = p;
+                  there = Among-append_right p run.packets made l;
+                  message = copied s.file m;
+                  inside = inside;
+                  area = copied-tag s.file m ∙ area;
+                  same = e ∙ (ap (λ (a : Address). whole a x) (sym from) ∙ ap (λ (b : Address). whole (origin p) b) (sym to));
+                })
+          ],
+      λ is. Among-in c (new_copies waits ++ rules.copies events) (rules.copies (exports waits events)) (sym (copies-are waits events))
+          (elim (Among-append_cases is.packet run.packets made is.there) [
+            | inl old ↦ Among-append_right c (new_copies waits) (rules.copies events) ((history.sent c).1 (record {
+              packet = is.packet;
+              there = old;
+              message = is.message;
+              inside = is.inside;
+              area = is.area;
+              same = is.same;
+            }))
+            | inr now ↦ (let (m, j, target, e) = scanned-copied laws s ok stamp is.packet now is.message is.inside in
+                let area : m.echo.tag ≡ tag = sym (copied-tag s.file m) ∙ (ap (λ (n : Filed). n.echo.tag) (sym e) ∙ is.area) in
+                let x = destination is.packet in
+                let there = new-to waits m x (waits-to m j area) (laws.addresses_all x (targets s.file m) (targets-to laws s.file m x target)) in
+                let P : RCopy → Type 0 = λ d. Among d (new_copies waits) in
+                let whole : Address → Filed → RCopy = λ a n. record { from = a; to = x; text = said n } in
+                Among-append_left c (new_copies waits) (rules.copies events)
+                (subst P (sym (is.same ∙ (ap (λ (a : Address). whole a is.message) (scanned-origin laws s ok stamp is.packet now) ∙ ap (λ (n : Filed). whole (address_of s) n) e))) there))
+          ]),
+    )
+
+    as-many : (x : Address) (k : Key) → tag_of k ≡ tag → copy_count x k (rules.copies (exports waits events)) ≡ sent_count x k (run.packets ++ made)
+    as-many x k e =
+        omega (
+          arith,
+          ap (λ (cs : List RCopy). copy_count x k cs) (copies-are waits events),
+          copy_count-append x k (new_copies waits) (rules.copies events),
+          count-new x k waits,
+          count-area k e (goes_to s.file x) (drop s.cursor s.history),
+          history.as_many x k e,
+          sent-append x k run.packets made,
+          scanned-count laws s ok stamp x k,
+        )
+
+    pub history-scans : IsHistory tag after (exports waits events)
+    history-scans = record {
+      filed = filed-then;
+      exported = exported-then;
+      sent = sent-then;
+      as_many = as-many;
+      came = λ k h p e m j area.
+          let (q, at) = delivered.there k h in
+          let same : q ≡ p = some_same (sym (nth-append k q run.packets made at) ∙ e) in
+          let P : Packet → Type 0 = λ r. nth k run.packets ≡ Some r in
+          Among-in (sent_as p m) (rules.came events) (rules.came (exports waits events)) (sym (came-are waits events))
+          (history.came k h p (subst P same at) m j area);
+    }

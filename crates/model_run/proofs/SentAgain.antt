@@ -1,0 +1,78 @@
+-- What a system sends again is in packets that it made before.
+use Rattle.std.proofs.Common.{◌≡◌, inl, inr, refl, sym, subst, ap, ◌∙◌, ℕ, List, take, Option, Some, None}
+use Rattle.std.specs.Prelude.{Bool, true, filter, not, is_some, bytes_eq, ◌&&◌, ◌==◌}
+use Rattle.std.proofs.lemmas.Bool.{eqb-true, true≢false}
+use Rattle.echo_addr.specs.declared.address.Address.{Address}
+use Rattle.model_graph.specs.Walk.{Among}
+use Rattle.echo_packet.specs.Message.{Message}
+use Rattle.echo_text.specs.Echo.{msgid_of}
+use Rattle.echo_links.specs.Links.{LinkFile}
+use Rattle.echo_filed.specs.declared.key.Key.TheVariants.{ByContent, ById}
+use Rattle.echo_filed.specs.Filed.{Filed, key_of, key_with}
+use Rattle.echo_filed.specs.Stubs.{is_stub, stub_of, stub_with}
+use Rattle.echo_filed.proofs.Keys.{stub_of_stub}
+use Rattle.echo_filed.proofs.StubTests.{stub_told}
+use Rattle.model_steps.specs.declared.packet.Packet.{Packet}
+use Rattle.model_steps.specs.Resending.{is_resent, is_whole_in, resent, scanned_from}
+use Rattle.model_steps.specs.Scanning.{copy_to, goes_to}
+use Rattle.model_run.specs.Event.{RunEvent}
+use Rattle.model_run.specs.Run.{System, destination, nth, run_of}
+use Rattle.model_run.specs.Exports.{Export, exports}
+use Rattle.model_run.specs.Fits.{FilesFit}
+use Rattle.model_run.proofs.TosserPremises.{Laws}
+use Rattle.model_run.proofs.Lists.{and-parts, nth-among, Among-drop, Among-filter_from, Among-map_from}
+use Rattle.model_run.proofs.Bases.{IsKept, Kept-front}
+use Rattle.model_run.proofs.WholeRuns.{run-ok}
+use Rattle.model_run.proofs.ExportLog.{run-logged}
+
+-- what is a stub and is not purged has no id
+no-id : (id : Option (List ℕ)) (stub : Bool) → not (is_some id && stub) ≡ true → stub ≡ true → id ≡ None
+no-id None stub whole is = refl
+no-id (Some id) stub whole is = absurd (true≢false (sym (let P : Bool → Type 0 = λ b. not b ≡ true in subst P is whole)))
+
+-- a message with the key of one without an id is its own stub
+unstubbed : (b h : Filed) → key_of b ≡ key_of h → msgid_of b.echo.kept ≡ None → stub_of h ≡ h
+unfolding key_of stub_of
+unstubbed b h key none = by-id (msgid_of h.echo.kept) (ap (λ (o : Option (List ℕ)). key_with b o) (sym none) ∙ key)
+  where
+    by-id : (o : Option (List ℕ)) → key_with b None ≡ key_with h o → stub_with h o ≡ h
+    by-id None e = refl
+    by-id (Some id) e = absurd (other e)
+      where
+        other : ByContent b.echo.tag b.date b.to_name b.from_name b.subject b.echo.kept ≡ ById h.echo.tag id → ⊥
+        other e = cc
+
+-- a message that is not purged is as it was filed
+as-filed : (area : List ℕ) (b h : Filed) → IsKept b h → is_whole_in area b ≡ true → b ≡ h
+as-filed area b h kept whole =
+    elim kept.form [
+      | inl same ↦ same
+      | inr stub ↦ (let again : stub_of b ≡ b = ap stub_of stub ∙ (stub_of_stub h ∙ sym stub) in
+          let text = (and-parts (bytes_eq b.echo.tag area) (not (is_some (msgid_of b.echo.kept) && is_stub b)) whole).1 in
+          stub ∙ unstubbed b h kept.key (no-id (msgid_of b.echo.kept) (is_stub b) text ((stub_told b).1 again)))
+    ]
+
+module _ (laws : Laws) (files : List LinkFile) (fit : FilesFit files) (events : List RunEvent) (i : ℕ) (s : System)
+    (at : nth i (run_of files events).systems ≡ Some s) where
+  pub sent-again : (area : List ℕ) (to : Address) (first : ℕ) (again : Message) → Among again (resent s.file area to first s.base s.cursor) →
+      (e : Export) × Among e (exports files events) × (e.system ≡ i) × (destination e.packet ≡ to) × Among again e.packet.messages
+  sent-again area to first again h =
+      let made = (run-logged laws files fit events).1.made i s at in
+      let ok = (run-ok laws files fit events).systems s (nth-among i s (run_of files events).systems at) in
+      let (b, j, is) = Among-map_from (copy_to s.file to) again (filter (is_resent s.file area to) (scanned_from first s.base s.cursor)) h in
+      let (k, t) = Among-filter_from (is_resent s.file area to) b (scanned_from first s.base s.cursor) j in
+      let both = and-parts (is_whole_in area b) (goes_to s.file to b) t in
+      let (m, l, kept) = Kept-front s.cursor s.base s.history ok.kept b (Among-drop first b (take s.cursor s.base) k) in
+      let same : b ≡ m = as-filed area b m kept both.0 in
+      let goes : goes_to s.file to m ≡ true = ap (λ (x : Filed). goes_to s.file to x) (sym same) ∙ both.1 in
+      let (p, q, for_it, there) = made.copies_for m l to goes in
+      let (e, u, packet_is) = Among-map_from (λ (x : Export). x.packet) p (filter (λ (x : Export). x.system == i) (exports files events)) q in
+      let (v, w) = Among-filter_from (λ (x : Export). x.system == i) e (exports files events) u in
+      let P : Message → Type 0 = λ x. Among x e.packet.messages in
+      let Q : Packet → Type 0 = λ x. Among (copy_to s.file to m) x.messages in (
+        e,
+        v,
+        eqb-true e.system i w,
+        ap (λ (x : Packet). destination x) (sym packet_is) ∙ for_it,
+        subst P (sym (is ∙ ap (copy_to s.file to) same)) (subst Q packet_is there),
+      )

@@ -1,0 +1,288 @@
+-- What was sent, at all times.
+use Rattle.std.proofs.Common.{◌≡◌, ◌≢◌, inl, inr, refl, sym, subst, ap, ◌∙◌, ℕ, zero, suc, ◌+◌, ◌≤◌, arith, List, [], ◌∷◌, ◌++◌, length, take, drop, None}
+use Rattle.std.specs.Prelude.{Bool, true, false, filter, if◌then◌else◌}
+use Rattle.std.proofs.lemmas.Bool.{cond-true}
+use Rattle.std.proofs.lemmas.List.{take-append-drop, take-append-le, take_all}
+use Rattle.std.proofs.lemmas.List.Elements.{filter-append}
+use Rattle.echo_addr.specs.declared.address.Address.{Address}
+use Rattle.model_graph.specs.Walk.{Among}
+use Rattle.model_graph.proofs.Members.{Among-append_cases}
+use Rattle.echo_packet.specs.Message.{Message}
+use Rattle.echo_text.specs.Refusal.{text_refusal}
+use Rattle.echo_links.specs.Links.{IsFile, LinkFile, same_address}
+use Rattle.echo_filed.specs.declared.key.Key.{Key}
+use Rattle.echo_filed.specs.Filed.{Filed, key_of, same_key}
+use Rattle.model_steps.specs.declared.packet.Packet.{Packet}
+use Rattle.model_steps.specs.declared.stamp.Stamp.{Stamp}
+use Rattle.model_steps.specs.Posting.{posting}
+use Rattle.model_steps.specs.Scanning.{goes_to, scanned, targets}
+use Rattle.model_steps.specs.Stamps.{is_stamp}
+use Rattle.model_run.specs.Run.{System, destination, filing, tossing_at}
+use Rattle.model_run.specs.Orderly.{copies, count, origin, sent_count}
+use Rattle.model_run.specs.Exports.{IsSentCopy}
+use Rattle.model_run.proofs.Counts as counts
+use Rattle.model_run.proofs.Lists.{Among-drop, Among-filter_from, Among-filter_to, Among-take, any-to}
+use Rattle.model_run.proofs.TosserPremises.{Laws}
+use Rattle.model_run.proofs.Bases.{Kept-cursor, Kept-length, SystemOk, count-is}
+use Rattle.model_run.proofs.WellFormed.{packet-ok, scanned-from, waiting-valid}
+use Rattle.model_run.proofs.ScanPackets.{scanned-copy, scanned-count, scanned-origin}
+use Rattle.model_run.proofs.Copies.{goes-from, goes-to}
+use Rattle.model_run.proofs.ExportLists.{count-append, count-filter, sent-append}
+use Rattle.model_run.specs.Lone.{AreOfPackets, LoneEvent, LoneSystem, PostHere, PurgeHere, ScanHere, TossHere, after_all_lone, after_lone, lone_at_first, lone_run, with_scanned, with_system}
+use Rattle.model_run.specs.Owed.{IsOwed}
+use Rattle.model_run.proofs.Stubs.{IsLoneLeft, event-left, left-length, run-left}
+use Rattle.model_run.proofs.Growing.{Grows, events-last, filing-grows, run-append, run-file, tossing-grows}
+use Rattle.model_run.proofs.WellFiled.{event-ok, first-ok, run-ok}
+
+-- what was scanned
+abbrev pub done : System → List Filed
+done s = take s.cursor s.history
+
+-- a packet of the system
+pub record IsOwn (s : System) (p : Packet) : Type 0 where
+  pub origin_is : origin p ≡ s.file.system
+  pub echomail : (packed : Message) → Among packed p.messages → text_refusal packed.text ≡ None
+  pub copy : (c : Filed) → Among c (copies p) → (m : Filed) × Among m (done s) × IsSentCopy s.file m (destination p) c
+
+-- of all packets so far: their counts are those of what was scanned
+pub record IsSentSoFar (s : LoneSystem) : Type 0 where
+  pub counts_are : (a : Address) (k : Key) → sent_count a k s.sent ≡ count k (filter (goes_to s.system.file a) (done s.system))
+  pub packets : (p : Packet) → Among p s.sent → IsOwn s.system p
+
+-- a system whose file stays, and what it scanned
+record StaysDone (s z : System) : Type 0 where
+  file : z.file ≡ s.file
+  done_is : done z ≡ done s
+
+grown-done : (s z : System) → Grows s z → s.cursor ≤ length s.history → StaysDone s z
+grown-done s z g within = record {
+  file = g.file;
+  done_is =
+      ap (λ (n : ℕ). take n z.history) g.cursor
+      ∙ (ap (λ (ms : List Filed). take s.cursor ms) g.filed.1 ∙ take-append-le s.cursor s.history g.filed.0 within);
+}
+
+-- what was scanned is no less at a later time
+own-later : (s z : System) (p : Packet) → z.file ≡ s.file → ((m : Filed) → Among m (done s) → Among m (done z)) → IsOwn s p → IsOwn z p
+own-later s z p same more own = record {
+  origin_is = own.origin_is ∙ ap (λ (f : LinkFile). f.system) (sym same);
+  echomail = own.echomail;
+  copy = λ c h.
+      let (m, i, sent) = own.copy c h in
+      let P : LinkFile → Type 0 = λ f. IsSentCopy f m (destination p) c in
+      (m, more m i, subst P (sym same) sent);
+}
+
+quiet-sent : (s : LoneSystem) (z : System) → StaysDone s.system z → IsSentSoFar s → IsSentSoFar (with_system s z)
+quiet-sent s z stays sofar = record {
+  counts_are = λ a k.
+      sofar.counts_are a k
+      ∙ (ap (λ (f : LinkFile). count k (filter (goes_to f a) (done s.system))) (sym stays.file)
+      ∙ ap (λ (ms : List Filed). count k (filter (goes_to z.file a) ms)) (sym stays.done_is));
+  packets = λ p h. own-later s.system z p stays.file
+      (λ m i. (let P : List Filed → Type 0 = λ ms. Among m ms in subst P (sym stays.done_is) i)) (sofar.packets p h);
+}
+
+-- what was scanned was scanned
+take-more : (m : Filed) (n k : ℕ) (ms ns : List Filed) → n ≤ k → Among m (take n ms) → Among m (take k (ms ++ ns))
+take-more m zero k ms ns h i = absurd i
+take-more m (suc n) k [] ns h i = absurd i
+take-more m (suc n) zero (x ∷ ms) ns h i = absurd (omega arith)
+take-more m (suc n) (suc k) (x ∷ ms) ns h i = elim i [ inl e ↦ inl e | inr j ↦ inr (take-more m n k ms ns (omega arith) j) ]
+
+-- a scan comes to all that was filed before it
+scan-done : (file : LinkFile) (earlier later : List LoneEvent) (stamp : Stamp) → is_stamp stamp ≡ true →
+    (m : Filed) → Among m (lone_run file earlier).system.history → Among m (done (lone_run file (earlier ++ ScanHere stamp ∷ later)).system)
+scan-done file earlier later stamp in_range m h =
+    let s = lone_run file earlier in
+    let left = run-left file earlier in
+    let z = with_scanned stamp s in
+    let is_z : after_lone s (ScanHere stamp) ≡ z = cond-true (is_stamp stamp) z s in_range in
+    let left_z : IsLoneLeft z = (let P : LoneSystem → Type 0 = λ t. IsLoneLeft t in subst P is_z (event-left s (ScanHere stamp) left)) in
+    let lasts = (events-last later z left_z).system in
+    let P : List Filed → Type 0 = λ ms. Among m (take (after_all_lone z later).system.cursor ms) in
+    let Q : List Filed → Type 0 = λ ms. Among m ms in
+    let R : LoneSystem → Type 0 = λ t. Among m (done t.system) in
+    let now : Among m (take (length s.system.base) s.system.history) =
+    subst Q (sym (take_all (length s.system.base) s.system.history (omega (arith, left-length s left)))) h in
+    subst R (sym (run-append file earlier (ScanHere stamp ∷ later) ∙ ap (λ (t : LoneSystem). after_all_lone t later) is_z))
+    (subst P (sym lasts.filed.1)
+    (take-more m (length s.system.base) (after_all_lone z later).system.cursor s.system.history lasts.filed.0 lasts.cursor now))
+
+module _ (laws : Laws) where
+  within : (s : System) → SystemOk s → s.cursor ≤ length s.history
+  within s ok = Kept-cursor s.cursor s.base s.history ok.kept
+
+  -- a system scans
+  module _ (s : LoneSystem) (ok : SystemOk s.system) (sofar : IsSentSoFar s) (stamp : Stamp) where
+    abbrev new : List Packet
+    new = scanned s.system.file s.system.base s.system.cursor stamp
+
+    abbrev z : System
+    z = (with_scanned stamp s).system
+
+    all-done : done z ≡ s.system.history
+    all-done = take_all (length s.system.base) s.system.history (omega (arith, Kept-length s.system.cursor s.system.base s.system.history ok.kept))
+
+    is-done : (m : Filed) → Among m s.system.history → Among m (done z)
+    is-done m h = let P : List Filed → Type 0 = λ ms. Among m ms in subst P (sym all-done) h
+
+    done-more : (a : Address) (k : Key) →
+        count k (filter (goes_to s.system.file a) (done z))
+        ≡ count k (filter (goes_to s.system.file a) (done s.system)) + count k (filter (goes_to s.system.file a) (drop s.system.cursor s.system.history))
+    done-more a k =
+        let g = goes_to s.system.file a in
+        let waits = drop s.system.cursor s.system.history in
+        ap (λ (ms : List Filed). count k (filter g ms)) (all-done ∙ sym (take-append-drop s.system.cursor s.system.history))
+        ∙ (ap (λ (ms : List Filed). count k ms) (filter-append g (done s.system) waits)
+        ∙ count-append k (filter g (done s.system)) (filter g waits))
+
+    new-own : (p : Packet) → Among p new → IsOwn z p
+    new-own p h = record {
+      origin_is = scanned-origin laws s.system ok stamp p h;
+      echomail =
+          let waits = drop s.system.cursor s.system.base in
+          let (address, i, e) = scanned-from laws s.system.file s.system.base s.system.cursor stamp p h in
+          let P : Packet → Type 0 = λ q. (packed : Message) → Among packed q.messages → text_refusal packed.text ≡ None in
+          let made = packet-ok laws s.system.file stamp waits address ok.file (waiting-valid laws s.system ok) in
+          subst P (sym e) (λ packed j. (made.messages packed j).0);
+      copy = λ c j.
+          let (m, i, sent) = scanned-copy laws s.system ok stamp p h c j in
+          (m, is-done m (Among-drop s.system.cursor m s.system.history i), sent);
+    }
+
+    scan-sent : IsSentSoFar (with_scanned stamp s)
+    scan-sent = record {
+      counts_are = λ a k. omega (
+        arith,
+        sent-append a k s.sent new,
+        sofar.counts_are a k,
+        scanned-count laws s.system ok stamp a k,
+        done-more a k,
+      );
+      packets = λ p h. elim (Among-append_cases p s.sent new h) [
+        | inl old ↦ own-later s.system z p refl (λ m i. is-done m (Among-take s.system.cursor m s.system.history i)) (sofar.packets p old)
+        | inr now ↦ new-own p now
+      ];
+    }
+
+  event-sent : (s : LoneSystem) (event : LoneEvent) → SystemOk s.system → IsSentSoFar s → IsSentSoFar (after_lone s event)
+  event-sent s (PostHere tag draft serial stamp) ok sofar =
+      let o = posting s.system.file s.system.base tag draft serial stamp in
+      quiet-sent s (filing s.system o) (grown-done s.system (filing s.system o) (filing-grows s.system o) (within s.system ok)) sofar
+  event-sent s (TossHere sender messages) ok sofar =
+      let next = tossing_at sender messages s.system in
+      quiet-sent s next (grown-done s.system next (tossing-grows sender messages s.system) (within s.system ok)) sofar
+  event-sent s (ScanHere stamp) ok sofar = scans (is_stamp stamp)
+    where
+      scans : (b : Bool) → IsSentSoFar (if b then with_scanned stamp s else s)
+      scans true = scan-sent s ok sofar stamp
+      scans false = sofar
+  event-sent s PurgeHere ok sofar = record {
+    counts_are = sofar.counts_are;
+    packets = λ p h. own-later s.system (after_lone s PurgeHere).system p refl (λ m i. i) (sofar.packets p h);
+  }
+
+  events-sent : (events : List LoneEvent) (s : LoneSystem) → AreOfPackets events → SystemOk s.system → IsSentSoFar s → IsSentSoFar (after_all_lone s events)
+  events-sent [] s plain ok sofar = sofar
+  events-sent (event ∷ later) s plain ok sofar =
+      events-sent later (after_lone s event) (λ e i. plain e (inr i))
+      (event-ok laws s event (plain event (inl refl)) ok) (event-sent s event ok sofar)
+
+  pub run-sent : (file : LinkFile) → IsFile file → (events : List LoneEvent) → AreOfPackets events → IsSentSoFar (lone_run file events)
+  run-sent file fits events plain =
+      events-sent events (lone_at_first file) plain (first-ok laws file fits) (record { counts_are = λ a k. refl; packets = λ p h. absurd h })
+
+  -- of any system so far
+  module _ (s : LoneSystem) (ok : SystemOk s.system) (sofar : IsSentSoFar s) where
+    owed-goes : (m : Filed) (a : Address) → IsOwed s.system.file m a → goes_to s.system.file a m ≡ true
+    owed-goes m a owed = goes-to laws s.system.file m a (record { link = owed.link; not_sender = owed.not_sender; not_seen = owed.unlisted })
+
+    pub goes-owed : (m : Filed) (a : Address) → goes_to s.system.file a m ≡ true → IsOwed s.system.file m a
+    goes-owed m a t =
+        let target = goes-from laws s.system.file m a t in
+        record { link = target.link; not_sender = target.not_sender; unlisted = target.not_seen }
+
+    abbrev waits : List Filed
+    waits = drop s.system.cursor s.system.history
+
+    abbrev went : Address → List Filed
+    went a = filter (goes_to s.system.file a) (done s.system)
+
+    parts : (k : Key) → count k s.system.history ≡ count k (done s.system) + count k waits
+    parts k = ap (λ (ms : List Filed). count k ms) (sym (take-append-drop s.system.cursor s.system.history)) ∙ count-append k (done s.system) waits
+
+    pub sent-once : (a : Address) (k : Key) → sent_count a k s.sent ≤ 1
+    sent-once a k = omega (arith, sofar.counts_are a k, count-filter k (goes_to s.system.file a) (done s.system), parts k, ok.once k)
+
+    pub sent-owed : (m : Filed) → Among m (done s.system) → (a : Address) → IsOwed s.system.file m a → sent_count a (key_of m) s.sent ≡ 1
+    sent-owed m h a owed =
+        let there = Among-filter_to (goes_to s.system.file a) m (done s.system) h (owed-goes m a owed) in
+        omega (
+          arith,
+          sofar.counts_are a (key_of m),
+          counts.count-has key_of same_key laws.keys (key_of m) (went a) m there refl,
+          count-is (key_of m) (went a),
+          sent-once a (key_of m),
+        )
+
+    -- no message with the key went to the address
+    none-went : (a : Address) (k : Key) → ((o : Filed) → Among o (went a) → key_of o ≢ k) → sent_count a k s.sent ≡ 0
+    none-went a k h = sofar.counts_are a k ∙ (count-is k (went a) ∙ counts.count-none key_of same_key laws.keys k (went a) h)
+
+    pub sent-others : (m : Filed) → Among m s.system.history → (a : Address) → (¬ IsOwed s.system.file m a) → sent_count a (key_of m) s.sent ≡ 0
+    sent-others m h a not_owed = none-went a (key_of m) (λ o i e.
+        let (j, t) = Among-filter_from (goes_to s.system.file a) o (done s.system) i in
+        let few : counts.count key_of same_key (key_of m) s.system.history ≤ 1 = omega (arith, count-is (key_of m) s.system.history, ok.once (key_of m)) in
+        let same = counts.count-names_one key_of same_key laws.keys (key_of m) s.system.history few o m
+        (Among-take s.system.cursor o s.system.history j) h e refl in
+        not_owed (goes-owed m a (ap (λ (x : Filed). goes_to s.system.file a x) (sym same) ∙ t)))
+
+    pub sent-waiting : (m : Filed) → Among m waits → (a : Address) → sent_count a (key_of m) s.sent ≡ 0
+    sent-waiting m h a = none-went a (key_of m) (λ o i e.
+        let j = (Among-filter_from (goes_to s.system.file a) o (done s.system) i).0 in
+        absurd (omega (
+          arith,
+          counts.count-has key_of same_key laws.keys (key_of m) (done s.system) o j e,
+          counts.count-has key_of same_key laws.keys (key_of m) waits m h refl,
+          count-is (key_of m) (done s.system),
+          count-is (key_of m) waits,
+          parts (key_of m),
+          ok.once (key_of m),
+        )))
+
+  -- of the system of a link file
+  module _ (file : LinkFile) (fits : IsFile file) (events : List LoneEvent) (plain : AreOfPackets events) where
+    abbrev at_end : LoneSystem
+    at_end = lone_run file events
+
+    pub end-ok : SystemOk at_end.system
+    end-ok = run-ok laws file fits events plain
+
+    pub end-sent : IsSentSoFar at_end
+    end-sent = run-sent file fits events plain
+
+    pub owed-there : (m : Filed) (a : Address) → IsOwed file m a → IsOwed at_end.system.file m a
+    owed-there m a owed = let P : LinkFile → Type 0 = λ f. IsOwed f m a in subst P (sym (run-file file events)) owed
+
+    pub owed-back : (m : Filed) (a : Address) → IsOwed at_end.system.file m a → IsOwed file m a
+    owed-back m a owed = let P : LinkFile → Type 0 = λ f. IsOwed f m a in subst P (run-file file events) owed
+
+    -- each copy in its packets is of a message that was scanned, for an address that is to get it
+    pub copy-owed : (p : Packet) → Among p at_end.sent → (c : Filed) → Among c (copies p) →
+        (m : Filed) × Among m (done at_end.system) × IsSentCopy file m (destination p) c × IsOwed file m (destination p)
+    copy-owed p h c i =
+        let (m, j, sent) = (end-sent.packets p h).copy c i in
+        let P : LinkFile → Type 0 = λ f. IsSentCopy f m (destination p) c in
+        let goes = any-to (same_address (destination p)) (destination p) (targets at_end.system.file m) sent.target
+        (laws.addresses.full (destination p) (destination p) refl) in
+        (m, j, subst P (run-file file events) sent, owed-back m (destination p) (goes-owed at_end end-ok end-sent m (destination p) goes))
+
+  -- a scan sends all that was filed before it
+  pub scan-sends : (file : LinkFile) → IsFile file → (earlier later : List LoneEvent) (stamp : Stamp) → AreOfPackets (earlier ++ ScanHere stamp ∷ later) →
+      is_stamp stamp ≡ true → (m : Filed) → Among m (lone_run file earlier).system.history →
+      (a : Address) → IsOwed file m a → sent_count a (key_of m) (lone_run file (earlier ++ ScanHere stamp ∷ later)).sent ≡ 1
+  scan-sends file fits earlier later stamp plain in_range m h a owed =
+      let events = earlier ++ ScanHere stamp ∷ later in
+      sent-owed (lone_run file events) (end-ok file fits events plain) (end-sent file fits events plain) m
+      (scan-done file earlier later stamp in_range m h) a (owed-there file fits events plain m a owed)

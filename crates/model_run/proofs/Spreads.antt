@@ -1,0 +1,172 @@
+-- A posting that came to every carrier, each of which was sent it by one system alone: what that says of the links.
+use Rattle.std.proofs.Common.{◌≡◌, ◌≢◌, ◌⊎◌, inl, inr, refl, sym, subst, ap, ◌∙◌, ℕ, zero, suc, ◌+◌, ◌≤◌, arith, IsTrue, List, [], ◌∷◌, ◌++◌, length, length-append, Some, None}
+use Rattle.std.specs.Prelude.{Bool, true, false}
+use Rattle.echo_addr.specs.declared.address.Address.{Address}
+use Rattle.echo_addr.specs.declared.address.NetNode.{NetNode}
+use Rattle.echo_addr.specs.Address.{net_node_of}
+use Rattle.model_graph.specs.Walk.{Reaches}
+use Rattle.model_graph.proofs.Walks.{Reaches-trans}
+use Rattle.echo_links.proofs.Addresses.{same_address_decides}
+use Rattle.echo_links.specs.Links.{same_address}
+use Rattle.echo_filed.specs.Filed.{Filed}
+use Rattle.model_steps.specs.Scanning.{is_seen_by}
+use Rattle.model_run.proofs.Lists.{none_some, not_both, some_same, yes_or_no}
+
+-- y has the net and node of u or of a link of u
+abbrev pub IsNear : (Address → Address → Bool) → Address → Address → Type 0
+IsNear linked u y = (net_node_of y ≡ net_node_of u) ⊎ ((z : Address) × IsTrue (linked u z) × (net_node_of y ≡ net_node_of z))
+
+-- the message came to x from a link that holds it, which added itself to PATH, and itself and its links to SEEN-BY
+pub record Came (linked : Address → Address → Bool) (Holds : Address → Filed → Type 0) (x : Address) (m : Filed) : Type 0 where
+  pub from : Address
+  pub original : Filed
+  pub holds : Holds from original
+  pub sender : m.sender ≡ Some from
+  pub link : IsTrue (linked from x)
+  pub back : IsTrue (linked x from)
+  pub unseen : is_seen_by original x ≡ false
+  pub path : m.echo.path ≡ original.echo.path ++ net_node_of from ∷ []
+  pub seen_from : (y : Address) → is_seen_by m y ≡ true → (is_seen_by original y ≡ true) ⊎ IsNear linked from y
+  pub seen_to : (y : Address) → (is_seen_by original y ≡ true) ⊎ IsNear linked from y → is_seen_by m y ≡ true
+
+-- each carrier holds the message, once, and but for the poster it has it from a link; a link that is not listed has
+-- it from nobody else
+pub record Spread (linked : Address → Address → Bool) (Carrier : Address → Type 0) (f : Address) (Holds : Address → Filed → Type 0) : Type 0 where
+  pub posting : Filed
+  pub at_poster : Holds f posting
+  pub own : posting.sender ≡ None
+  pub no_path : posting.echo.path ≡ []
+  pub unlisted : (y : Address) → is_seen_by posting y ≡ false
+  pub carriers : (x : Address) (m : Filed) → Holds x m → Carrier x
+  pub all : (x : Address) → Carrier x → (m : Filed) × Holds x m
+  pub one : (x : Address) (m n : Filed) → Holds x m → Holds x n → m ≡ n
+  pub came : (x : Address) (m : Filed) → Holds x m → (x ≡ f) ⊎ Came linked Holds x m
+  pub sole : (u : Address) (n : Filed) (y : Address) (m : Filed) → Holds u n → IsTrue (linked u y) → is_seen_by n y ≡ false → n.sender ≢ Some y →
+      Holds y m → m.sender ≡ Some u
+
+pub one_or_two : (a b : Address) → (a ≡ b) ⊎ (a ≢ b)
+one_or_two a b =
+    elim (yes_or_no (same_address a b)) [
+      | inl t ↦ inl ((same_address_decides a b).0 t)
+      | inr f ↦ inr (λ e. not_both (same_address a b) ((same_address_decides a b).1 e) f)
+    ]
+
+module _ (linked : Address → Address → Bool) (Carrier : Address → Type 0) (f : Address) (Holds : Address → Filed → Type 0)
+    (spread : Spread linked Carrier f Holds) where
+  open spread use {posting}
+
+  -- what a system holds is the posting at the poster, or came
+  pub source : (x : Address) (m : Filed) → Holds x m → ((x ≡ f) × (m ≡ posting)) ⊎ Came linked Holds x m
+  source x m h =
+      elim (spread.came x m h) [
+        | inl here ↦ (let P : Address → Type 0 = λ a. Holds a m in inl (here, spread.one f m posting (subst P here h) spread.at_poster))
+        | inr came ↦ inr came
+      ]
+
+  -- what has a sender came from it
+  pub came_from : (x : Address) (m : Filed) → Holds x m → (u : Address) → m.sender ≡ Some u → (c : Came linked Holds x m) × (c.from ≡ u)
+  came_from x m h u e =
+      elim (source x m h) [
+        | inl here ↦ absurd (none_some (sym spread.own ∙ (ap (λ (n : Filed). n.sender) (sym here.1) ∙ e)))
+        | inr came ↦ (came, some_same (sym came.sender ∙ e))
+      ]
+
+  -- a link of the poster has the message from it
+  pub from_poster : (y : Address) (m : Filed) → IsTrue (linked f y) → Holds y m → m.sender ≡ Some f
+  from_poster y m link h =
+      spread.sole f posting y m spread.at_poster link (spread.unlisted y) (λ e. none_some (sym spread.own ∙ e)) h
+
+  pub longer : (x : Address) (m : Filed) (c : Came linked Holds x m) → length m.echo.path ≡ length c.original.echo.path + 1
+  longer x m c = ap (λ (es : List NetNode). length es) c.path ∙ length-append c.original.echo.path (net_node_of c.from ∷ [])
+
+  -- some walk leads from the poster to all who hold it
+  walks : (n : ℕ) (x : Address) (m : Filed) → length m.echo.path ≤ n → Holds x m → Reaches linked f x
+  walks zero x m few h =
+      elim (source x m h) [
+        | inl here ↦ ([], sym here.0)
+        | inr c ↦ absurd (let long = longer x m c in omega arith)
+      ]
+  walks (suc n) x m few h =
+      elim (source x m h) [
+        | inl here ↦ ([], sym here.0)
+        | inr c ↦ Reaches-trans linked f c.from x (walks n c.from c.original (let long = longer x m c in omega arith) c.holds) (x ∷ [], (c.link, refl))
+      ]
+
+  pub reached : (x : Address) → Carrier x → Reaches linked f x
+  reached x carries = let (m, h) = spread.all x carries in walks (length m.echo.path) x m (omega arith) h
+
+  pub answered : (y : Address) → Carrier y → IsTrue (linked f y) → IsTrue (linked y f)
+  answered y carries link =
+      let (m, h) = spread.all y carries in
+      let (c, from) = came_from y m h f (from_poster y m link h) in
+      let P : Address → Type 0 = λ a. IsTrue (linked y a) in
+      subst P from c.back
+
+  -- who stands in SEEN-BY from the poster on is sent it by nobody but the poster
+  module _ (y : Address) (near : IsNear linked f y) where
+    listed : (n : ℕ) (x : Address) (m : Filed) → length m.echo.path ≤ n → Holds x m → x ≢ f → is_seen_by m y ≡ true
+    listed zero x m few h other =
+        elim (source x m h) [
+          | inl here ↦ absurd (other here.0)
+          | inr c ↦ absurd (let long = longer x m c in omega arith)
+        ]
+    listed (suc n) x m few h other =
+        elim (source x m h) [
+          | inl here ↦ absurd (other here.0)
+          | inr c ↦ elim (one_or_two c.from f) [
+            | inl e ↦ (let P : Address → Type 0 = λ a. IsNear linked a y in c.seen_to y (inr (subst P (sym e) near)))
+            | inr later ↦ c.seen_to y (inl (listed n c.from c.original (let long = longer x m c in omega arith) c.holds later))
+          ]
+        ]
+
+    -- so no carrier but a link of the poster is hidden so
+    pub not_hidden : Carrier y → y ≢ f → IsTrue (linked f y)
+    not_hidden carries other =
+        let (m, h) = spread.all y carries in
+        elim (source y m h) [
+          | inl here ↦ absurd (other here.0)
+          | inr c ↦ elim (one_or_two c.from f) [
+            | inl e ↦ (let P : Address → Type 0 = λ a. IsTrue (linked a y) in subst P e c.link)
+            | inr later ↦ absurd (not_both (is_seen_by c.original y) (listed (length c.original.echo.path) c.from c.original (omega arith) c.holds later) c.unseen)
+          ]
+        ]
+
+  -- where links are carriers and carriers differ by net and node
+  module _ (known : (a b : Address) → IsTrue (linked a b) → Carrier b)
+      (apart : (a b : Address) → Carrier a → Carrier b → net_node_of a ≡ net_node_of b → a ≡ b) where
+    pub near-is : (u y : Address) → Carrier u → Carrier y → IsNear linked u y → (y ≡ u) ⊎ IsTrue (linked u y)
+    near-is u y at_u at_y near =
+        elim near [
+          | inl same ↦ inl (apart y u at_y at_u same)
+          | inr link ↦ (let (z, to_z, same) = link in
+              let P : Address → Type 0 = λ a. IsTrue (linked u a) in
+              inr (subst P (sym (apart y z at_y (known u z to_z) same)) to_z))
+        ]
+
+    -- the copies that the poster sent list it and its links
+    pub first_seen : (u y : Address) (n : Filed) → IsTrue (linked f u) → Holds u n → Carrier y → is_seen_by n y ≡ true → (y ≡ f) ⊎ IsTrue (linked f y)
+    first_seen u y n link h at_y seen =
+        let (c, from) = came_from u n h f (from_poster u n link h) in
+        let P : Address → Type 0 = λ a. Holds a c.original in
+        let Q : Address → Type 0 = λ a. IsNear linked a y in
+        let is_posting = spread.one f c.original posting (subst P from c.holds) spread.at_poster in
+        elim (c.seen_from y seen) [
+          | inl before ↦ absurd (not_both (is_seen_by posting y) (ap (λ (m : Filed). is_seen_by m y) (sym is_posting) ∙ before) (spread.unlisted y))
+          | inr near ↦ near-is f y (spread.carriers f posting spread.at_poster) at_y (subst Q from near)
+        ]
+
+    -- two links of the poster are not both linked with a system that is no link of it
+    pub no_kite : (b x y : Address) → IsTrue (linked f b) → IsTrue (linked f x) → IsTrue (linked b y) → IsTrue (linked x y) →
+        y ≢ f → ¬ IsTrue (linked f y) → b ≡ x
+    no_kite b x y to_b to_x b_y x_y other unlinked =
+        let at_y = known b y b_y in
+        let (m, h) = spread.all y at_y in
+        let sent : (u : Address) → IsTrue (linked f u) → IsTrue (linked u y) → m.sender ≡ Some u = λ u to_u u_y.
+        (let (n, at_u) = spread.all u (known f u to_u) in
+        spread.sole u n y m at_u u_y
+        (elim (yes_or_no (is_seen_by n y)) [
+          | inr no_entry ↦ no_entry
+          | inl seen ↦ absurd (elim (first_seen u y n to_u at_u at_y seen) [ inl e ↦ other e | inr t ↦ unlinked t ])
+        ])
+        (λ e. other (sym (some_same (sym (from_poster u n to_u at_u) ∙ e)))) h) in
+        some_same (sym (sent b to_b b_y) ∙ sent x to_x x_y)

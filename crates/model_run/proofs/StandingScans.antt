@@ -1,0 +1,206 @@
+-- A scan goes on by the rules.
+use Rattle.std.proofs.Common.{◌≡◌, ◌↔◌, inl, inr, refl, sym, subst, ap, ◌∙◌, ℕ, ◌+◌, ◌≤◌, arith, IsTrue, List, [], ◌∷◌, ◌++◌, take, drop, map, Some}
+use Rattle.std.specs.Prelude.{true, bytes_eq}
+use Rattle.std.proofs.lemmas.List.{take-append-drop}
+use Rattle.echo_addr.specs.declared.address.Address.{Address}
+use Rattle.echo_addr.specs.declared.address.NetNode.{NetNode}
+use Rattle.echo_addr.specs.Address.{net_node_of}
+use Rattle.model_graph.specs.Walk.{Among}
+use Rattle.model_graph.proofs.Members.{Among-append_left, Among-append_right, Among-append_cases}
+use Rattle.model_steps.specs.declared.stamp.Stamp.{Stamp}
+use Rattle.model_steps.specs.Scanning.{scanned, targets}
+use Rattle.echo_links.specs.Links.{LinkFile, is_link, links_of, same_address}
+use Rattle.echo_filed.specs.Sets.{address_set}
+use Rattle.echo_filed.specs.declared.key.Key.{Key}
+use Rattle.echo_filed.specs.Filed.{Filed, key_of, same_key}
+use Rattle.model_run.specs.Nets.{Net}
+use Rattle.model_run.specs.Events as rules
+use Rattle.model_run.specs.Rules.{IsTarget, IsToldPlainly}
+use Rattle.model_run.proofs.Eras.{exported-append, filed-cases}
+use Rattle.model_run.proofs.Runs.{ByRules, one_more}
+use Rattle.model_run.proofs.Telling.{told-plainly}
+use Rattle.model_run.specs.Run.{System, Run, change, nth, scanning_at}
+use Rattle.model_run.specs.Orderly.{count}
+use Rattle.model_run.specs.Tidy.{Tidy, lists}
+use Rattle.model_run.specs.AreaNets.{net_of}
+use Rattle.model_run.specs.Keeping.{IsHistory, filed_as}
+use Rattle.model_run.proofs.Counts.{count-has}
+use Rattle.model_run.proofs.TosserPremises.{Laws}
+use Rattle.model_run.proofs.Lists.{any-from, any-to, map-change, nth-among, Among-drop, Among-map_from, Among-map_to}
+use Rattle.model_run.proofs.Bases.{SystemOk, count-is}
+use Rattle.model_run.proofs.WellFormed.{RunOk}
+use Rattle.model_run.proofs.Areas.{Wrote, address_of, link-lists, lists-link, one-system, tidy-net}
+use Rattle.model_run.proofs.Copies.{copied, copied-content, copied-key, copied-seen, seen-copied, targets-from, targets-to}
+use Rattle.model_run.proofs.DeliveredOnce.{IsDeliveredOnce}
+use Rattle.model_run.proofs.Histories.{Among-in, REvent, RFiled, before-then}
+use Rattle.model_run.proofs.ExportLists.{count-append, count-filter}
+use Rattle.model_run.proofs.Scanned.{export, exported-are, exports, exports-append, filed-are, history-scans, waits, waits-from}
+use Rattle.model_run.proofs.Standing.{Equal, Standing, filed-event}
+
+module _ (laws : Laws) (files : List LinkFile) (tag : List ℕ) (tidy : Tidy files tag) (past : List REvent) (run : Run) (st : Standing files tag past run)
+    (i : ℕ) (s : System) (at_s : nth i run.systems ≡ Some s) (stamp : Stamp) where
+  abbrev net : Net Address NetNode
+  net = net_of files tag
+
+  there_s : Among s run.systems
+  there_s = nth-among i s run.systems at_s
+
+  ok_s : SystemOk s
+  ok_s = st.ok.systems s there_s
+
+  abbrev targets_of : Filed → List Address
+  targets_of m = address_set (targets s.file m)
+
+  -- the area's links in the file are those of the net
+  link-in : (m : Filed) (a : Address) → m.echo.tag ≡ tag → is_link s.file m.echo.tag a ≡ true → IsTrue (lists files tag (address_of s) a)
+  link-in m a area link =
+      let P : List ℕ → Type 0 = λ g. is_link s.file g a ≡ true in
+      link-lists laws files tag tidy run.systems st.same_files s there_s a (subst P area link)
+
+  link-out : (m : Filed) (a : Address) → m.echo.tag ≡ tag → IsTrue (lists files tag (address_of s) a) → is_link s.file m.echo.tag a ≡ true
+  link-out m a area link =
+      let P : List ℕ → Type 0 = λ g. is_link s.file g a ≡ true in
+      subst P (sym area) (lists-link laws files tag tidy run.systems st.same_files s there_s a link)
+
+  -- a message goes to its targets
+  goes : (m : Filed) → m.echo.tag ≡ tag → (a : Address) → Among a (targets_of m) ↔ IsTarget net (filed_as (address_of s) m) a
+  goes m area a = (
+    λ j. (let target = targets-from laws s.file m a (laws.addresses_only a (targets s.file m) j) in
+        record { link = link-in m a area target.link; not_sender = target.not_sender; not_seen = target.not_seen }),
+    λ target. laws.addresses_all a (targets s.file m) (targets-to laws s.file m a (record {
+      link = link-out m a area target.link;
+      not_sender = target.not_sender;
+      not_seen = target.not_seen;
+    })),
+  )
+
+  -- and tells whom it goes to
+  tells : (m : Filed) → m.echo.tag ≡ tag → IsToldPlainly net (filed_as (address_of s) m) (targets_of m) (copied s.file m).echo.seen
+  tells m area = record {
+    all = λ l j.
+        let (b, k, e) = any-from (same_address l) (links_of s.file m.echo.tag) (link-out m l area ((goes m area l).0 j).link) in
+        let P : Address → Type 0 = λ a. Among (net_node_of a) (copied s.file m).echo.seen in
+        subst P (sym (laws.addresses.sound l b e)) (seen-copied laws s.file m (net_node_of b)
+        (Among-append_right (net_node_of b) m.echo.seen (map net_node_of (s.file.system ∷ links_of s.file m.echo.tag))
+        (inr (Among-map_to net_node_of b (links_of s.file m.echo.tag) k))));
+    only = λ n j. elim (Among-append_cases n m.echo.seen (map net_node_of (s.file.system ∷ links_of s.file m.echo.tag)) (copied-seen laws s.file m n j)) [
+      | inl old ↦ inl old
+      | inr new ↦ elim new [
+        | inl e ↦ inr (inl (address_of s, inl refl, e))
+        | inr k ↦ (let (l, there, e) = Among-map_from net_node_of n (links_of s.file m.echo.tag) k in
+            inr (inl (l, inr (link-in m l area (any-to (same_address l) l (links_of s.file m.echo.tag) there (laws.addresses.full l l refl))), e)))
+      ]
+    ];
+  }
+
+  -- what was exported of the system was scanned
+  exported-done : (k : Key) → rules.Has (address_of s) k (rules.exported (st.recent ++ past)) → 1 ≤ count k (take s.cursor s.history)
+  exported-done k has =
+      let (m, h, at, key) = has in
+      let is = (st.history.exported m).0 h in
+      let here : address_of is.system ≡ address_of s = ap (λ (f : RFiled). f.at) (sym is.same) ∙ at in
+      let one = one-system laws files tag tidy run.systems st.same_files is.system s is.there there_s here in
+      let P : System → Type 0 = λ t. Among is.message (take t.cursor t.history) in
+      omega (
+        arith,
+        count-is k (take s.cursor s.history),
+        count-has key_of same_key laws.keys k (take s.cursor s.history) is.message (subst P one is.filed) (ap (λ (f : RFiled). f.text.key) (sym is.same) ∙ key),
+      )
+
+  abbrev then : List Filed → List REvent
+  then ms = exports laws tag s ok_s ms st.recent
+
+  has-count : (k : Key) (ms : List Filed) (m : Filed) → Among m ms → key_of m ≡ k → 1 ≤ count k ms
+  has-count k ms m h e = omega (arith, count-is k ms, count-has key_of same_key laws.keys k ms m h e)
+
+  -- each export is by the rules
+  by-rules : (ms : List Filed) → ((m : Filed) → Among m ms → Among m (waits laws tag s ok_s)) → ((k : Key) → count k (take s.cursor s.history) + count k ms ≤ 1) →
+      ByRules net Equal (then ms)
+  by-rules [] wait few = st.since.by_rules
+  by-rules (m ∷ ms) wait few =
+      let (waiting, area) = waits-from laws tag s ok_s m (wait m (inl refl)) in
+      one_more net Equal (then ms) (export laws tag s ok_s m) (by-rules ms (λ n h. wait n (inr h)) (λ k. omega (arith, few k))) (record {
+        possible = tt;
+        files_once = tt;
+        keeps = λ x h. (copied-key s.file m, copied-content s.file m);
+        sends_once = record {
+          is_filed = Among-in (filed_as (address_of s) m) (rules.filed st.recent) (rules.filed (then ms)) (sym (filed-are laws tag s ok_s ms st.recent)) (is-recent waiting area);
+          first = not-yet;
+          targets = λ x. goes m area x;
+          one_each = laws.addresses_once (targets s.file m);
+        };
+        tells = λ x h. told-plainly net (tidy-net laws files tag tidy) (filed_as (address_of s) m) (targets_of m) x (copied s.file m).echo.seen ((goes m area x).0 h).link (tells m area);
+        new_keys = tt;
+      })
+    where
+      one : 1 ≤ count (key_of m) (m ∷ [])
+      one = has-count (key_of m) (m ∷ []) m (inl refl) refl
+
+      not-done : rules.Has (address_of s) (key_of m) (rules.exported (st.recent ++ past)) → ⊥
+      not-done has = absurd (omega (arith, few (key_of m), one, exported-done (key_of m) has))
+
+      is-recent : Among m (drop s.cursor s.history) → m.echo.tag ≡ tag → Among (filed_as (address_of s) m) (rules.filed st.recent)
+      is-recent waiting area =
+          let f = filed_as (address_of s) m in
+          let filed = filed-event laws files tag tidy past run st s there_s m (Among-drop s.cursor m s.history waiting) area in
+          elim (filed-cases st.recent past f filed) [
+            | inl now ↦ now
+            | inr before ↦ absurd (not-done (
+              f,
+              Among-in f (rules.exported st.recent ++ rules.exported past) (rules.exported (st.recent ++ past)) (sym (exported-append st.recent past))
+                  (Among-append_right f (rules.exported st.recent) (rules.exported past) (st.since.rest.settled.all_exported f before)),
+              refl,
+              refl,
+            ))
+          ]
+
+      not-yet : ¬ rules.Has (address_of s) (key_of m) (rules.exported (then ms))
+      not-yet has =
+          let (f, h, at, key) = has in
+          elim (Among-append_cases f (map (filed_as (address_of s)) ms) (rules.exported st.recent)
+          (Among-in f (rules.exported (then ms)) (map (filed_as (address_of s)) ms ++ rules.exported st.recent) (exported-are laws tag s ok_s ms st.recent) h)) [
+            | inl now ↦ (let (n, j, e) = Among-map_from (filed_as (address_of s)) f ms now in
+                absurd (omega (arith, few (key_of m), one, has-count (key_of m) ms n j (ap (λ (g : RFiled). g.text.key) (sym e) ∙ key))))
+            | inr old ↦ not-done (
+              f,
+              Among-in f (rules.exported st.recent ++ rules.exported past) (rules.exported (st.recent ++ past)) (sym (exported-append st.recent past))
+                  (Among-append_left f (rules.exported st.recent) (rules.exported past) old),
+              at,
+              key,
+            )
+          ]
+
+  few-waits : (k : Key) → count k (take s.cursor s.history) + count k (waits laws tag s ok_s) ≤ 1
+  few-waits k = omega (
+    arith,
+    ok_s.once k,
+    ap (λ (ms : List Filed). count k ms) (take-append-drop s.cursor s.history),
+    count-append k (take s.cursor s.history) (drop s.cursor s.history),
+    count-filter k (λ m. bytes_eq m.echo.tag tag) (drop s.cursor s.history),
+  )
+
+  abbrev after : Run
+  after = record { systems = change i scanning_at run.systems; packets = run.packets ++ scanned s.file s.base s.cursor stamp; delivered = run.delivered }
+
+  pub stands-scanned : RunOk after → IsDeliveredOnce after → Standing files tag past after
+  stands-scanned ok delivered =
+      let all = waits laws tag s ok_s in
+      let P : List REvent → Type 0 = λ es. IsHistory tag after es in
+      record {
+        ok = ok;
+        same_files = map-change (λ (t : System). t.file) i scanning_at (λ t. refl) run.systems ∙ st.same_files;
+        delivered = delivered;
+        recent = then all;
+        history = subst P (sym (exports-append laws tag s ok_s all st.recent past)) (history-scans laws tag s ok_s run i at_s stamp st.delivered (st.recent ++ past) st.history);
+        since = record {
+          rest = st.since.rest;
+          by_rules = by-rules all (λ m h. h) few-waits;
+          apart = λ p h own m j. st.since.apart p (Among-in p (rules.filed (then all)) (rules.filed st.recent) (filed-are laws tag s ok_s all st.recent) h) own m j;
+        };
+        wrote = λ z h m j posting. elim (before-then run.systems i scanning_at s at_s z h) [
+          | inl old ↦ st.wrote z old m j posting
+          | inr now ↦ (let Q : System → Type 0 = λ t. Among m t.history in
+              let R : System → Type 0 = λ t. Wrote tag (address_of t) (key_of m) in
+              subst R (sym now) (st.wrote s there_s m (subst Q now j) posting))
+        ];
+      }

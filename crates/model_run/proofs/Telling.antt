@@ -1,0 +1,44 @@
+-- Who tells plainly tells as the rule asks.
+use Rattle.std.proofs.Common.{◌≡◌, ◌≢◌, ◌⊎◌, inl, inr, refl, sym, ◌∙◌, IsTrue, List, [], ◌∷◌, subst}
+use Rattle.model_graph.specs.Beyond.{Beyond}
+use Rattle.model_run.specs.Nets.{Net, Tidy}
+use Rattle.model_run.specs.Events.{Filed}
+use Rattle.model_run.specs.Rules.{IsTold, IsToldPlainly}
+
+module _ {A N K C : Type 0} (net : Net A N) (tidy : Tidy net) (m : Filed A N K C) (to : List A) (x : A) (seen : List N)
+    (link : IsTrue (net.linked m.at x)) (plain : IsToldPlainly net m to seen) where
+  -- the addressee is not the sender
+  differ : x ≢ m.at
+  differ e = let P : A → Type 0 = λ a. IsTrue (net.linked m.at a) in tidy.no_self m.at (subst P e link)
+
+  -- behind x is neither the sender nor a link of it but x
+  not-behind : (d : A) → Beyond net.linked x m.at d → d ≢ x → (l : A) → d ≡ l → (l ≡ m.at) ⊎ IsTrue (net.linked m.at l) → ⊥
+  not-behind d beyond other l same near =
+      let P : A → Type 0 = λ a. Beyond net.linked x m.at a in
+      let at_l : P l = subst P same beyond in
+      elim near [
+        | inl own ↦ elim (at_l [] own) [ inl e ↦ differ (e ∙ own) | inr none ↦ none ]
+        | inr joined ↦ elim (at_l (m.at ∷ []) (tidy.both m.at l joined, refl)) [
+          | inl e ↦ other (same ∙ sym e)
+          | inr t ↦ elim t [ inl e ↦ differ e | inr none ↦ none ]
+        ]
+      ]
+
+  pub told-plainly : IsTold net m to x seen
+  told-plainly = record {
+    others = λ l h joined. plain.all l h;
+    behind = λ d carrier beyond other h. elim (plain.only (net.net_node d) h) [
+      | inl before ↦ before
+      | inr new ↦ elim new [
+        | inl near ↦ (let (l, of_m, e) = near in
+            absurd (not-behind d beyond other l (tidy.apart d l carrier (carries l of_m) e) of_m))
+        | inr none ↦ absurd (none d carrier refl)
+      ]
+    ];
+  }
+    where
+      carries : (l : A) → (l ≡ m.at) ⊎ IsTrue (net.linked m.at l) → IsTrue (net.carries l)
+      carries l near = elim near [
+        | inl own ↦ (let P : A → Type 0 = λ a. IsTrue (net.carries a) in subst P (sym own) (tidy.carriers m.at x link))
+        | inr joined ↦ tidy.carriers l m.at (tidy.both m.at l joined)
+      ]

@@ -1,0 +1,254 @@
+-- Every run of tidy epochs is orderly throughout.
+use Rattle.std.proofs.Common.{◌≡◌, inl, inr, refl, sym, subst, ap, ◌∙◌, ℕ, ◌≤◌, arith, List, [], ◌∷◌, ◌++◌, append_assoc, map}
+use Rattle.std.specs.Prelude.{Bool, ◌&&◌}
+use Rattle.echo_addr.specs.declared.address.Address.{Address}
+use Rattle.model_graph.specs.Walk.{Among}
+use Rattle.model_graph.proofs.Members.{Among-append_right}
+use Rattle.echo_links.specs.Links.{LinkFile, same_address}
+use Rattle.echo_filed.specs.declared.key.Key.{Key}
+use Rattle.echo_filed.specs.Filed.{Filed, key_of, same_key}
+use Rattle.model_run.specs.Events as rules
+use Rattle.model_run.specs.RulesOrderly.{goal}
+use Rattle.model_run.proofs.Eras.{whole-never_own, whole-same, whole-sent_once}
+use Rattle.model_run.specs.Run.{System, Run, start}
+use Rattle.model_run.specs.Orderly.{FiledUnchanged, IsPosting, Settled, count, sent_count, tag_of}
+use Rattle.model_run.specs.Tidy.{Tidy, Carries}
+use Rattle.model_run.specs.Fits.{FilesFit}
+use Rattle.model_run.specs.AreaNets.{net_of}
+use Rattle.model_run.specs.Keeping.{copy_count, filed_as}
+use Rattle.model_run.specs.Epochs.{Epoch, IsOf, OrderlyThroughout, PostedBetween, TidyThroughout, after_epoch, after_epochs, changed_to, nothing_yet, run_of_epochs}
+use Rattle.model_run.proofs.Counts as counts
+use Rattle.model_run.proofs.Counts.{Tells}
+use Rattle.model_run.proofs.TosserPremises.{Laws}
+use Rattle.model_run.proofs.Lists.{and-from, and-parts, Among-map_to}
+use Rattle.model_run.proofs.Bases.{HasKey, Kept-back, Kept-count, count-is}
+use Rattle.model_run.proofs.WellFormed.{RunOk, filed-once}
+use Rattle.model_run.proofs.Areas.{address_of, key-tag, tidy-net}
+use Rattle.model_run.proofs.WholeRuns.{fresh-empty}
+use Rattle.model_run.proofs.Histories.{Among-in, REvent, RCopy}
+use Rattle.model_run.proofs.Renewal.{renewed-back}
+use Rattle.model_run.proofs.Standing.{Equal, can, can_keys, equal-compares, filed-event, filed-here}
+use Rattle.model_run.proofs.StandingRuns.{events-stand, start-stands}
+use Rattle.model_run.proofs.OverChanges.{epochs-ok, events-outlive}
+use Rattle.model_run.proofs.Changes.{Change, Owed, Stands, entered, filed-p, owed-begins, owed-epoch, paid, same-systems, spared, stands-epoch}
+use Rattle.model_run.proofs.Unchanged.{filed-unchanged, same-parts}
+
+-- epochs one after another
+pub epochs-append : (earlier later : List Epoch) (run : Run) → after_epochs run (earlier ++ later) ≡ after_epochs (after_epochs run earlier) later
+epochs-append [] later run = refl
+epochs-append (epoch ∷ earlier) later run = epochs-append earlier later (after_epoch run epoch)
+
+-- the files after these epochs
+abbrev last_files : List LinkFile → List Epoch → List LinkFile
+last_files files [] = files
+last_files files (epoch ∷ later) = last_files epoch.files later
+
+-- how many copies went somewhere, counted by their goals
+abbrev same_goal : (Address × Key) → (Address × Key) → Bool
+same_goal g h = same_address g.0 h.0 && same_key g.1 h.1
+
+copy_count-is : (a : Address) (k : Key) (cs : List RCopy) → copy_count a k cs ≡ counts.count goal same_goal (a, k) cs
+copy_count-is a k [] = refl
+copy_count-is a k (c ∷ cs) = omega (arith, copy_count-is a k cs)
+
+tells-goals : Laws → Tells same_goal
+tells-goals laws = record {
+  sound = λ g h t.
+      let both = and-parts (same_address g.0 h.0) (same_key g.1 h.1) t in
+      let first : Address → Address × Key = λ a. (a, g.1) in
+      let second : Key → Address × Key = λ k. (h.0, k) in
+      ap first (laws.addresses.sound g.0 h.0 both.0) ∙ ap second (laws.keys.sound g.1 h.1 both.1);
+  full = λ g h e. and-from (same_address g.0 h.0) (same_key g.1 h.1)
+      (laws.addresses.full g.0 h.0 (ap (λ (p : Address × Key). p.0) e)) (laws.keys.full g.1 h.1 (ap (λ (p : Address × Key). p.1) e));
+}
+
+module _ (laws : Laws) (tag : List ℕ) where
+  -- epochs go on from a run, each change in order
+  abbrev GoOn : List LinkFile → Run → List Epoch → Type 0
+  GoOn files run [] = Unit {0}
+  GoOn files run (epoch ∷ later) = Change laws tag files run epoch.files × GoOn epoch.files (after_epoch run epoch) later
+
+  stands-after : (later : List Epoch) (files : List LinkFile) (run : Run) → Stands laws tag files run → GoOn files run later → Stands laws tag (last_files files later) (after_epochs run later)
+  stands-after [] files run st go = st
+  stands-after (epoch ∷ later) files run st go =
+      stands-after later epoch.files (after_epoch run epoch) (stands-epoch laws tag files run epoch st go.0) go.1
+
+  -- what is owed at the end of all epochs
+  record Ended (was : Address → Type 0) (run : Run) (m : Filed) : Type 0 where
+    files : List LinkFile
+    stands : Stands laws tag files run
+    owed : Owed laws tag was files stands.past run m
+
+  owed-after : (was : Address → Type 0) (m : Filed) (later : List Epoch) (files : List LinkFile) (run : Run) (st : Stands laws tag files run) →
+      GoOn files run later → Owed laws tag was files st.past run m → Ended was (after_epochs run later) m
+  owed-after was m [] files run st go owed = record { files = files; stands = st; owed = owed }
+  owed-after was m (epoch ∷ later) files run st go owed =
+      owed-after was m later epoch.files (after_epoch run epoch) (stands-epoch laws tag files run epoch st go.0) go.1 (owed-epoch laws tag was m files run st owed epoch go.0)
+
+  go-on-later : (earlier later : List Epoch) (files : List LinkFile) (run : Run) → GoOn files run (earlier ++ later) →
+      GoOn files run earlier × GoOn (last_files files earlier) (after_epochs run earlier) later
+  go-on-later [] later files run go = (tt, go)
+  go-on-later (epoch ∷ earlier) later files run go =
+      let (first, last) = go-on-later earlier later epoch.files (after_epoch run epoch) go.1 in
+      ((go.0, first), last)
+
+  -- epochs that are tidy throughout go on so
+  go-on : (epochs : List Epoch) → TidyThroughout epochs tag → (later earlier : List Epoch) (last : Epoch) → epochs ≡ earlier ++ last ∷ later →
+      GoOn last.files (run_of_epochs (earlier ++ last ∷ [])) later
+  go-on epochs t [] earlier last e = tt
+  go-on epochs t (next ∷ later) earlier last e =
+      let P : List Epoch → Type 0 = λ es. Among last es in
+      let Q : List Epoch → Type 0 = λ es. Among next es in
+      let at_last : Among last epochs = subst P (sym e) (Among-append_right last earlier (last ∷ (next ∷ later)) (inl refl)) in
+      let at_next : Among next epochs = subst Q (sym e) (Among-append_right next earlier (last ∷ (next ∷ later)) (inr (inl refl))) in
+      let R : Run → Type 0 = λ run. GoOn next.files run later in (
+        record { fit = t.fit next at_next; tidy = t.tidy next at_next; same = t.same_systems last next at_last at_next; settled = t.settled earlier last next later e },
+        subst R (epochs-append (earlier ++ last ∷ []) (next ∷ []) nothing_yet)
+            (go-on epochs t later (earlier ++ last ∷ []) next (e ∙ sym (append_assoc earlier (last ∷ []) (next ∷ later)))),
+      )
+
+  -- the first epoch
+  begun-first : (epoch : Epoch) → FilesFit epoch.files → Tidy epoch.files tag → Stands laws tag epoch.files (start epoch.files)
+  begun-first epoch fit tidy = record { tidy = tidy; past = []; standing = start-stands laws epoch.files tag fit }
+
+  stands-first : (epoch : Epoch) → FilesFit epoch.files → Tidy epoch.files tag → Stands laws tag epoch.files (after_epoch nothing_yet epoch)
+  unfolding begun-first
+  stands-first epoch fit tidy =
+      let begun = begun-first epoch fit tidy in
+      record { tidy = tidy; past = begun.past; standing = events-stand laws epoch.files tag tidy begun.past epoch.events (start epoch.files) begun.standing }
+
+  -- what is owed of a message of some epoch, at the end
+  owed-of : (earlier : List Epoch) (epoch : Epoch) (later : List Epoch) → TidyThroughout (earlier ++ epoch ∷ later) tag → (m : Filed) →
+      IsOf tag earlier epoch m → Ended (Carries epoch.files tag) (run_of_epochs (earlier ++ epoch ∷ later)) m
+  unfolding begun-first stands-first stands-epoch
+  owed-of [] epoch later t m is_of =
+      let fit = t.fit epoch (inl refl) in
+      let tidy = t.tidy epoch (inl refl) in
+      let begun = begun-first epoch fit tidy in
+      let st = stands-first epoch fit tidy in
+      owed-after (Carries epoch.files tag) m later epoch.files (after_epoch nothing_yet epoch) st (go-on (epoch ∷ later) t later [] epoch refl)
+      (owed-begins laws tag epoch.files (start epoch.files) begun (after_epoch nothing_yet epoch) st.standing (events-outlive laws (start epoch.files) begun.standing.ok epoch.events)
+      nothing_yet (λ z h n i. absurd (fresh-empty epoch.files z h n i)) m is_of)
+  owed-of (first ∷ earlier) epoch later t m is_of =
+      let begins = after_epoch nothing_yet first in
+      let st_first = stands-first first (t.fit first (inl refl)) (t.tidy first (inl refl)) in
+      let (go_earlier, go_epoch) = go-on-later earlier (epoch ∷ later) first.files begins (go-on (first ∷ (earlier ++ epoch ∷ later)) t (earlier ++ epoch ∷ later) [] first refl) in
+      let run = after_epochs begins earlier in
+      let st = stands-after earlier first.files begins st_first go_earlier in
+      let files = last_files first.files earlier in
+      let change = go_epoch.0 in
+      let same = same-systems laws tag files run epoch.files st.standing.same_files change.same in
+      let begun = entered laws tag files run epoch.files st change.fit change.tidy same change.settled in
+      let now = stands-epoch laws tag files run epoch st change in
+      let P : Run → Type 0 = λ r. PostedBetween tag run r m in
+      let posted = subst P (epochs-append earlier (epoch ∷ []) begins) is_of in
+      let owed = owed-begins laws tag epoch.files (changed_to run epoch.files) begun (after_epoch run epoch) now.standing
+      (events-outlive laws (changed_to run epoch.files) begun.standing.ok epoch.events) run (λ z h n i.
+      let (s, j, renewed) = renewed-back epoch.files run.systems z same h in
+      (s, j, sym renewed.address, Among-in n z.history s.history renewed.history i)) m posted in
+      let R : Run → Type 0 = λ r. Ended (Carries epoch.files tag) r m in
+      subst R (sym (epochs-append earlier (epoch ∷ later) begins))
+      (owed-after (Carries epoch.files tag) m later epoch.files (after_epoch run epoch) now go_epoch.1 owed)
+
+  -- the same of epochs that are these
+  owed-at : (epochs : List Epoch) → TidyThroughout epochs tag → (earlier : List Epoch) (epoch : Epoch) (later : List Epoch) → epochs ≡ earlier ++ epoch ∷ later →
+      (m : Filed) → IsOf tag earlier epoch m → Ended (Carries epoch.files tag) (run_of_epochs epochs) m
+  owed-at epochs t earlier epoch later e m is_of =
+      let P : List Epoch → Type 0 = λ es. TidyThroughout es tag in
+      let Q : List Epoch → Type 0 = λ es. Ended (Carries epoch.files tag) (run_of_epochs es) m in
+      subst Q (sym e) (owed-of earlier epoch later (subst P e t) m is_of)
+
+  -- who was to have it has filed it once, unchanged
+  had-it : (run : Run) (m : Filed) (was : Address → Type 0) → Ended was run m → Settled run tag → (s : System) → Among s run.systems → was (address_of s) → FiledUnchanged s m
+  had-it run m was ended settled s h had =
+      let st = ended.stands in
+      let at = st.standing in
+      let files = ended.files in
+      let given = paid laws tag was m files run st ended.owed settled in
+      let (n, i, key) = filed-here laws files tag st.tidy st.past run at s h (key_of m) (given.to_all (address_of s) had) in
+      let (f, at_f, j, posting) = ended.owed.posted in
+      filed-unchanged laws s (at.ok.systems s h) m
+      (omega (arith, (at.ok.systems s h).once (key_of m), count-is (key_of m) s.history, counts.count-has key_of same_key laws.keys (key_of m) s.history n i key))
+      (λ o l e. same-parts o m (whole-same (can laws) (can_keys laws) (net_of files tag) (tidy-net laws files tag st.tidy) Equal equal-compares st.past at.recent at.since
+      (filed_as (address_of s) o) (filed_as (address_of f) m)
+      (filed-event laws files tag st.tidy st.past run at s h o l (sym (key-tag o) ∙ (ap tag_of e ∙ (key-tag m ∙ posting.area))))
+      (filed-p laws tag was m files run st ended.owed) posting.own e))
+
+  -- a system that has not filed a key has none in its base
+  none-in_base : (run : Run) → RunOk run → (s : System) → Among s run.systems → (k : Key) → ¬ HasKey k s.history → count k s.base ≡ 0
+  none-in_base run ok s h k none =
+      Kept-count k s.cursor s.base s.history (ok.systems s h).kept
+      ∙ (count-is k s.history ∙ counts.count-none key_of same_key laws.keys k s.history (λ m i e. none (m, i, e)))
+
+  run-ok : (epochs : List Epoch) → TidyThroughout epochs tag → RunOk (run_of_epochs epochs)
+  run-ok epochs t = epochs-ok laws epochs nothing_yet t.fit (record { systems = λ s h. absurd h; packets = λ p h. absurd h })
+
+  -- what was sent, by the events
+  module _ (files : List LinkFile) (run : Run) (st : Stands laws tag files run) where
+    abbrev whole : List REvent
+    whole = st.standing.recent ++ st.past
+
+    unsent : (a : Address) (k : Key) → tag_of k ≡ tag → ¬ Among (a, k) (map goal (rules.copies whole)) → sent_count a k run.packets ≡ 0
+    unsent a k e none =
+        let P : Address × Key → Type 0 = λ g. Among g (map goal (rules.copies whole)) in
+        sym (st.standing.history.as_many a k e)
+        ∙ (copy_count-is a k (rules.copies whole)
+        ∙ counts.count-none goal same_goal (tells-goals laws) (a, k) (rules.copies whole) (λ c h q. none (subst P q (Among-map_to goal c (rules.copies whole) h))))
+
+    sent-once : (a : Address) (k : Key) → tag_of k ≡ tag → sent_count a k run.packets ≤ 1
+    sent-once a k e = omega (
+      arith,
+      st.standing.history.as_many a k e,
+      copy_count-is a k (rules.copies whole),
+      counts.count-different goal same_goal (tells-goals laws) (a, k) (rules.copies whole)
+          (whole-sent_once (can laws) (can_keys laws) (net_of files tag) (tidy-net laws files tag st.tidy) Equal equal-compares st.past st.standing.recent st.standing.since),
+    )
+
+    never-own : (s : System) → Among s run.systems → (m : Filed) → Among m s.history → IsPosting tag m → sent_count (address_of s) (key_of m) run.packets ≡ 0
+    never-own s h m i posting = unsent (address_of s) (key_of m) (key-tag m ∙ posting.area)
+        (whole-never_own (can laws) (can_keys laws) (net_of files tag) (tidy-net laws files tag st.tidy) Equal equal-compares st.past st.standing.recent st.standing.since
+        (filed_as (address_of s) m) (filed-event laws files tag st.tidy st.past run st.standing s h m i posting.area) posting.own)
+
+  pub orderly-throughout : (epochs : List Epoch) → TidyThroughout epochs tag → OrderlyThroughout epochs tag
+  orderly-throughout [] t = record {
+    filed_once = λ s h k. absurd h;
+    sent_once = λ s h k e. absurd h;
+    never_own = λ s h m i posting. absurd h;
+    all_came = λ settled earlier epoch later e m is_of s h c. absurd h;
+  }
+  orderly-throughout (first ∷ rest) t =
+      let epochs = first ∷ rest in
+      let run = run_of_epochs epochs in
+      let ok = run-ok epochs t in
+      let files = last_files first.files rest in
+      let st = stands-after rest first.files (after_epoch nothing_yet first) (stands-first first (t.fit first (inl refl)) (t.tidy first (inl refl)))
+      (go-on epochs t rest [] first refl) in
+      record {
+        filed_once = λ s h k. filed-once run ok s h k;
+        sent_once = λ s h k e. sent-once files run st (address_of s) k e;
+        never_own = λ s h m i posting.
+            let (o, j, kept) = Kept-back s.cursor s.base s.history (ok.systems s h).kept m i in
+            let area : o.echo.tag ≡ tag = sym (key-tag o) ∙ (ap tag_of (sym kept.key) ∙ (key-tag m ∙ posting.area)) in
+            let zero = never-own files run st s h o j (record { own = sym kept.sender ∙ posting.own; area = area }) in
+            ap (λ (k : Key). sent_count (address_of s) k run.packets) kept.key ∙ zero;
+        all_came = λ settled earlier epoch later e m is_of s h c. had-it run m (Carries epoch.files tag) (owed-at epochs t earlier epoch later e m is_of) settled s h c;
+      }
+
+  -- who did not have the area in the epoch of a message is not sent it, and does not file it
+  pub no-others : (epochs : List Epoch) → TidyThroughout epochs tag → (earlier : List Epoch) (epoch : Epoch) (later : List Epoch) → epochs ≡ earlier ++ epoch ∷ later →
+      (m : Filed) → IsOf tag earlier epoch m → (s : System) → Among s (run_of_epochs epochs).systems → (¬ Carries epoch.files tag s.file.system) →
+      (sent_count s.file.system (key_of m) (run_of_epochs epochs).packets ≡ 0) × (count (key_of m) s.base ≡ 0)
+  no-others epochs t earlier epoch later e m is_of s h c =
+      let run = run_of_epochs epochs in
+      let ended = owed-at epochs t earlier epoch later e m is_of in
+      let st = ended.stands in
+      let area : tag_of (key_of m) ≡ tag = key-tag m ∙ ended.owed.posted.3.area in
+      let (unfiled, not_sent) = spared laws tag (Carries epoch.files tag) m ended.files run st ended.owed (address_of s) c in (
+        unsent ended.files run st (address_of s) (key_of m) area not_sent,
+        none-in_base run (run-ok epochs t) s h (key_of m) (λ has. unfiled (
+          filed_as (address_of s) has.0,
+          filed-event laws ended.files tag st.tidy st.past run st.standing s h has.0 has.1 (sym (key-tag has.0) ∙ (ap tag_of has.2 ∙ area)),
+          refl,
+          has.2,
+        )),
+      )

@@ -1,0 +1,109 @@
+-- Nets that `check` refuses though nothing goes wrong in the run that is computed: for these clauses a No is more careful than it
+-- has to be. And a net with a cycle that is tidy, which a rule against all cycles would refuse.
+use Rattle.std.proofs.Common.{◌≡◌, ◌≢◌, inl, inr, refl, ap, ℕ, arith, List, [], ◌∷◌, codes}
+use Rattle.std.specs.Prelude.{true, false}
+use Rattle.std.specs.Fmt.{digits}
+use Rattle.echo_addr.specs.declared.address.Address.{Address}
+use Rattle.echo_addr.specs.Entries.{entries, pair_of, tokens}
+use Rattle.echo_text.specs.Lines.{lines, trimmed, begins, after_word}
+use Rattle.echo_text.specs.Tail.{kept_of, path_lists, seen_lists}
+use Rattle.echo_text.specs.Echo.{msgid_of}
+use Rattle.echo_text.specs.Ids.{id_of}
+use Rattle.echo_text.specs.Refusal.{text_refusal}
+use Rattle.echo_filed.specs.Sets.{address_set, entry_set}
+use Rattle.model_steps.specs.Stamps.{date_of}
+use Rattle.echo_links.specs.Links.{LinkFile, links_of}
+use Rattle.echo_filed.specs.Written.{echo_of, short_lines, text_of}
+use Rattle.echo_filed.specs.Filed.{key_of}
+use Rattle.model_steps.specs.Posting.{post_refusal, posted, posted_lines, posting}
+use Rattle.echo_filed.specs.Stubs.{stub_of}
+use Rattle.model_steps.specs.Purging.{purged}
+use Rattle.model_steps.specs.Scanning.{copy_to, exported, header_to, packet_to, packets_of, recipients, scanned, targets}
+use Rattle.model_steps.specs.Tossing.{received, toss_outcome, tossing}
+use Rattle.model_run.specs.Event.{Delivery}
+use Rattle.model_run.specs.Run.{Run, run_of}
+use Rattle.model_run.specs.Orderly.{sent_count}
+use Rattle.model_graph.specs.Cycle.{NoCycle}
+use Rattle.model_run.specs.Tidy.{Tidy, lists}
+use Rattle.model_run.proofs.NetExamples.{address, all_done, carrier, far, file, first_key, line, post, scan, shown, triangle}
+use Rattle.model_run.proofs.TidyExamples.{test, triangle_tidy}
+
+-- a system without the area
+abbrev without : ℕ → LinkFile
+without node = record { system = address node; name = codes "echonet"; areas = [] }
+
+-- clause 2: the second file of 1:10/2 lacks the area
+abbrev second_file : List LinkFile
+second_file = file 1 (2 ∷ []) ∷ (file 2 (1 ∷ []) ∷ (without 2 ∷ []))
+
+-- clause 4: 1:10/1 lists 1:10/3, which lacks the area
+abbrev to_another : List LinkFile
+to_another = file 1 (2 ∷ (3 ∷ [])) ∷ (file 2 (1 ∷ []) ∷ (without 3 ∷ []))
+
+-- clause 6: two systems of one net and node, which are linked with each other alone
+abbrev twins : List LinkFile
+twins = carrier (address 1) (far ∷ []) ∷ (carrier far (address 1 ∷ []) ∷ [])
+
+-- none of them is tidy
+two_of_one_address : ¬ Tidy second_file test
+two_of_one_address t = t.joined.one_file.1.0 (inl refl)
+
+no_carrier : ¬ Tidy to_another test
+unfolding links_of
+no_carrier t = differ (t.joined.known (address 1) (address 3) refl)
+  where
+    differ : (let no_bit = false in no_bit ≡ true) → ⊥
+    differ e = cc
+
+one_net_node : ¬ Tidy twins test
+one_net_node t =
+    let e = t.joined.apart (address 1) far refl refl refl in
+    absurd (omega (arith, ap (λ (a : Address). a.zone) e))
+
+-- but a posting of the first system comes to each that has the area once, and the others are sent nothing again; so
+-- does one of the second twin
+abbrev from_second : Run
+from_second = run_of twins (post 1 ∷ (scan 1 ∷ (Delivery 0 ∷ (scan 0 ∷ []))))
+
+record GoesWell : Type 0 where
+  second_file_shown : shown (all_done second_file) ≡ line (1 ∷ (1 ∷ (0 ∷ []))) (0 ∷ (0 ∷ (0 ∷ []))) 1 0 true
+  second_file_sent : (sent_count (address 1) first_key (all_done second_file).packets ≡ 0) × (sent_count (address 2) first_key (all_done second_file).packets ≡ 1)
+  to_another_shown : shown (all_done to_another) ≡ line (1 ∷ (1 ∷ (0 ∷ []))) (0 ∷ (0 ∷ (0 ∷ []))) 2 0 true
+  to_another_sent : (sent_count (address 1) first_key (all_done to_another).packets ≡ 0) × (sent_count (address 2) first_key (all_done to_another).packets ≡ 1)
+  twins_shown : shown (all_done twins) ≡ line (1 ∷ (1 ∷ [])) (0 ∷ (0 ∷ [])) 1 0 true
+  twins_sent : (sent_count (address 1) first_key (all_done twins).packets ≡ 0) × (sent_count far first_key (all_done twins).packets ≡ 1)
+  second_twin_shown : shown from_second ≡ line (1 ∷ (1 ∷ [])) (0 ∷ (0 ∷ [])) 1 0 true
+
+goes_well : GoesWell
+unfolding posted posted_lines posting post_refusal id_of trimmed lines digits date_of scanned packets_of recipients packet_to targets links_of address_set header_to copy_to exported entry_set text_of short_lines received toss_outcome tossing text_refusal echo_of kept_of path_lists seen_lists begins after_word entries tokens pair_of key_of msgid_of purged stub_of
+goes_well = record {
+  second_file_shown = refl;
+  second_file_sent = (refl, refl);
+  to_another_shown = refl;
+  to_another_sent = (refl, refl);
+  twins_shown = refl;
+  twins_sent = (refl, refl);
+  second_twin_shown = refl;
+}
+
+-- a triangle is tidy, and its three systems are a cycle
+three_in_a_cycle : ¬ NoCycle (lists triangle test)
+unfolding links_of
+three_in_a_cycle none = none (address 1) (address 2 ∷ (address 3 ∷ [])) (record {
+  long = omega arith;
+  different = (
+    λ h. elim h [ inl e ↦ differ 1 2 (omega arith) e | inr k ↦ elim k [ inl e ↦ differ 1 3 (omega arith) e | inr z ↦ z ] ],
+    (λ h. elim h [ inl e ↦ differ 2 3 (omega arith) e | inr z ↦ z ], (λ h. h, tt)),
+  );
+  closed = (address 3, (refl, (refl, refl)), refl);
+})
+  where
+    differ : (i j : ℕ) → i ≢ j → address i ≢ address j
+    differ i j other e = other (ap (λ (a : Address). a.node) e)
+
+record TidyWithCycle : Type 0 where
+  tidy : Tidy triangle test
+  cycle : ¬ NoCycle (lists triangle test)
+
+triangle_has_both : TidyWithCycle
+triangle_has_both = record { tidy = triangle_tidy; cycle = three_in_a_cycle }

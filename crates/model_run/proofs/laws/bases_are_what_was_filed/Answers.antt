@@ -1,0 +1,11 @@
+use Rattle.model_run.proofs.TosserLaws.{the_laws}
+use Rattle.model_run.proofs.Bases.{Kept-at, Kept-length, Kept-waiting}
+use Rattle.model_run.proofs.EachSystem.{run-kept}
+use Rattle.model_run.proofs.laws.bases_are_what_was_filed.Goals as goal
+
+pub returns : goal.returns
+returns c = record {
+  places = λ files events s h i m filed e f. (Kept-at s.cursor s.base s.history (run-kept the_laws files events s h) i m filed e f).form;
+  number = λ files events s h. Kept-length s.cursor s.base s.history (run-kept the_laws files events s h);
+  waiting = λ files events s h. Kept-waiting s.cursor s.base s.history (run-kept the_laws files events s h);
+}

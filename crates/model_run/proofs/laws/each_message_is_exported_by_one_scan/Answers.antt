@@ -1,0 +1,22 @@
+use Rattle.model_run.specs.Run.{run_of}
+use Rattle.model_run.specs.Exports.{exports, sent_by}
+use Rattle.model_run.proofs.TosserLaws.{the_laws}
+use Rattle.model_run.proofs.Lists.{nth-among}
+use Rattle.model_run.proofs.WholeRuns.{run-ok}
+use Rattle.model_run.proofs.ExportLog.{run-logged}
+use Rattle.model_run.proofs.Stations.{sent-once, sent-to_others, waits-unsent}
+use Rattle.model_run.proofs.laws.each_message_is_exported_by_one_scan.Goals as goal
+
+pub returns : goal.returns
+returns c = record {
+  one_scan = λ files fit events. (run-logged the_laws files fit events).1.one_scan;
+  targets = λ files fit events i s at m h a.
+      sent-once the_laws s ((run-ok the_laws files fit events).systems s (nth-among i s (run_of files events).systems at))
+      (sent_by i (exports files events)) ((run-logged the_laws files fit events).1.made i s at) m a h;
+  others = λ files fit events i s at m h a.
+      sent-to_others the_laws s ((run-ok the_laws files fit events).systems s (nth-among i s (run_of files events).systems at))
+      (sent_by i (exports files events)) ((run-logged the_laws files fit events).1.made i s at) m a h;
+  waiting = λ files fit events i s at m h a.
+      waits-unsent the_laws s ((run-ok the_laws files fit events).systems s (nth-among i s (run_of files events).systems at))
+      (sent_by i (exports files events)) ((run-logged the_laws files fit events).1.made i s at) m a h;
+}

@@ -1,0 +1,13 @@
+use Rattle.std.proofs.Common.{IsTrue}
+use Rattle.echo_links.specs.Links.{same_address}
+use Rattle.model_run.proofs.Runs.{every_run-orderly}
+use Rattle.model_run.proofs.Counts.{Tells-can}
+use Rattle.model_run.proofs.TosserLaws.{the_laws}
+use Rattle.model_run.specs.AreaNets.{net_of}
+use Rattle.model_run.proofs.TidyNets.{tidy-net}
+use Rattle.model_run.proofs.rules_laws.any_tossers_on_tidy_files_are_orderly.Goals as goal
+
+pub returns : goal.returns
+returns g c = λ can_keys files tag tidy same compares run.
+    every_run-orderly (Tells-can same_address the_laws.addresses) can_keys (net_of files tag) (tidy-net files tag tidy)
+    (λ a b. IsTrue (same a b)) compares run

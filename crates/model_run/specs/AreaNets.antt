@@ -1,0 +1,16 @@
+-- The net in one area that link files say.
+use Rattle.std.specs.Prelude.{ℕ, List}
+use Rattle.echo_addr.specs.declared.address.Address.{Address}
+use Rattle.echo_addr.specs.declared.address.NetNode.{NetNode}
+use Rattle.echo_addr.specs.Address.{net_node_of}
+use Rattle.echo_links.specs.Links.{LinkFile}
+use Rattle.model_run.specs.Nets.{Net, Tidy}
+use Rattle.model_run.specs.Tidy.{carries, lists}
+
+-- which addresses have the area, which links each lists in it, and the net and node of each
+abbrev pub net_of : List LinkFile → List ℕ → Net Address NetNode
+net_of files tag = record { carries = carries files tag; linked = lists files tag; net_node = net_node_of }
+
+-- that net is in order for any tossers
+abbrev pub IsTidyNet : List LinkFile → List ℕ → Type 0
+IsTidyNet files tag = Tidy (net_of files tag)

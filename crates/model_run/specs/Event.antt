@@ -1,0 +1,22 @@
+-- Events of a net of tossers.
+use Rattle.std.specs.Prelude.{ℕ, List}
+use Rattle.model_steps.specs.declared.draft.Draft.{Draft}
+use Rattle.model_steps.specs.declared.stamp.Stamp.{Stamp}
+use Rattle.model_run.specs.declared.event.Event.{Event}
+use Rattle.model_run.specs.declared.event.Event.TheVariants.{Deliver, Post, Purge, Scan}
+
+-- A system posts, scans or purges; a packet comes, or its toss stops after its first messages. Systems
+-- go by their index in the list of files, packets by their order of export.
+pub data RunEvent : Type 0 where
+  Posting : (system : ℕ) (tag : List ℕ) (draft : Draft) (serial : ℕ) (stamp : Stamp) → RunEvent
+  Scanning : (system : ℕ) (stamp : Stamp) → RunEvent
+  Delivery : (packet : ℕ) → RunEvent
+  PartDelivery : (packet messages : ℕ) → RunEvent
+  Purging : (system : ℕ) → RunEvent
+
+-- an event of the program as an event of a run
+abbrev pub run_event : Event → RunEvent
+run_event (Post system tag draft serial stamp) = Posting system tag draft serial stamp
+run_event (Scan system stamp) = Scanning system stamp
+run_event (Deliver packet) = Delivery packet
+run_event (Purge system) = Purging system

@@ -1,0 +1,116 @@
+-- What is filed keeps what holds of each base.
+use Rattle.std.proofs.Common.{◌≡◌, ℕ, ◌-◌, ◌*◌, ◌≤◌, nat_lt, nat_le, true, false, List, [], ◌∷◌, ◌++◌, length, drop, codes, sym, ap, subst, ◌∙◌, Some, None, arith}
+use Rattle.std.specs.Int.{is_in_range}
+use Rattle.std.specs.List.{list_any}
+use Rattle.std.proofs.lemmas.Bool.{and_parts, leb-true, ltb-false, or_parts}
+use Rattle.std.proofs.lemmas.List.{length-append, length-drop, length-take}
+use Rattle.echo_addr.specs.declared.address.Address.{Address}
+use Rattle.echo_packet.specs.Message.{IsMessage, Message, max_name, max_subject}
+use Rattle.echo_text.specs.Ids.{id_of, is_zero}
+use Rattle.echo_text.specs.Refusal.{text_refusal}
+use Rattle.model_steps.specs.declared.draft.Draft.{Draft}
+use Rattle.echo_filed.specs.declared.key.Key.TheVariants.{ById}
+use Rattle.model_steps.specs.declared.stamp.Stamp.{Stamp}
+use Rattle.echo_links.specs.Links.{IsFile, LinkFile}
+use Rattle.echo_filed.specs.Filed.{Filed, HasSmallSender, IsFiled, key_of, key_with}
+use Rattle.base_file.specs.Base.{IsBase, is_known}
+use Rattle.model_steps.specs.Stamps.{date_of, is_stamp, month_name, two_digits}
+use Rattle.model_steps.specs.Posting.{IsAllowed, posted, posting}
+use Rattle.model_steps.specs.Tossing.{received, tossing}
+use Rattle.echo_text.proofs.Reread.{read_is_echo}
+use Rattle.echo_filed.specs.Written.{echo_of}
+use Rattle.model_steps.proofs.Received.{tossing_received}
+use Rattle.echo_filed.proofs.Texts.{says_read}
+use Rattle.echo_filed.proofs.Plain.{some_bytes}
+use Rattle.base_file.proofs.Entries.{none_known, one_more}
+use Rattle.model_steps.proofs.Posted.{posted_id, posted_is_echo, posting_posted}
+
+-- DateTime has 20 bytes
+month_long : (month : ℕ) → 1 ≤ month → month ≤ 12 → length (month_name month) ≡ 3
+month_long month low high =
+    omega (
+      arith,
+      length-take 3 (drop (3 * (month - 1)) (codes "JanFebMarAprMayJunJulAugSepOctNovDec")),
+      length-drop (3 * (month - 1)) (codes "JanFebMarAprMayJunJulAugSepOctNovDec"),
+    )
+
+month_right : (s : Stamp) → is_stamp s ≡ true → (1 ≤ s.month) × (s.month ≤ 12)
+month_right s h =
+    let rest = (and_parts (is_in_range 1980 2079 s.year) _ h).1 in
+    let range = and_parts (nat_le 1 s.month) (nat_le s.month 12) (and_parts (is_in_range 1 12 s.month) _ rest).0 in
+    (leb-true 1 s.month range.0, leb-true s.month 12 range.1)
+
+abbrev after_month : Stamp → List ℕ
+after_month s =
+    codes " " ++ (two_digits s.year ++ (codes "  " ++ (two_digits s.hour ++ (codes ":" ++ (two_digits s.minute
+    ++ (codes ":" ++ (two_digits s.second ++ 0 ∷ [])))))))
+
+date_long : (s : Stamp) → is_stamp s ≡ true → length (date_of s) ≡ 20
+unfolding date_of
+date_long s h =
+    let month = month_right s h in
+    omega (arith, month_long s.month month.0 month.1, length-append (month_name s.month) (after_month s))
+
+pub posted_filed : (file : LinkFile) (base : List Filed) (tag : List ℕ) (draft : Draft) (serial : ℕ) (stamp : Stamp) → IsFile file → IsAllowed file base tag draft serial stamp
+    → IsFiled (posted file tag draft serial stamp)
+unfolding posted
+posted_filed file base tag draft serial stamp h ok =
+    let zero = or_parts (list_any is_zero draft.to_name) _ ok.zero in
+    let zero' = or_parts (list_any is_zero draft.from_name) _ zero.1 in
+    let zero'' = or_parts (list_any is_zero draft.subject) _ zero'.1 in
+    let short = or_parts (nat_lt max_name (length draft.to_name)) _ ok.short in
+    let short' = or_parts (nat_lt max_name (length draft.from_name)) (nat_lt max_subject (length draft.subject)) short.1 in
+    record {
+      small_sender = tt;
+      date_len = date_long stamp ok.moment;
+      to_room = ltb-false max_name (length draft.to_name) short.0;
+      to_bytes = some_bytes draft.to_name zero.0;
+      from_room = ltb-false max_name (length draft.from_name) short'.0;
+      from_bytes = some_bytes draft.from_name zero'.0;
+      subject_room = ltb-false max_subject (length draft.subject) short'.1;
+      subject_bytes = some_bytes draft.subject zero''.0;
+      is_echo = posted_is_echo file base tag draft serial stamp h ok;
+    }
+
+-- its key is no key of the base
+pub posted_new : (file : LinkFile) (base : List Filed) (tag : List ℕ) (draft : Draft) (serial : ℕ) (stamp : Stamp) → IsFile file → IsAllowed file base tag draft serial stamp
+    → is_known base (key_of (posted file tag draft serial stamp)) ≡ false
+unfolding key_of
+posted_new file base tag draft serial stamp h ok =
+    let key : key_of (posted file tag draft serial stamp) ≡ ById (posted file tag draft serial stamp).echo.tag (id_of file.system serial) =
+    ap (key_with (posted file tag draft serial stamp)) (posted_id file h tag draft serial stamp) in
+    ap (is_known base) key ∙ none_known base ((posted file tag draft serial stamp).echo.tag) (id_of file.system serial) ok.new
+
+-- a posting keeps what holds of each base
+pub posting_keeps : (file : LinkFile) (base : List Filed) (cursor : ℕ) (tag : List ℕ) (draft : Draft) (serial : ℕ) (stamp : Stamp) (m : Filed)
+    → IsFile file → IsBase base cursor → posting file base tag draft serial stamp ≡ Some m → IsBase (base ++ m ∷ []) cursor
+posting_keeps file base cursor tag draft serial stamp m h is e =
+    let p = posting_posted file base tag draft serial stamp m e in
+    let P : Filed → Type 0 = λ x. IsBase (base ++ x ∷ []) cursor in
+    subst P (sym p.is) (one_more base cursor (posted file tag draft serial stamp) is (posted_filed file base tag draft serial stamp h p.allowed) (posted_new file base tag draft serial stamp h p.allowed))
+
+pub received_filed : (most : ℕ) (sender : Address) (packed : Message) → HasSmallSender (Some sender) → IsMessage most packed → text_refusal packed.text ≡ None
+    → IsFiled (received sender packed)
+unfolding received
+received_filed most sender packed small is text =
+    let said = says_read packed.text text in
+    record {
+      small_sender = small;
+      date_len = is.date_len;
+      to_room = is.to_name.room;
+      to_bytes = is.to_name.no_zero;
+      from_room = is.from_name.room;
+      from_bytes = is.from_name.no_zero;
+      subject_room = is.subject.room;
+      subject_bytes = is.subject.no_zero;
+      is_echo = read_is_echo packed.text (echo_of packed.text) said.0
+          is.text.no_zero said.1;
+    }
+
+-- a toss keeps what holds of each base
+pub tossing_keeps : (most : ℕ) (file : LinkFile) (base : List Filed) (cursor : ℕ) (sender : Address) (packed : Message) (m : Filed)
+    → HasSmallSender (Some sender) → IsMessage most packed → IsBase base cursor → tossing file base sender packed ≡ Some m → IsBase (base ++ m ∷ []) cursor
+tossing_keeps most file base cursor sender packed m small is h e =
+    let p = tossing_received file base sender packed m e in
+    let P : Filed → Type 0 = λ x. IsBase (base ++ x ∷ []) cursor in
+    subst P (sym p.1) (one_more base cursor (received sender packed) h (received_filed most sender packed small is p.0.text) p.0.new)

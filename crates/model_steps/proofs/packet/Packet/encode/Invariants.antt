@@ -1,0 +1,14 @@
+use Rattle.std.proofs.Common.{◌≡◌, ◌++◌, false, length, take}
+use Rattle.std.specs.List.{AllByRecursion}
+use Rattle.disk_io.specs.Watched.{watched_device}
+use Rattle.echo_packet.specs.Header.{header_bytes}
+use Rattle.echo_packet.specs.Message.{IsMessage, messages_bytes}
+use Rattle.echo_packet.specs.Writer.{has_stopped, writer_below}
+use Rattle.model_steps.proofs.packet.Packet.encode.Given as goal
+
+abbrev pub invariant-messages : goal.invariant-messages
+invariant-messages l = record {
+  goes_on : has_stopped l.writer ≡ false;
+  bytes : (watched_device (writer_below l.writer)).items ≡ header_bytes l.self.header ++ messages_bytes (take l.message-index l.self.messages);
+  each : AllByRecursion (λ m. IsMessage (length m.text) m) (take l.message-index l.self.messages);
+}

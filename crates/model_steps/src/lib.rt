@@ -1,0 +1,26 @@
+//! The steps of a system: how posting, tossing, scanning and purging change its base.
+//!
+//! Promise: `PostStep`, `TossStep`, `ScanStep` and `PurgeStep` of specs/. Each keeps the rules of a base.
+//!
+//! Begin with specs/Posting and specs/Tossing. `stamp` and `draft` are posted, `outcome` is the result of a
+//! tossed message, a scan makes a `packet` and writes it as `packet_file`. specs/Resending has the packets that are
+//! made again. `fault` lists the refusals, `laws` states the promise.
+#![tactic(auto)]
+
+mod draft;
+mod fault;
+mod laws;
+mod outcome;
+mod packet;
+mod packet_file;
+mod stamp;
+
+pub use draft::Draft;
+pub use fault::{PostFault, ScanFault};
+pub use laws::{
+    base_laws, copy_laws, posting_laws, posting_refusals, scan_law, toss_law, toss_outcomes,
+};
+pub use outcome::Outcome;
+pub use packet::Packet;
+pub use packet_file::PacketFile;
+pub use stamp::Stamp;

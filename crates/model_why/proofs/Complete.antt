@@ -1,0 +1,87 @@
+-- What is not found in a run is not there.
+use Rattle.std.proofs.Common.{◌≡◌, ◌∙◌, refl, sym, subst, ap, ℕ, zero, suc, ◌<◌, ◌≤◌, arith, List, [], ◌∷◌, length, Option, Some, None}
+use Rattle.std.specs.Prelude.{Bool, true, false, ◌&&◌, MatchOption, bytes_eq, option_map, unwrap_or}
+use Rattle.echo_addr.specs.declared.address.Address.{Address}
+use Rattle.echo_text.specs.Echo.{msgid_of}
+use Rattle.echo_text.specs.Ids.{id_of}
+use Rattle.echo_links.specs.Links.{LinkFile}
+use Rattle.echo_filed.specs.declared.key.Key.TheVariants.{ById}
+use Rattle.echo_filed.specs.Filed.{Filed, key_of}
+use Rattle.echo_filed.proofs.Keys.{same_key_decides}
+use Rattle.model_run.specs.Run.{Run, System, nth}
+use Rattle.model_run.specs.Orderly.{IsPosting, sent_count}
+use Rattle.model_run.specs.World.{area_count, filed_at}
+use Rattle.model_replay.specs.Worlds.{message_at}
+use Rattle.model_why.specs.Found.{CarriesAt, PostedAt}
+use Rattle.model_why.specs.Resting.{PostsFirst}
+use Rattle.model_why.proofs.Counting.{has_key}
+
+pub not_there : (b : Bool) → b ≡ true → b ≡ false → ⊥
+not_there true h k = cc
+not_there false h k = cc
+
+pub none_left : {X : Type 0} (o : Option X) → ((x : X) → o ≡ Some x → ⊥) → o ≡ None
+none_left None other = refl
+none_left (Some x) other = absurd (other x refl)
+
+pub at_none : {X : Type 0} (P : Type 0) (Q : X → Type 0) (o : Option X) → ((x : X) → o ≡ Some x → ⊥) → MatchOption o P Q → P
+at_none P Q None other h = h
+at_none P Q (Some x) other h = absurd (other x refl)
+
+pub nth-within : {X : Type 0} (i : ℕ) (x : X) (xs : List X) → nth i xs ≡ Some x → i < length xs
+nth-within i x [] h = absurd (cc)
+nth-within zero x (y ∷ xs) h = omega arith
+nth-within (suc i) x (y ∷ xs) h = omega (arith, nth-within i x xs h)
+
+-- the message that is read off is the posting
+pub no_message : {m : Filed} → (let none : Option Filed = None in none ≡ Some m) → ⊥
+no_message e = cc
+
+pub not_posted : (run : Run) (i : ℕ) (tag id : List ℕ) (m : Filed) → Some m ≡ message_at run i 0 → PostsFirst run i tag id →
+    IsPosting tag m × (key_of m ≡ ById tag id)
+not_posted run i tag id m found first =
+    let P : Filed → Type 0 = λ x. IsPosting tag x × (key_of x ≡ ById tag id) in
+    subst P (sym (one (found ∙ first.first))) (first.posting, first.key)
+  where
+    one : {x y : Filed} → Some x ≡ Some y → x ≡ y
+    one e = cc
+
+same_system : {s z : System} → Some s ≡ Some z → s ≡ z
+same_system e = cc
+
+-- a message of this tag and id passes the test
+pub passes : (m : Filed) (tag id of : List ℕ) (found : Option (List ℕ)) → of ≡ m.echo.tag → found ≡ msgid_of m.echo.kept → key_of m ≡ ById tag id →
+    bytes_eq of tag && unwrap_or (option_map (λ (f : List ℕ). bytes_eq f id) found) false ≡ true
+passes m tag id of found is_of is_found key =
+    let test = λ (t : List ℕ) (o : Option (List ℕ)). bytes_eq t tag && unwrap_or (option_map (λ (f : List ℕ). bytes_eq f id) o) false in
+    (λ i. test (is_of i) (is_found i)) ∙ (sym (has_key m tag id) ∙ (same_key_decides (key_of m) (ById tag id)).1 key)
+
+-- one that is sent the message less than twice
+pub few-at : (run : Run) (i : ℕ) (tag id : List ℕ) (a : Address) (times : ℕ) → CarriesAt run i tag a → times ≡ sent_count a (ById tag id) run.packets → times < 2 →
+    (s : System) → nth i run.systems ≡ Some s → sent_count s.file.system (ById tag id) run.packets ≤ 1
+few-at run i tag id a times carrier sent few s at =
+    let P : Address → Type 0 = λ b. sent_count b (ById tag id) run.packets ≤ 1 in
+    subst P (sym carrier.address ∙ ap (λ (z : System). z.file.system) (same_system (sym carrier.at ∙ at))) (omega (arith, sent, few))
+
+-- a poster that is not sent it
+pub none-at : (run : Run) (i : ℕ) (tag id : List ℕ) (a : Address) (times : ℕ) → PostedAt run i tag id a → times ≡ sent_count a (ById tag id) run.packets → times < 1 →
+    (s : System) → nth i run.systems ≡ Some s → sent_count s.file.system (ById tag id) run.packets ≡ 0
+none-at run i tag id a times posted sent none s at =
+    let P : Address → Type 0 = λ b. sent_count b (ById tag id) run.packets ≡ 0 in
+    subst P (sym posted.carrier.address ∙ ap (λ (z : System). z.file.system) (same_system (sym posted.carrier.at ∙ at))) (omega (arith, sent, none))
+
+-- one that has filed some
+pub filed-here : (run : Run) (i : ℕ) (tag : List ℕ) (n : ℕ) → n ≡ filed_at run i tag → 0 < n →
+    (s : System) → nth i run.systems ≡ Some s → 1 ≤ area_count tag s.base
+filed-here run i tag n filed some s at =
+    let here = ap (λ (o : Option System). unwrap_or (option_map (λ (z : System). area_count tag z.base) o) 0) at in
+    omega (arith, here, filed, some)
+
+-- the id that was made of the file at this index
+pub named_as : {V : Type 0} (o : Option V) (v : V) (items : V → List ℕ) (i : ℕ) (fs files : List LinkFile) (file : LinkFile) → fs ≡ files → o ≡ Some v →
+    MatchOption o (nth i fs ≡ None) (λ w. (f : LinkFile) → nth i fs ≡ Some f → items w ≡ id_of f.system 1) → nth i files ≡ Some file →
+    items v ≡ id_of file.system 1
+named_as {V} o v items i fs files file same found h is =
+    let P : Option V → Type 0 = λ x. MatchOption x (nth i fs ≡ None) (λ w. (f : LinkFile) → nth i fs ≡ Some f → items w ≡ id_of f.system 1) in
+    let Q : List LinkFile → Type 0 = λ gs. nth i gs ≡ Some file in
+    subst P found h file (subst Q (sym same) is)

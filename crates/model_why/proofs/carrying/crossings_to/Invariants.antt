@@ -1,0 +1,11 @@
+use Rattle.std.proofs.Common.{◌≡◌, ◌++◌, drop}
+use Rattle.echo_filed.specs.declared.key.Key.TheVariants.{ById}
+use Rattle.model_replay.specs.Worlds.{IsWorldOf}
+use Rattle.model_run.specs.Run.{Run}
+use Rattle.model_why.specs.Carrying.{crossings_from}
+use Rattle.model_why.proofs.carrying.crossings_to.Given as goal
+
+-- those so far, and those of the packets that are left, are all
+abbrev pub invariant-packets : goal.invariant-packets
+invariant-packets l = (run : Run) → IsWorldOf l.world run →
+    l.all.items ++ crossings_from l.counts l.to (ById l.tag l.id) l.k (drop l.k run.packets) ≡ crossings_from l.counts l.to (ById l.tag l.id) 0 run.packets

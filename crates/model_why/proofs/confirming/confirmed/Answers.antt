@@ -1,0 +1,46 @@
+use Rattle.std.proofs.Common.{◌≡◌, ◌∙◌, sym, subst, ap, ℕ, List, map, Option}
+use Rattle.std.specs.Prelude.{None, Some, IfSome}
+use Rattle.echo_links.specs.Links.{LinkFile}
+use Rattle.echo_text.specs.Ids.{id_of}
+use Rattle.model_replay.specs.Worlds.{IsWorldOf}
+use Rattle.model_run.specs.Event.{RunEvent, run_event}
+use Rattle.model_run.specs.Run.{nth, run_of}
+use Rattle.model_why.specs.declared.shown.Harm.{Harm}
+use Rattle.model_why.specs.Found.{BreaksIt}
+use Rattle.model_why.specs.Guesses.{IsRight}
+use Rattle.model_why.specs.Resting.{PostsFirst}
+use Rattle.model_why.specs.Shown.{posting_and_moves, shown_run}
+use Rattle.model_why.proofs.Complete.{at_none, named_as}
+use Rattle.model_why.proofs.Harmless.{posts-first}
+use Rattle.model_why.proofs.confirming.confirmed.Goals as goal
+
+pub returns-in_default-clause-none : goal.returns-in_default-clause-none
+returns-in_default-clause-none c = λ _ fit file is area right.
+    let here = subst (λ (fs : List LinkFile). nth c.args.plan.poster fs ≡ None) c.deref.ensures.value
+    (at_none (nth c.args.plan.poster c.deref.result.now ≡ None) _ c.in_ok-named.named c.in_default.not-Some c.in_ok-named.ensures) in
+    absurd (at_both (sym here ∙ is))
+  where
+    at_both : {f : LinkFile} → (let none : Option LinkFile = None in none ≡ Some f) → ⊥
+    at_both e = cc
+
+pub returns-in-Some-found-clause-breaks : goal.returns-in-Some-found-clause-breaks
+returns-in-Some-found-clause-breaks c = λ breaks.
+    subst (λ (o : Option Harm). IfSome o BreaksIt) c.in-Some-found.is (c.in_ok-found.ensures.breaks breaks)
+
+pub returns-in-None-clause-none : goal.returns-in-None-clause-none
+returns-in-None-clause-none c = λ _ fit file is area right.
+    let files = c.args.files.items in
+    let moves = c.args.plan.moves.items in
+    let tag = c.args.tag.now in
+    let poster = c.args.plan.poster in
+    let run = shown_run files poster tag moves in
+    let known = c.runs_are_known.ensures files fit in
+    let named : c.in-Some.id.items ≡ id_of file.system 1 =
+    named_as c.in_ok-named.named c.in-Some.id (λ v. v.items) poster c.deref.result.now files file c.deref.ensures.value c.in-Some.is c.in_ok-named.ensures is in
+    let events : map run_event c.deref-3.result.now ≡ posting_and_moves poster tag moves =
+    ap (map run_event) c.deref-3.ensures.value ∙ c.in_ok-events.ensures ∙ ap (posting_and_moves poster tag) c.deref-2.ensures.value in
+    let world = subst (λ (es : List RunEvent). IsWorldOf c.in_ok-world.world (run_of files es)) events c.in_ok-world.ensures in
+    let id_is = c.deref-4.ensures.value ∙ named in
+    let first = subst (λ (id : List ℕ). PostsFirst run poster tag id) (sym id_is) (posts-first files known tag poster file is area moves) in
+    c.in_ok-found.ensures.none c.in-None.is run world first
+    (subst (λ (id : List ℕ). IsRight run poster tag id c.args.plan.guess) (sym id_is) right)

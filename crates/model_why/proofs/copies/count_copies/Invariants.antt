@@ -1,0 +1,12 @@
+use Rattle.std.proofs.Common.{◌≡◌, ◌≤◌, take}
+use Rattle.echo_addr.specs.declared.address.Address.{Address}
+use Rattle.echo_filed.specs.declared.key.Key.TheVariants.{ById}
+use Rattle.model_why.proofs.Counting.{total}
+use Rattle.model_why.proofs.copies.count_copies.Given as goal
+
+-- the copies so far are counted, and each is a message
+abbrev pub invariant-messages : goal.invariant-messages
+invariant-messages l = record {
+  few : l.count ≤ l.packed-index;
+  counted : (sender : Address) → l.count ≡ total sender (ById l.tag l.id) (take l.packed-index l.messages);
+}

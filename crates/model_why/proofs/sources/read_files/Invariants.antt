@@ -1,0 +1,11 @@
+use Rattle.std.proofs.Common.{◌≡◌, take}
+use Rattle.model_run.specs.Fits.{FilesFit}
+use Rattle.model_why.specs.Sources.{files_of}
+use Rattle.model_why.proofs.sources.read_files.Given as goal
+
+-- the files so far are what their bytes say, and were read
+abbrev pub invariant-sources : goal.invariant-sources
+invariant-sources l = record {
+  read : l.files.items ≡ files_of (take l.source-index l.sources);
+  fit : FilesFit l.files.items;
+}

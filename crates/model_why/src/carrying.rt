@@ -1,0 +1,177 @@
+//! By which packets the message of a harm comes to the system that the harm names, and when these were made.
+
+ghost use Rattle.std.specs.Prelude.{◌≡◌, ◌++◌, IfOk, OnOk, Some, None, if◌then◌else◌, nat_lt, option_copied};
+ghost use Rattle.echo_filed.specs.declared.key.Key.TheVariants.{ById};
+ghost use Rattle.model_replay.specs.Worlds.{Fits, IsWorldOf, encoded};
+ghost use Rattle.model_run.specs.Orderly.{copies, count, origin};
+ghost use Rattle.model_run.specs.Run.{Run, nth};
+ghost use Rattle.model_steps.specs.declared.packet.Packet.{Packet};
+ghost use Rattle.model_why.specs.Carrying.{crossing_at, crossings_from, found_crossings, shown_crossings, step_of, system_named};
+ghost use Rattle.model_why.specs.Sources.{files_of};
+
+use crate::copies::{count_copies, is_for};
+use crate::events::events_of;
+use crate::shown::{Harm, Shown};
+use crate::sources::read_files;
+use echo_addr::{Address, Items};
+use echo_net::Crossing;
+use echo_packet::{Header, Limits, Packed, read_packet};
+use model_replay::{World, replay_counted};
+use std::alloc::{AllocError, Global};
+use std::hash::RandomState;
+
+/// The packets that bring the message of what was found to the system that its harm names, in order: each with
+/// the number of the event that made it, of which the posting is the first. None where nothing was found, or
+/// its harm names no system. Look-ups go by the hasher. Fails where some bytes are no link file, and when out
+/// of memory.
+pub fn crossings(
+    alloc: Global,
+    sources: &[Items<u8>],
+    tag: &[u8],
+    found: Option<&Shown>,
+    hasher: RandomState,
+) -> Result<Vec<Crossing>, AllocError>
+    ensures { IfOk result (λ all. all.items ≡ found_crossings (files_of sources.now) tag.now (option_copied found.entry)) }
+{
+    match found {
+        Some(shown) => shown_crossings(alloc, sources, tag, shown, hasher),
+        None => Ok(Vec::new(alloc)),
+    }
+}
+
+// The same of a run that was found.
+fn shown_crossings(
+    alloc: Global,
+    sources: &[Items<u8>],
+    tag: &[u8],
+    shown: &Shown,
+    hasher: RandomState,
+) -> Result<Vec<Crossing>, AllocError>
+    ensures { IfOk result (λ all. all.items ≡ shown_crossings (files_of sources.now) tag.now shown.now) }
+{
+    let Some(to) = system_named(shown.harm) else {
+        return Ok(Vec::new(alloc));
+    };
+    let events = events_of(alloc, shown.poster, tag, shown.moves.as_slice())?;
+    let files = read_files(alloc, sources)?;
+    let (world, counts) = replay_counted(alloc, files, &events, hasher)?;
+    crossings_to(alloc, &world, &counts, to, tag, shown.id.as_slice())
+}
+
+// The system that the harm names.
+fn system_named(harm: Harm) -> Option<Address>
+    ensures { result ≡ system_named harm }
+{
+    match harm {
+        Harm::SentAgain(address, _) | Harm::SentOwn(address) | Harm::NeverGets(address) => {
+            Some(address)
+        }
+        Harm::NeverRests => None,
+    }
+}
+
+// The packets of the net to this address that hold the message, where so many were there after each event.
+fn crossings_to(
+    alloc: Global,
+    world: &World,
+    counts: &[usize],
+    to: Address,
+    tag: &[u8],
+    id: &[u8],
+) -> Result<Vec<Crossing>, AllocError>
+    ensures { IfOk result (λ all. (run : Run) → IsWorldOf world.now run → all.items ≡ crossings_from counts.now to (ById tag.now id.now) 0 run.packets) }
+{
+    let mut all = Vec::new(alloc);
+    'packets: for k in 0..world.packets() {
+        add_crossing(alloc, &mut all, world, counts, k, to, tag, id)?;
+    }
+    Ok(all)
+}
+
+// Adds the packet of this index, if it is one of them.
+fn add_crossing(
+    alloc: Global,
+    all: &mut Vec<Crossing>,
+    world: &World,
+    counts: &[usize],
+    k: usize,
+    to: Address,
+    tag: &[u8],
+    id: &[u8],
+) -> Result<(), AllocError>
+    ensures { OnOk result ((run : Run) → IsWorldOf world.now run → (p : Packet) → nth k run.packets ≡ Some p →
+        all.new.items ≡ all.old.items ++ crossing_at counts.now to (ById tag.now id.now) k p) }
+{
+    if !is_for(world, k, to) {
+        return Ok(());
+    }
+    let found = sender_at(alloc, world, k, tag, id)?;
+    if let Some(from) = found {
+        let step = step_of(counts, k);
+        all.push(Crossing { step, from, to })?;
+    }
+    Ok(())
+}
+
+// Who sent the packet of this index, if it holds the message.
+fn sender_at(
+    alloc: Global,
+    world: &World,
+    k: usize,
+    tag: &[u8],
+    id: &[u8],
+) -> Result<Option<Address>, AllocError>
+    ensures { IfOk result (λ found. (run : Run) → IsWorldOf world.now run → (p : Packet) → nth k run.packets ≡ Some p →
+        found ≡ (if nat_lt 0 (count (ById tag.now id.now) (copies p)) then Some (origin p) else None)) }
+{
+    match world.packet(alloc, k)? {
+        Some(bytes) => sender_in(alloc, &bytes, tag, id),
+        None => Ok(None),
+    }
+}
+
+// Who sent these bytes of a packet, if they hold the message.
+fn sender_in(
+    alloc: Global,
+    bytes: &[u8],
+    tag: &[u8],
+    id: &[u8],
+) -> Result<Option<Address>, AllocError>
+    ensures { IfOk result (λ found. (p : Packet) → Fits p → bytes.now ≡ encoded p →
+        found ≡ (if nat_lt 0 (count (ById tag.now id.now) (copies p)) then Some (origin p) else None)) }
+{
+    let (header, messages) = parts_of(alloc, bytes)?;
+    let times = count_copies(alloc, &messages, tag, id)?;
+    if times == 0 {
+        return Ok(None);
+    }
+    Ok(Some(origin(&header)))
+}
+
+// The header and the messages of the packet that these bytes are.
+fn parts_of(alloc: Global, bytes: &[u8]) -> Result<(Header, Vec<Packed>), AllocError>
+    ensures { IfOk result (λ parts. (p : Packet) → Fits p → bytes.now ≡ encoded p → (parts.0 ≡ p.header) × (parts.1.items ≡ p.messages)) }
+{
+    match read_packet(alloc, bytes, Limits::NONE) {
+        Ok(found) => Ok((found.0, found.1)),
+        Err(_) => Err(AllocError),
+    }
+}
+
+// The address that a header is from.
+fn origin(header: &Header) -> Address
+    ensures { (p : Packet) → header.now ≡ p.header → result ≡ origin p }
+{
+    Address {
+        zone: header.orig_zone,
+        net: header.orig_net,
+        node: header.orig_node,
+    }
+}
+
+// The number of the event that made the packet of this index: it comes after those after which it was not there.
+fn step_of(counts: &[usize], k: usize) -> usize
+    ensures { result ≡ step_of counts.now k }
+{
+    counts.iter().filter(|count| **count <= k).count() + 1
+}

@@ -1,0 +1,25 @@
+//! What holds of runs that are shown. Each law is the contract of a function that does nothing.
+
+ghost use Rattle.std.specs.Prelude.{ℕ, List};
+ghost use Rattle.echo_links.specs.Links.{LinkFile};
+ghost use Rattle.model_run.specs.Harms.{Harm};
+ghost use Rattle.model_run.specs.Orderly.{Orderly};
+ghost use Rattle.model_why.specs.declared.shown.Shown.{Shown};
+ghost use Rattle.model_why.specs.Found.{BreaksIt, IsShown};
+ghost use Rattle.model_why.specs.Shown.{shown_run};
+
+use echo_filed::stub_laws;
+use model_run::{bases_are_what_was_filed, harms_break_the_promise};
+
+/// A run that is shown does harm, unless it shows no more than a message that never comes to rest; so it is
+/// not orderly.
+pub fn shown_runs_break_the_promise()
+    ensures harm { (files : List LinkFile) (tag : List ℕ) (shown : Shown) → IsShown files tag shown → BreaksIt shown.harm →
+        Harm (shown_run files shown.poster tag shown.moves) tag }
+    ensures breaks { (files : List LinkFile) (tag : List ℕ) (shown : Shown) → IsShown files tag shown → BreaksIt shown.harm →
+        ¬ Orderly (shown_run files shown.poster tag shown.moves) tag }
+{
+    harms_break_the_promise();
+    bases_are_what_was_filed();
+    stub_laws();
+}

@@ -1,0 +1,36 @@
+//! Link files, read from their bytes as often as they are needed.
+
+ghost use Rattle.std.specs.Prelude.{◌≡◌, IfOk};
+ghost use Rattle.echo_links.specs.LinkLines.{file_of};
+ghost use Rattle.echo_links.specs.Links.{IsFile};
+ghost use Rattle.model_run.specs.Fits.{FilesFit};
+ghost use Rattle.model_why.specs.Sources.{files_of};
+
+use echo_addr::Items;
+use echo_links::{LinkFile, link_file_law};
+use std::alloc::{AllocError, Global};
+
+/// The link files that these bytes are. Fails where one is none, and when out of memory.
+pub(crate) fn read_files(alloc: Global, sources: &[Items<u8>]) -> Result<Vec<LinkFile>, AllocError>
+    ensures read { IfOk result (λ files. files.items ≡ files_of sources.now) }
+    ensures fit { IfOk result (λ files. FilesFit files.items) }
+{
+    let mut files = Vec::new(alloc);
+    'sources: for source in sources {
+        let file = read_file(alloc, source.as_slice())?;
+        files.push(file)?;
+    }
+    Ok(files)
+}
+
+// The link file that these bytes are.
+fn read_file(alloc: Global, bytes: &[u8]) -> Result<LinkFile, AllocError>
+    ensures read { IfOk result (λ file. file ≡ file_of bytes.now) }
+    ensures fit { IfOk result IsFile }
+{
+    link_file_law();
+    match LinkFile::read(alloc, bytes) {
+        Ok(file) => Ok(file),
+        Err(_) => Err(AllocError),
+    }
+}

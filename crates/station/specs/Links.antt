@@ -1,0 +1,28 @@
+-- What the link file of a station says.
+use Rattle.std.specs.Prelude.{◌≡◌, ◌⊎◌, ℕ, List, Some, Ok, Err}
+use Rattle.disk_io.specs.Disk.{DiskState}
+use Rattle.echo_links.specs.LinkLines.{LinksOf}
+use Rattle.echo_links.specs.Links.{LinkFile}
+use Rattle.echo_links.specs.declared.fault.LinkFault.{LinkFault}
+use Rattle.echo_links.specs.declared.fault.LinkFault.TheVariants as link
+use Rattle.station.specs.Faults.{LinksUnread}
+use Rattle.cmd_status.specs.declared.fault.Fault.{Fault}
+use Rattle.cmd_status.specs.declared.fault.Fault.TheVariants.{Link}
+
+-- the bytes of the link file say this
+pub record AreLinks (disk : DiskState) (links : List ℕ) (file : LinkFile) : Type 0 where
+  pub bytes : List ℕ
+  pub seen : disk.seen links ≡ Some bytes
+  pub judged : LinksOf bytes (Ok file)
+
+-- they are faulty, as this reports
+pub record AreFaulty (disk : DiskState) (links : List ℕ) (fault : Fault) : Type 0 where
+  pub bytes : List ℕ
+  pub seen : disk.seen links ≡ Some bytes
+  pub why : LinkFault
+  pub judged : LinksOf bytes (Err why)
+  pub told : fault ≡ Link why
+
+-- the link file is not read, or there was no memory to judge it, or it is faulty
+abbrev pub NoLinks : DiskState → List ℕ → Type 0 → Fault → Type 0
+NoLinks disk links failed fault = LinksUnread disk links failed fault ⊎ ((fault ≡ Link link.Memory) ⊎ AreFaulty disk links fault)

@@ -1,0 +1,147 @@
+-- The disk of a base folder that was used beneath it.
+use Rattle.std.proofs.Common.{◌≡◌, ◌≢◌, ◌↔◌, ◌≤◌, ◌++◌, inl, inr, ℕ, Bool, true, false, All, IsTrue, List, Option, length, sym, take, drop, ◌∙◌, ap, refl, subst}
+use Rattle.std.proofs.lemmas.List.{drop_at}
+use Rattle.std.specs.Prelude.{IsSome}
+use Rattle.base_file.specs.Base.{Base}
+use Rattle.disk_io.specs.Disk.{DiskState, Files, IsIn, bytes_in}
+use Rattle.disk_io.specs.Runs.{OneStepOn}
+use Rattle.disk_io.specs.Synced.{IsOnDisk}
+use Rattle.disk_io.proofs.Moments.{left_now}
+use Rattle.base_log.specs.AtRest.{IsStaged}
+use Rattle.base_log.specs.Log.{IsLog, IsShutAt, last_told, opened}
+use Rattle.base_log.specs.Names.{keys_of, log_of, messages_of}
+use Rattle.base_log.specs.Standing.{BaseBytes, IsEnded, StandsFor, base_at}
+use Rattle.base_log.specs.declared.log.End.{End}
+use Rattle.base_log.specs.declared.log.Told.{Told}
+use Rattle.base_log.proofs.Paths.{keys_in, log_in, messages_in}
+use Rattle.base_log.proofs.Same.{AreThere-same, TellsBase-same}
+use Rattle.base_folder_store.specs.Held.{HoldsBase}
+use Rattle.base_folder_store.specs.Opened.{IsOpen, and_waiting, committed_by, held_by, path_of}
+use Rattle.base_folder_store.specs.State.{IsUsable, state_of}
+use Rattle.base_folder_store.specs.declared.folder.Folder.{Folder}
+use Rattle.disk_atomic.specs.Changes.{ChangesOnly, DifferAt}
+use Rattle.station.specs.Beneath.{HoldsAsBefore, IsGivenBack}
+
+-- files with the same files of the folder end alike
+ended_same : (path : List ℕ) (bodies : List (List ℕ)) (a c : Files) → ((m : List ℕ) → IsIn path m → c m ≡ a m) → IsEnded path bodies a → IsEnded path bodies c
+ended_same path bodies a c same (inl shut) = inl (subst (λ f. IsShutAt (length (opened bodies)) (bytes_in f)) (sym (same (log_of path) (log_in path))) shut)
+ended_same path bodies a c same (inr new) = inr (record {
+  log = subst (λ f. length (bytes_in f) ≤ 1) (sym (same (log_of path) (log_in path))) new.log;
+  empty = record {
+    messages = λ n lt. ap bytes_in (same (messages_of path n) (messages_in path n)) ∙ new.empty.messages n lt;
+    keys = λ n lt. ap bytes_in (same (keys_of path n) (keys_in path n)) ∙ new.empty.keys n lt;
+  };
+})
+
+-- and stand for the same base
+stands_same : (path : List ℕ) (base : BaseBytes) (a c : Files) → ((m : List ℕ) → IsIn path m → c m ≡ a m) → StandsFor path base a → StandsFor path base c
+stands_same path base a c same was =
+    let told = last_told was.bodies in
+    let m = same (messages_of path told.number) (messages_in path told.number) in
+    let k = same (keys_of path told.number) (keys_in path told.number) in
+    record {
+      bodies = was.bodies;
+      log = subst (λ f. IsLog was.bodies (bytes_in f)) (sym (same (log_of path) (log_in path))) was.log;
+      ended = ended_same path was.bodies a c same was.ended;
+      there = AreThere-same path was.bodies a c m k was.there;
+      tells = TellsBase-same told path base a c m k was.tells;
+    }
+
+-- the paths outside the folder
+abbrev Outside : List ℕ → List ℕ → Type 0
+Outside path m = IsIn path m → ⊥
+
+module _ (path : List ℕ) (d e : DiskState) (run : ChangesOnly (Outside path) d e) where
+  inside : (m : List ℕ) → IsIn path m → Outside path m → ⊥
+  inside m is out = out is
+
+  base_same : (told : Told) → base_at e path told ≡ base_at d path told
+  base_same told =
+      let m = run.seen (messages_of path told.number) (inside (messages_of path told.number) (messages_in path told.number)) in
+      let k = run.seen (keys_of path told.number) (inside (keys_of path told.number) (keys_in path told.number)) in
+      λ i. record { messages = take told.messages (bytes_in (m i)); keys = take told.keys (bytes_in (k i)); cursor = told.cursor; mark = told.mark }
+
+  on_disk_same : (m : List ℕ) → IsIn path m → IsOnDisk d m → IsOnDisk e m
+  on_disk_same m is on = record {
+    there = subst (λ f. IsSome f) (sym (run.seen m (inside m is))) on.there;
+    named = run.named m (inside m is) on.named;
+    flushed = run.flushed m (inside m is) on.flushed;
+    alone = run.alone m (inside m is) on.alone;
+  }
+
+  -- what is staged is so still
+  staged_same : (end : End) (told : Told) → IsStaged d path end told → IsStaged e path end told
+  staged_same end told was =
+      let m_in = messages_in path told.number in
+      let k_in = keys_in path told.number in
+      let messages = run.seen (messages_of path told.number) (inside (messages_of path told.number) m_in) in
+      let keys = run.seen (keys_of path told.number) (inside (keys_of path told.number) k_in) in
+      let same : base_at d path end.told ≡ base_at e path end.told = sym (base_same end.told) in
+      record {
+        log = record {
+          bodies = was.log.bodies;
+          sizes = was.log.sizes;
+          closed = was.log.closed;
+          rest = was.log.rest;
+          log = ap bytes_in (run.seen (log_of path) (inside (log_of path) (log_in path))) ∙ was.log.log;
+          shut = was.log.shut;
+          gate = was.log.gate;
+          told = was.log.told;
+          on_disk = on_disk_same (log_of path) (log_in path) was.log.on_disk;
+          named = λ m is. run.named m (inside m is) (was.log.named m is);
+        };
+        stands = λ c left.
+            let from = left_now d e (OneStepOn (DifferAt (Outside path)) d) run.any_moment c left in
+            subst (λ (b : BaseBytes). StandsFor path b c) same (stands_same path (base_at d path end.told) from.0 c (λ m is. from.2 m (inside m is)) (was.stands from.0 from.1));
+        shown = subst (λ (b : BaseBytes). StandsFor path b e.seen) same (stands_same path (base_at d path end.told) d.seen e.seen (λ m is. run.seen m (inside m is)) was.shown);
+        digit = was.digit;
+        messages_there = subst (λ f. IsSome f) (sym messages) was.messages_there;
+        keys_there = subst (λ f. IsSome f) (sym keys) was.keys_there;
+        messages_alone = run.alone (messages_of path told.number) (inside (messages_of path told.number) m_in) was.messages_alone;
+        keys_alone = run.alone (keys_of path told.number) (inside (keys_of path told.number) k_in) was.keys_alone;
+        messages_long = subst (λ f. told.messages ≤ length (bytes_in f)) (sym messages) was.messages_long;
+        keys_long = subst (λ f. told.keys ≤ length (bytes_in f)) (sym keys) was.keys_long;
+        messages_behind = was.messages_behind;
+        keys_behind = was.keys_behind;
+      }
+
+module _ (keyed : ℕ → ℕ → List ℕ → ℕ) (f : Folder) (alone : Option Base) (d e : DiskState) where
+  -- an open folder is open still, holds what it held, and has committed what it had
+  as_before : ChangesOnly (Outside (path_of f)) d e → IsUsable d f → HoldsAsBefore (state_of d keyed f alone) (state_of e keyed f alone)
+  as_before run usable =
+      let held : held_by e f ≡ held_by d f = ap (λ (b : BaseBytes). and_waiting b f.waiting) (base_same (path_of f) d e run f.told) in
+      record {
+        ready = record {
+          named = usable.named;
+          opened = λ honest.
+              let was = usable.opened (run.honest honest) in
+              record {
+                names = was.names;
+                staged = staged_same (path_of f) d e run f.end f.told was.staged;
+                keys = was.keys ∙ sym (ap (λ (b : BaseBytes). b.keys) held);
+              };
+        };
+        keeps = λ base is. subst (λ (b : BaseBytes). HoldsBase keyed b base) (sym held) is;
+        committed = λ base is. subst (λ (b : BaseBytes). HoldsBase keyed b base) (sym (base_same (path_of f) d e run f.end.told)) is;
+      }
+
+  pub given_back : IsGivenBack (state_of d keyed f alone) d e (state_of e keyed f alone)
+  given_back = record {
+    settled = λ base before after same stands. record { bytes = stands.bytes; stands = stands_same (path_of f) stands.bytes before after same stands.stands; holds = stands.holds };
+    same = record { stands = λ base c. (λ is. is, λ is. is); own = λ m. (λ is. is, λ is. is); undoes = (λ is. is, λ is. is) };
+    holds = λ usable run. as_before run usable;
+  }
+
+-- a path that begins with that of the folder is in it just where the rest is plain
+pub is_in_by : (folder path name : List ℕ) (plain : Bool) → path ≡ folder ++ name → (plain ≡ true → All (λ b. b ≢ 47) name) → (plain ≡ false → All (λ b. b ≢ 47) name → ⊥) → IsTrue plain ↔ IsIn folder path
+is_in_by folder path name true parts plainly slashed = (λ is. record { name = name; parts = parts; plain = plainly refl }, λ there. refl)
+is_in_by folder path name false parts plainly slashed = (
+  λ (is : false ≡ true). absurd cc,
+  λ there.
+      let same : name ≡ there.name = sym (drop_at folder name (length folder) refl) ∙ ap (λ (l : List ℕ). drop (length folder) l) (sym parts ∙ there.parts) ∙ drop_at folder there.name (length folder) refl in
+      absurd (slashed refl (subst (λ (l : List ℕ). All (λ b. b ≢ 47) l) (sym same) there.plain)),
+)
+
+-- one that does not is not in it
+pub not_in : (folder path : List ℕ) → ((rest : List ℕ) → path ≢ folder ++ rest) → IsTrue false ↔ IsIn folder path
+not_in folder path other = (λ (is : false ≡ true). absurd cc, λ there. absurd (other there.name there.parts))

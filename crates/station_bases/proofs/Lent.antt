@@ -1,0 +1,59 @@
+-- The disk of a base file that was used beneath it, and the paths beside it.
+use Rattle.std.proofs.Common.{◌≡◌, ◌≢◌, ◌↔◌, ◌++◌, ℕ, Bool, true, false, IsTrue, List, [], length, drop, inl, inr, ⊎_elim, sym, ◌∙◌, ap, refl, subst}
+use Rattle.std.proofs.lemmas.List.{drop_at}
+use Rattle.base_file.specs.Base.{Base}
+use Rattle.disk_io.specs.Disk.{DiskState, Files}
+use Rattle.disk_io.specs.Runs.{OneStepOn}
+use Rattle.disk_io.proofs.Moments.{left_now}
+use Rattle.disk_atomic.specs.Changes.{ChangesOnly, DifferAt}
+use Rattle.station.specs.Paths.{path_beside}
+use Rattle.cmd_status.specs.Inputs.{IsBaseGiven}
+use Rattle.station.specs.Beneath.{HoldsAsBefore, IsGivenBack}
+use Rattle.station_bases.specs.InFile.{IsInFile, IsOfFile, file_state}
+
+module _ (path own : List ℕ) (base : Base) (place : ℕ) (d e : DiskState) where
+  -- the paths that are not the file's
+  abbrev Others : List ℕ → Type 0
+  Others m = IsOfFile path own m → ⊥
+
+  in_file : ChangesOnly Others d e → (b : Base) → IsInFile d path b → IsInFile e path b
+  in_file run b was =
+      let own_path : Others path → ⊥ = λ out. out (inr refl) in
+      record {
+        seen = subst (λ f. IsBaseGiven f b.messages b.cursor) (sym (run.seen path own_path)) was.seen;
+        left = λ c left.
+            let from = left_now d e (OneStepOn (DifferAt Others) d) run.any_moment c left in
+            subst (λ f. IsBaseGiven f b.messages b.cursor) (sym (from.2 path own_path)) (was.left from.0 from.1);
+      }
+
+  pub given_back : IsGivenBack (file_state d path own base place) d e (file_state e path own base place)
+  given_back = record {
+    settled = λ b before after same stands. subst (λ f. IsBaseGiven f b.messages b.cursor) (sym (same path (inr refl))) stands;
+    same = record { stands = λ b c. (λ is. is, λ is. is); own = λ m. (λ is. is, λ is. is); undoes = (λ is. is, λ is. is) };
+    holds = λ ready run. record { ready = ready; keeps = λ b is. is; committed = in_file run };
+  }
+
+-- a path that begins so is one of these just where the rest is
+module _ (a path : List ℕ) (f : List ℕ → List ℕ) where
+  pub prefix_by : (rest : List ℕ) (r : Bool) → path ≡ a ++ rest → IsTrue r ↔ ((own : List ℕ) × (rest ≡ f own)) → IsTrue r ↔ ((own : List ℕ) × (path ≡ a ++ f own))
+  prefix_by rest r parts iff = (
+    λ is. let from = iff.0 is in (from.0, parts ∙ ap (λ (l : List ℕ). a ++ l) from.1),
+    λ from. iff.1 (from.0, sym (drop_at a rest (length a) refl) ∙ ap (λ (l : List ℕ). drop (length a) l) (sym parts ∙ from.1) ∙ drop_at a (f from.0) (length a) refl),
+  )
+
+  pub prefix_none : ((rest : List ℕ) → path ≢ a ++ rest) → IsTrue false ↔ ((own : List ℕ) × (path ≡ a ++ f own))
+  prefix_none other = (λ (is : false ≡ true). absurd cc, λ from. absurd (other (f from.0) from.1))
+
+-- one that ends so has some front
+pub suffix_by : (b name own : List ℕ) → name ≡ own ++ b → IsTrue true ↔ ((own : List ℕ) × (name ≡ own ++ b))
+suffix_by b name own parts = (λ is. (own, parts), λ from. refl)
+
+pub suffix_none : (b name : List ℕ) → ((front : List ℕ) → name ≢ front ++ b) → IsTrue false ↔ ((own : List ℕ) × (name ≡ own ++ b))
+suffix_none b name other = (λ (is : false ≡ true). absurd cc, λ from. absurd (other from.0 from.1))
+
+-- the path of the file, or one beside it
+pub of_beside : (base path : List ℕ) → ((own : List ℕ) × (path ≡ path_beside base own)) → IsTrue true ↔ ((own : List ℕ) × IsOfFile base own path)
+of_beside base path from = (λ is. (from.0, inl from.1), λ of. refl)
+
+pub of_same : (base path : List ℕ) (same : Bool) → (((own : List ℕ) × (path ≡ path_beside base own)) → ⊥) → IsTrue same ↔ (path ≡ base) → IsTrue same ↔ ((own : List ℕ) × IsOfFile base own path)
+of_same base path same off iff = (λ is. ([], inr (iff.0 is)), λ of. ⊎_elim (λ beside. absurd (off (of.0, beside))) (λ is. iff.1 is) of.1)

@@ -1,0 +1,86 @@
+-- A base file opened as a store.
+use Rattle.std.proofs.Common.{◌≡◌, ◌≤◌, ◌⊎◌, inl, inr, ⊎_elim, ◌∙◌, ℕ, List, [], Some, Result, Ok, Err, ap, sym, subst}
+use Rattle.std.specs.Prelude.{All, ◌≢◌, IfOk}
+use Rattle.base_file.specs.Base.{Base}
+use Rattle.base_file.specs.BaseFile.{Loaded}
+use Rattle.base_file.specs.Loading.{AnswersLoad}
+use Rattle.base_file.specs.declared.fault.BaseFault.{BaseFault}
+use Rattle.disk_io.specs.Disk.{DiskState, Files, Honestly}
+use Rattle.disk_io.specs.Runs.{ChangesNothing}
+use Rattle.disk_io.proofs.Moments.{weaker_run}
+use Rattle.echo_links.specs.Links.{LinkFile}
+use Rattle.cmd_status.specs.Inputs.{IsBaseFault, IsBaseGiven}
+use Rattle.cmd_status.specs.declared.fault.Fault.{Fault}
+use Rattle.station.specs.Faults.{FailsAt}
+use Rattle.station.specs.Links.{AreLinks, NoLinks}
+use Rattle.station.specs.Opening.{IsNotOpened, IsOpenFor, IsOpened}
+use Rattle.station.specs.Place.{IsOfPlace, KeepsElsewhere, StandsOrWasLeft}
+use Rattle.station_bases.specs.InFile.{IsOfFile, StandsInFile, file_state}
+use Rattle.station_bases.specs.Reading.{IsFileShut, IsSettled, IsShutFor, IsUnreadFor, file_place}
+
+abbrev base_in : Result Loaded BaseFault → Base
+base_in (Ok loaded) = record { messages = loaded.0; cursor = loaded.1 }
+base_in (Err why) = record { messages = []; cursor = 0 }
+
+pub same_loaded : (result : Result Base BaseFault) (base : Base) (size : ℕ) → AnswersLoad result (Ok (base.messages, base.cursor, size)) → IfOk result (λ b. base ≡ b)
+same_loaded (Ok b) base size answers = ap (λ r. base_in r) answers.1
+same_loaded (Err why) base size answers = tt
+
+quiet_elsewhere : (path : List ℕ) (d0 d1 : DiskState) → ChangesNothing d0 d1 → KeepsElsewhere (file_place path) d0 d1
+quiet_elsewhere path d0 d1 quiet = record {
+  seen = λ m out. quiet.seen m;
+  named = λ m out. quiet.named m (λ h. h);
+  flushed = λ m out. quiet.flushed m (λ h. h);
+  alone = λ m out. quiet.alone m (λ h. h);
+  honest = quiet.honest;
+}
+
+module _ (d0 d1 : DiskState) (path own : List ℕ) (base : Base) (place : ℕ) (quiet : ChangesNothing d0 d1) where
+  opened_file : IsSettled d1 path → ((b : Base) → StandsInFile path b d0.seen → b ≡ base) → IsOpenFor (file_place path) d0 (file_state d1 path own base place)
+  opened_file on only = record {
+    keeps = only;
+    committed = λ b stands.
+        let seen = subst (λ f. IsBaseGiven f b.messages b.cursor) (sym (quiet.seen path)) stands in
+        record { seen = seen; left = λ c left. subst (λ f. IsBaseGiven f b.messages b.cursor) (sym (d1.on_disk path on.named on.flushed c left)) seen };
+    run = λ b stands. weaker_run d0 d1 d0.may_leave (StandsOrWasLeft (file_place path) d0 b) quiet.run (λ c left. inr left);
+  }
+
+  of_file : IsOfPlace (file_place path) d0 (file_state d1 path own base place)
+  of_file = record {
+    own = λ m of. (own, of);
+    stands = λ b c. (λ h. h, λ h. h);
+    elsewhere = quiet_elsewhere path d0 d1 quiet;
+  }
+
+  pub is_opened : (links : List ℕ) (file : LinkFile) (before now : ℕ) → before ≤ now → All (λ b. b ≢ 47) own → Honestly d1 (AreLinks d0 links file) → Honestly d1 (IsSettled d1 path)
+      → Honestly d1 ((b : Base) → StandsInFile path b d0.seen → b ≡ base)
+      → IsOpened (file_place path) (λ file. AreLinks d0 links file) d0 before now (file_state d1 path own base place) file
+  is_opened links file before now later plain read on only = record {
+    ready = plain;
+    read = read;
+    begun = λ honest. opened_file (on honest) (only honest);
+    of_place = of_file;
+    later = later;
+  }
+
+fails_wider : (path : List ℕ) (F G : Type 0) (fault : Fault) → (F → G) → FailsAt path F fault → FailsAt path G fault
+fails_wider path F G fault wider fails = ⊎_elim (λ memory. inl memory) (λ cannot. inr (cannot.0, wider cannot.1)) fails
+
+-- what failed in a part failed in the whole
+pub links_wider : (links : List ℕ) (F G : Type 0) (old : DiskState) (fault : Fault) → (F → G) → NoLinks old links F fault → NoLinks old links G fault
+links_wider links F G old fault wider none =
+    ⊎_elim (λ unread. inl (⊎_elim (λ memory. inl memory)
+    (λ rest. inr (⊎_elim (λ cannot. inl (cannot.0, ⊎_elim (λ gone. inl gone) (λ failed. inr (wider failed)) cannot.1)) (λ large. inr large) rest)) unread)) (λ rest. inr rest) none
+
+pub unread_wider : (path : List ℕ) (F G : Type 0) (d0 d1 : DiskState) (fault : Fault) → (F → G) → ChangesNothing d0 d1 → IsUnreadFor path F d1 fault → IsUnreadFor path G d0 fault
+unread_wider path F G d0 d1 fault wider quiet unread =
+    ⊎_elim (λ fails. inl (fails_wider path F G fault wider fails))
+    (λ rest. inr (⊎_elim (λ memory. inl memory) (λ base. inr (subst (λ f. IsBaseFault f fault) (quiet.seen path) base)) rest)) unread
+
+pub is_not_opened : (links path : List ℕ) (F : Type 0) (d0 d1 : DiskState) (fault : Fault) → ChangesNothing d0 d1 → Honestly d1 (IsFileShut links path F d0 fault)
+    → IsNotOpened (file_place path) (IsShutFor links path F d0 d1) d0 d1 fault
+is_not_opened links path F d0 d1 fault quiet shut = record {
+  cause = λ honest. (quiet, shut honest);
+  crash = λ honest base stands. weaker_run d0 d1 d0.may_leave (StandsOrWasLeft (file_place path) d0 base) quiet.run (λ c left. inr left);
+  elsewhere = quiet_elsewhere path d0 d1 quiet;
+}

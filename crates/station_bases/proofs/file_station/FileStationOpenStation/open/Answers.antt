@@ -1,0 +1,29 @@
+use Rattle.std.proofs.Common.{◌≢◌, ◌∙◌, All, List, ℕ, subst, sym}
+use Rattle.station.specs.Links.{AreLinks}
+use Rattle.station.specs.Opening.{IsOpened}
+use Rattle.station_bases.specs.InFile.{file_state}
+use Rattle.station_bases.specs.Reading.{file_place}
+use Rattle.station_bases.proofs.Opened.{is_not_opened, is_opened}
+use Rattle.station_bases.proofs.file_station.FileStationOpenStation.open.Goals as goal
+
+pub returns-in-Ok-clause-opened : goal.returns-in-Ok-clause-opened
+returns-in-Ok-clause-opened g c =
+    let s = c.new.result in
+    let read = c.in-Ok.ensures in
+    let path = c.args.self.base.now in
+    let links = c.args.self.links.now in
+    let file = c.in-Ok.read.links in
+    let d0 = g.D.Disk.state c.args.disk in
+    let f0 = g.D.Disk.failures c.args.disk in
+    let d1 = g.D.Disk.state c.read_station.new.disk in
+    let f1 = g.D.Disk.failures c.read_station.new.disk in
+    subst (λ d. IsOpened (file_place path) (λ f. AreLinks d0 links f) d0 f0 (g.D.Disk.failures d) (file_state (g.D.Disk.state d) s.path.now s.own s.base s.place) file) (sym c.new.ensures.disk)
+    (subst (λ (p : List ℕ). IsOpened (file_place path) (λ f. AreLinks d0 links f) d0 f0 f1 (file_state d1 p s.own s.base s.place) file) (sym c.new.ensures.path)
+    (is_opened d0 d1 path s.own s.base s.place c.read_station.ensures.quiet links file f0 f1 c.read_station.ensures.later
+    (subst (λ (o : List ℕ). All (λ b. b ≢ 47) o) (sym c.new.ensures.own) read.plain) read.read read.settled
+    (λ honest b stands. read.same honest b stands ∙ sym c.new.ensures.base)))
+
+pub returns-in-Err-clause-stopped : goal.returns-in-Err-clause-stopped
+returns-in-Err-clause-stopped g c =
+    is_not_opened c.args.self.links.now c.args.self.base.now _ (g.D.Disk.state c.args.disk) (g.D.Disk.state c.read_station.new.disk) c.in-Err.fault c.read_station.ensures.quiet
+    c.in-Err.ensures.err

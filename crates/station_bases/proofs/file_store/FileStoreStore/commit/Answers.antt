@@ -1,0 +1,15 @@
+use Rattle.std.proofs.Common.{List, ℕ, subst}
+use Rattle.base_store.specs.Store.{MayCommit}
+use Rattle.station_bases.specs.InFile.{file_state}
+use Rattle.station_bases.proofs.Written.{may_commit}
+use Rattle.station_bases.proofs.file_store.FileStoreStore.commit.Goals as goal
+
+pub returns-clause-either : goal.returns-clause-either
+returns-clause-either g c =
+    let path = c.args.self.now.path.now in
+    let base = c.args.self.now.base in
+    let place = c.args.self.now.place in
+    let d0 = g.D.Disk.state c.args.self.now.disk in
+    let d1 = g.D.Disk.state c.write_file.new.disk in
+    subst (λ (own : List ℕ). MayCommit (file_state d0 path own base place) (file_state d1 path own base place)) c.as_slice.ensures
+    (may_commit path c.as_slice.result.now base d0 d1 place place c.write_file.ensures.changes c.write_file.ensures.any_moment)

@@ -1,0 +1,19 @@
+use Rattle.base_folder_store.specs.State.{IsIndexed, state_of, where_so}
+use Rattle.station_bases.proofs.Begun.{is_not_opened, is_opened}
+use Rattle.station_bases.proofs.folder_station.FolderStationOpenStation.open.Goals as goal
+
+pub returns-in-Ok-clause-opened : goal.returns-in-Ok-clause-opened
+returns-in-Ok-clause-opened g c =
+    let at = c.args.self.at in
+    let begun = c.in-Ok.begun in
+    let store = begun.store in
+    let disk = g.D.Disk.state store.disk in
+    let s = where_so (state_of disk g.H.Digest.keyed store.folder store.alone) (IsIndexed disk store.folder store.index) in
+    is_opened g.H.Digest.keyed at.path.now (g.D.Disk.state c.args.disk) s at.links.now c.args.self.found.strange begun.links _ _
+    c.in-Ok.ensures.ready c.in-Ok.ensures.begun c.in-Ok.ensures.of_folder c.in-Ok.ensures.later
+
+pub returns-in-Err-clause-stopped : goal.returns-in-Err-clause-stopped
+returns-in-Err-clause-stopped g c =
+    let at = c.args.self.at in
+    is_not_opened g.H.Digest.keyed at.path.now (g.D.Disk.state c.args.disk) (g.D.Disk.state c.in-Err.stopped.disk) at.links.now at.base.now c.args.self.found.strange _ c.in-Err.stopped.fault
+    c.in-Err.ensures.err c.in-Err.ensures.any_moment c.in-Err.ensures.outside

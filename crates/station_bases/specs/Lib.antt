@@ -1,0 +1,4 @@
+pub mod InFile
+pub mod Reading
+pub mod InFolder
+pub mod Opening

@@ -1,0 +1,51 @@
+-- A station whose base is a folder, with its link file and its folder locked.
+use Rattle.std.specs.Prelude.{◌≡◌, ◌⊎◌, ◌↔◌, ℕ, Bool, List}
+use Rattle.echo_addr.specs.declared.address.Address.{Address}
+use Rattle.base_file.specs.Base.{Base}
+use Rattle.base_folder.specs.Ours.{IsLeftAlone, IsNotOurs, IsOfOther}
+use Rattle.base_folder.specs.Unread.{IsToldAs}
+use Rattle.base_folder.specs.declared.unread.Unread.{Unread}
+use Rattle.base_folder.specs.declared.unread.Unread.TheVariants as unread
+use Rattle.disk_io.specs.Disk.{DiskState, Files, IsIn}
+use Rattle.disk_io.specs.Runs.{ChangesNothing, LeavesOnly}
+use Rattle.base_log.specs.Moments.{KeepsOutside}
+use Rattle.base_folder_store.specs.Held.{StandsForBase, StandsForBaseOrWasLeft}
+use Rattle.echo_links.specs.Links.{LinkFile}
+use Rattle.station.specs.Faults.{FailsAt}
+use Rattle.station.specs.Links.{AreLinks, NoLinks}
+use Rattle.cmd_status.specs.declared.fault.Fault.{Fault}
+use Rattle.base_store.specs.Store.{StoreState}
+
+-- the folder is not opened for the system
+pub record IsNotOpened (own : Address) (strange : Bool) (base path : List ℕ) (failed : Type 0) (old new : DiskState) (fault : Fault) : Type 0 where
+  pub why : Unread
+  pub wrong : IsNotOurs own strange path old.seen why
+  pub left : IsLeftAlone old new why
+  pub told : IsToldAs base why fault
+  pub cause : why ≡ unread.Device → failed
+
+-- nothing was changed: there are no links, or the folder cannot be locked
+pub record IsLockedOut (links base : List ℕ) (failed : Type 0) (old new : DiskState) (fault : Fault) : Type 0 where
+  pub same : ChangesNothing old new
+  pub cause : NoLinks old links failed fault ⊎ FailsAt base failed fault
+
+-- the links are read, and the folder is not opened for their system
+pub record IsShut (links base path : List ℕ) (strange : Bool) (failed : Type 0) (old new : DiskState) (fault : Fault) : Type 0 where
+  pub file : LinkFile
+  pub of_links : AreLinks old links file
+  pub folder : IsNotOpened file.system strange base path failed old new fault
+
+-- A store on a folder is open for the system of a link file: it holds the base for which the folder's files stood, and that was
+-- committed last.
+pub record IsBegun (keyed : ℕ → ℕ → List ℕ → ℕ) (links path : List ℕ) (strange : Bool) (old : DiskState) (s : StoreState) (file : LinkFile) : Type 0 where
+  pub of_links : AreLinks old links file
+  pub ours : (address : Address) → IsOfOther file.system strange path old.seen address → ⊥
+  pub keeps : (base : Base) → StandsForBase keyed path base old.seen → s.keeps base
+  pub committed : (base : Base) → StandsForBase keyed path base old.seen → s.committed base
+  pub run : (base : Base) → StandsForBase keyed path base old.seen → LeavesOnly old s.disk (StandsForBaseOrWasLeft keyed path old base)
+
+-- it is that of this folder, and nothing outside has changed
+pub record IsOfFolder (keyed : ℕ → ℕ → List ℕ → ℕ) (path : List ℕ) (old : DiskState) (s : StoreState) : Type 0 where
+  pub own : (m : List ℕ) → s.is_own m ↔ IsIn path m
+  pub stands : (base : Base) (c : Files) → s.stands base c ↔ StandsForBase keyed path base c
+  pub outside : KeepsOutside path old s.disk

@@ -1,0 +1,72 @@
+//! A base folder of a station opened as a store.
+ghost use Rattle.std.specs.Prelude.{◌≡◌, ◌≤◌, ◌⊎◌, IfErr, IfOk, OnOk, None, Some};
+ghost use Rattle.base_file.specs.Base.{Base};
+ghost use Rattle.base_folder.specs.Ours.{number_of};
+ghost use Rattle.disk_io.specs.Disk.{Honestly};
+ghost use Rattle.disk_io.specs.Runs.{ChangesNothing, LeavesOnly};
+ghost use Rattle.base_log.specs.Moments.{KeepsOutside};
+ghost use Rattle.base_log.specs.Opening.{AreAlone};
+ghost use Rattle.base_folder_store.specs.Held.{StandsForBase, StandsForBaseOrWasLeft};
+ghost use Rattle.station.specs.Opening.{HaveFailed};
+ghost use Rattle.station_bases.specs.Opening.{IsBegun, IsLockedOut, IsOfFolder, IsShut};
+
+use crate::opening::{Station, open_station};
+use crate::place::{FolderPlace, Found};
+use base_folder_store::FolderStore;
+use base_store::{Digest, Store};
+use cmd_status::Fault;
+use disk_io::Disk;
+use echo_links::LinkFile;
+use station::FileLock;
+use std::alloc::Global;
+
+/// The link file of a station, and its folder as a store.
+#[derive(Drop)]
+pub(crate) struct Begun<D: Disk, H: Digest> {
+    pub links: LinkFile,
+    pub store: FolderStore<D, H>,
+}
+
+/// The disk, and why the folder is not open on it.
+#[derive(Drop)]
+pub(crate) struct NotBegun<'a, D> {
+    pub disk: D,
+    pub fault: Fault<'a>,
+}
+
+/// Opens the station as a store.
+pub(crate) fn open_store<'a, D: Disk + Drop, H: Digest, L: FileLock, K: FileLock>(
+    alloc: Global,
+    disk: D,
+    lock: &mut L,
+    held: &mut K,
+    at: FolderPlace<'a>,
+    found: Found,
+) -> Result<Begun<D, H>, NotBegun<'a, D>>
+    requires free { L.held lock.old ≡ None }
+    requires folder_free { K.held held.old ≡ None }
+    requires alone { Honestly (D.state disk) (AreAlone at.path.now (D.state disk)) }
+    ensures both { OnOk result ((L.held lock.new ≡ Some at.entry.links.now) × (K.held held.new ≡ Some at.entry.base.now)) }
+    ensures locked { IfErr result (λ stopped. ((L.held lock.new ≡ Some at.entry.links.now) × (K.held held.new ≡ Some at.entry.base.now)) ⊎ ChangesNothing (D.state disk) (D.state stopped.disk)) }
+    ensures begun { IfOk result (λ begun. Honestly (D.state begun.store.disk)
+        (IsBegun H.keyed at.entry.links.now at.entry.path.now found.strange (D.state disk) (⟦<FolderStore<D, H> as Store>⟧.state begun.store) begun.links)) }
+    ensures ready { IfOk result (λ begun. (⟦<FolderStore<D, H> as Store>⟧.state begun.store).is_ready) }
+    ensures of_folder { IfOk result (λ begun. IsOfFolder H.keyed at.entry.path.now (D.state disk) (⟦<FolderStore<D, H> as Store>⟧.state begun.store)) }
+    ensures ours { IfOk result (λ begun. begun.store.folder.told.mark.owner ≡ number_of begun.links.system) }
+    ensures later { IfOk result (λ begun. D.failures disk ≤ D.failures begun.store.disk) }
+    ensures outside { IfErr result (λ stopped. KeepsOutside at.entry.path.now (D.state disk) (D.state stopped.disk)) }
+    ensures any_moment { IfErr result (λ stopped. Honestly (D.state stopped.disk) ((base : Base) → StandsForBase H.keyed at.entry.path.now base (D.state disk).seen
+        → LeavesOnly (D.state disk) (D.state stopped.disk) (StandsForBaseOrWasLeft H.keyed at.entry.path.now (D.state disk) base))) }
+    ensures err { IfErr result (λ stopped. Honestly (D.state stopped.disk) (
+        IsLockedOut at.entry.links.now at.entry.base.now (HaveFailed (D.failures disk) (D.failures stopped.disk) (L.failures lock.old) (L.failures lock.new) (K.failures held.old) (K.failures held.new)) (D.state disk) (D.state stopped.disk) stopped.fault
+        ⊎ IsShut at.entry.links.now at.entry.base.now at.entry.path.now found.strange (HaveFailed (D.failures disk) (D.failures stopped.disk) (L.failures lock.old) (L.failures lock.new) (K.failures held.old) (K.failures held.new)) (D.state disk) (D.state stopped.disk) stopped.fault)) }
+{
+    let mut disk = disk;
+    match open_station(alloc, &mut disk, lock, held, at, found) {
+        Ok(Station { links, folder }) => Ok(Begun {
+            links,
+            store: FolderStore::new(alloc, disk, folder),
+        }),
+        Err(fault) => Err(NotBegun { disk, fault }),
+    }
+}

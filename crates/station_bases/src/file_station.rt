@@ -1,0 +1,60 @@
+//! A station whose base is a file.
+ghost use Rattle.std.specs.Prelude.{◌≡◌, Some};
+ghost use Rattle.station.specs.Links.{AreLinks};
+ghost use Rattle.station_bases.specs.Reading.{IsShutFor, file_place};
+
+use crate::file_store::FileStore;
+use crate::loading::{Read, read_station};
+use disk_io::Disk;
+use station::{FileLock, Locks, OpenStation, Opened, Stopped, Watching};
+use std::alloc::Global;
+use std::hash::BuildHasher;
+
+/// The paths of a station: its link file and its base file. The hasher serves look-ups by key; reading the base file
+/// is watched.
+#[derive(Drop)]
+pub struct FileStation<'a, S, T> {
+    pub links: &'a str,
+    pub base: &'a str,
+    pub hasher: S,
+    pub watch: T,
+}
+
+impl<'a, D: Disk + Drop, S: BuildHasher + Drop, T: Watching + Drop> OpenStation<'a, D>
+    for FileStation<'a, S, T> {
+    type Kept = FileStore<'a, D, S>;
+
+    ghost place = { λ at. file_place at.base.now };
+
+    ghost can_open = { λ at disk. Unit {0} };
+
+    ghost is_locked = { λ at links base. (links ≡ Some at.links.now) × (base ≡ Some at.base.now) };
+
+    ghost reads = { λ at disk file. AreLinks disk at.links.now file };
+
+    ghost is_shut = { λ at failed old new fault. IsShutFor at.links.now at.base.now failed old new fault };
+
+    fn open<L: FileLock, K: FileLock>(
+        self,
+        alloc: Global,
+        disk: D,
+        locks: &mut Locks<L, K>,
+    ) -> Result<Opened<FileStore<'a, D, S>>, Stopped<'a, D>> {
+        let mut disk = disk;
+        let path = self.base;
+        match read_station(alloc, &mut disk, locks, self) {
+            Ok(read) => {
+                let Read { links, own, base } = read;
+                Ok(Opened {
+                    links,
+                    kept: FileStore::new(alloc, disk, base, path, own),
+                })
+            }
+            Err(fault) => Err(Stopped { disk, fault }),
+        }
+    }
+
+    fn into_disk(kept: FileStore<'a, D, S>) -> D {
+        kept.into_disk()
+    }
+}

@@ -1,0 +1,97 @@
+//! The disk of a station with a base file is used for other files.
+ghost use Rattle.std.specs.Prelude.{◌≡◌, ◌↔◌, ◌++◌, ℕ, List, IsTrue, codes};
+ghost use Rattle.station.specs.Paths.{path_beside};
+ghost use Rattle.station_bases.specs.InFile.{IsOfFile, file_state};
+
+use crate::file_station::FileStation;
+use crate::file_store::{FileRest, FileStore};
+use disk_io::Disk;
+use station::{LendStation, OwnPaths, Watching};
+use std::alloc::Global;
+use std::hash::BuildHasher;
+
+/// What comes before and after the name of a system in a staging path.
+const BEFORE: &[u8] = b".~";
+
+const BEHIND: &[u8] = b"~.new";
+
+/// The path of a base file, and its staging paths for any system.
+#[derive(Clone, Copy, Debug, Drop)]
+pub struct FilePaths<'a> {
+    pub path: &'a str,
+}
+
+impl OwnPaths for FilePaths<'_> {
+    ghost is_own = { λ paths m. (own : List ℕ) × IsOfFile paths.path.now own m };
+
+    fn owns(&self, path: &[u8]) -> bool {
+        is_of_file(self.path.as_bytes(), path)
+    }
+}
+
+// Whether the path is that of the base file, or a staging path of it.
+fn is_of_file(base: &[u8], path: &[u8]) -> bool
+    ensures { IsTrue result ↔ ((own : List ℕ) × IsOfFile base.now own path.now) }
+{
+    if is_beside(base, path) {
+        return true;
+    }
+    is_same(path, base)
+}
+
+fn is_same(one: &[u8], other: &[u8]) -> bool
+    ensures { IsTrue result ↔ (one.now ≡ other.now) }
+{
+    one == other
+}
+
+// Whether the path is a staging path of the other.
+fn is_beside(base: &[u8], path: &[u8]) -> bool
+    ensures { IsTrue result ↔ ((own : List ℕ) × (path.now ≡ path_beside base.now own)) }
+{
+    match path.strip_prefix(base) {
+        Some(rest) => is_ending(rest),
+        None => false,
+    }
+}
+
+// Whether a staging path ends so.
+fn is_ending(rest: &[u8]) -> bool
+    ensures { IsTrue result ↔ ((own : List ℕ) × (rest.now ≡ codes ".~" ++ (own ++ codes "~.new"))) }
+{
+    match rest.strip_prefix(BEFORE) {
+        Some(name) => is_new(name),
+        None => false,
+    }
+}
+
+// Whether it is the name of a system, and then this.
+fn is_new(name: &[u8]) -> bool
+    ensures { IsTrue result ↔ ((own : List ℕ) × (name.now ≡ own ++ codes "~.new")) }
+{
+    match name.strip_suffix(BEHIND) {
+        Some(_own) => true,
+        None => false,
+    }
+}
+
+impl<'a, D: Disk + Drop, S: BuildHasher + Drop, T: Watching + Drop> LendStation<'a, D>
+    for FileStation<'a, S, T> {
+    type Rest = FileRest<'a, S>;
+
+    type Paths = FilePaths<'a>;
+
+    ghost store_on = { λ rest disk. file_state (D.state disk) rest.path.now rest.own rest.base rest.place };
+
+    fn paths(&self) -> FilePaths<'a> {
+        FilePaths { path: self.base }
+    }
+
+    fn lend(kept: FileStore<'a, D, S>) -> (D, FileRest<'a, S>) {
+        kept.into_parts()
+    }
+
+    fn give_back(alloc: Global, disk: D, rest: FileRest<'a, S>) -> FileStore<'a, D, S> {
+        FileStore::of_parts(alloc, disk, rest)
+    }
+}

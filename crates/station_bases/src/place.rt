@@ -1,0 +1,18 @@
+//! Where a station with a base folder is.
+
+/// The paths of a station: its link file, its base folder as it was named (its lock goes by that), and the path
+/// before the names of the folder's files, which ends in a slash.
+#[derive(Clone, Copy, Debug)]
+pub struct FolderPlace<'a> {
+    pub links: &'a str,
+    pub base: &'a str,
+    pub path: &'a [u8],
+}
+
+/// What a program found of a folder: whether it has foreign files, and the two halves of a key for digests. A folder
+/// without messages gets this key.
+#[derive(Clone, Copy, Debug)]
+pub struct Found {
+    pub strange: bool,
+    pub key: (u64, u64),
+}

@@ -1,0 +1,91 @@
+//! A base replaces its file.
+ghost use Rattle.std.specs.Prelude.{◌≡◌, ◌≢◌, All, IfErr, IfOk, OnOk, Some};
+ghost use Rattle.base_file.specs.BaseFile.{saved_bytes};
+ghost use Rattle.disk_io.specs.Runs.{HasCause, LeavesOnly, OneStepOn};
+ghost use Rattle.disk_atomic.specs.Changes.{ChangesOnly, HasOnDisk};
+ghost use Rattle.disk_atomic.specs.Replacing.{Replaces};
+ghost use Rattle.station.specs.Paths.{path_beside};
+ghost use Rattle.cmd_status.specs.Inputs.{IsBaseGiven};
+ghost use Rattle.station_bases.specs.InFile.{HasRoomFor, HasWriteCause, IsInFile, IsOfFile, IsUnsaved, PutsBase};
+
+use base_file::{Base, BaseFault, saved_base_law};
+use base_store::StoreError;
+use disk_atomic::replace_file;
+use disk_io::{Disk, DiskError, Watched, folder_of};
+use echo_addr::Items;
+use echo_filed::{Filed, is_short_enough};
+use station::path_beside;
+use std::alloc::Global;
+use std::hash::BuildHasher;
+
+/// The most messages of a base file.
+const MOST: usize = 4_294_967_295;
+
+/// A fault, unless a base file can have this message too.
+pub(crate) fn check_room<S: BuildHasher>(
+    alloc: Global,
+    base: &Base<S>,
+    message: &Filed,
+) -> Result<(), StoreError>
+    ensures room { OnOk result (HasRoomFor base.now message.now) }
+    ensures err { IfErr result IsUnsaved }
+{
+    if base.len() >= MOST || !is_short_enough(alloc, message, false)? {
+        return Err(StoreError::TooMany);
+    }
+    Ok(())
+}
+
+// The bytes of a base file with this base.
+fn saved<S: BuildHasher>(alloc: Global, base: &Base<S>) -> Result<Items<u8>, StoreError>
+    ensures bytes { IfOk result (λ bytes. bytes ≡ saved_bytes base.now.messages base.now.cursor) }
+    ensures says { IfOk result (λ bytes. IsBaseGiven (Some bytes) base.now.messages base.now.cursor) }
+    ensures err { IfErr result IsUnsaved }
+{
+    saved_base_law();
+    let mut file = Watched::new(Vec::new(alloc));
+    match base.save(&mut file) {
+        Ok(()) => Ok(Items::new(file.into_inner())),
+        Err(BaseFault::TooMany) => Err(StoreError::TooMany),
+        Err(_) => Err(StoreError::Memory),
+    }
+}
+
+// Replaces the bytes of the file by these, through its staging path.
+fn put<D: Disk>(
+    alloc: Global,
+    disk: &mut D,
+    path: &str,
+    own: &[u8],
+    bytes: &[u8],
+) -> Result<(), DiskError>
+    requires { All (λ b. b ≢ 47) own.now }
+    ensures written { OnOk result (HasOnDisk (D.state disk.new) path.now bytes.now) }
+    ensures any_moment { LeavesOnly (D.state disk.old) (D.state disk.new) (OneStepOn (Replaces path.now (path_beside path.now own.now) bytes.now) (D.state disk.old)) }
+    ensures changes { ChangesOnly (IsOfFile path.now own.now) (D.state disk.old) (D.state disk.new) }
+    ensures cause { HasCause (D.failures disk.old) (D.failures disk.new) result }
+{
+    let path = path.as_bytes();
+    let beside = path_beside(alloc, path, own)?;
+    replace_file(disk, folder_of(path), path, &beside, bytes)
+}
+
+/// Replaces the base in a file.
+pub(crate) fn write_file<D: Disk, S: BuildHasher>(
+    alloc: Global,
+    disk: &mut D,
+    base: &Base<S>,
+    path: &str,
+    own: &[u8],
+) -> Result<(), StoreError>
+    requires { All (λ b. b ≢ 47) own.now }
+    ensures bytes { OnOk result (HasOnDisk (D.state disk.new) path.now (saved_bytes base.now.messages base.now.cursor)) }
+    ensures written { OnOk result (IsInFile (D.state disk.new) path.now base.now) }
+    ensures any_moment { LeavesOnly (D.state disk.old) (D.state disk.new) (OneStepOn (PutsBase path.now own.now base.now) (D.state disk.old)) }
+    ensures changes { ChangesOnly (IsOfFile path.now own.now) (D.state disk.old) (D.state disk.new) }
+    ensures cause { HasWriteCause (D.failures disk.old) (D.failures disk.new) result }
+{
+    let bytes = saved(alloc, base)?;
+    put(alloc, disk, path, own, bytes.as_slice())?;
+    Ok(())
+}

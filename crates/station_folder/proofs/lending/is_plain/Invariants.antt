@@ -1,7 +1,0 @@
--- So are the bytes up to here.
-use Rattle.std.specs.Prelude.{◌≢◌}
-use Rattle.std.specs.List.{AllWithin}
-use Rattle.station_folder.proofs.lending.is_plain.Given as goal
-
-abbrev pub invariant-bytes : goal.invariant-bytes
-invariant-bytes l = AllWithin (λ b. b ≢ 47) l.name 0 l.byte-index

@@ -1,0 +1,32 @@
+//! Tests of formats and stations beyond examples/cases: calls that no command makes, answers that none prints, calls
+//! that are refused memory, and devices that fail.
+#![tactic(auto)]
+
+#[cfg(test)]
+mod addr;
+#[cfg(test)]
+mod base;
+#[cfg(test)]
+mod commands;
+#[cfg(test)]
+mod device;
+#[cfg(test)]
+mod filed;
+#[cfg(test)]
+mod graph;
+#[cfg(test)]
+mod links;
+#[cfg(test)]
+mod net;
+#[cfg(test)]
+mod nodelist;
+#[cfg(test)]
+mod packet;
+#[cfg(test)]
+mod replay;
+#[cfg(test)]
+mod stations;
+#[cfg(test)]
+mod text;
+#[cfg(test)]
+mod toss;

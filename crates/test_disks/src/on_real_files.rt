@@ -1,0 +1,73 @@
+//! A base folder on files of the system.
+use crate::bases::{Base, Change, change_folder, open_folder, read_base};
+use base_log::{FolderError, Mark};
+use disk_system::{RealDisk, Unknown};
+use std::fs;
+use std::fs::OpenOptions;
+use std::test::Fail;
+
+/// The base folder of the test.
+const FOLDER: &[u8] = b"disk_tests_base/";
+
+/// Nobody's mark, and that of the folder's owner.
+const UNCLAIMED: Mark = Mark {
+    owner: 0,
+    first: 0,
+    second: 0,
+};
+
+const CLAIMED: Mark = Mark {
+    owner: 5,
+    first: 6,
+    second: 7,
+};
+
+/// A length of a log that ends inside its second record.
+const INSIDE: u64 = 75;
+
+#[test]
+fn a_base_folder_is_opened_again_and_not_with_a_log_cut_short(rt: HostRuntime) -> Result<(), Fail> {
+    let alloc = rt.alloc();
+    let _ = fs::remove_dir_all(&rt, "disk_tests_base");
+    fs::create_dir(&rt, "disk_tests_base")?;
+    let first = Change {
+        anew: false,
+        messages: Vec::from_slice(alloc, b"first message")?,
+        keys: Vec::from_slice(alloc, b"first key")?,
+        cursor: 1,
+        mark: CLAIMED,
+    };
+    let second = Change {
+        anew: true,
+        messages: Vec::from_slice(alloc, b"another")?,
+        keys: Vec::from_slice(alloc, b"key")?,
+        cursor: 2,
+        mark: CLAIMED,
+    };
+    let empty = Base {
+        messages: Vec::new(alloc),
+        keys: Vec::new(alloc),
+        cursor: 0,
+        mark: UNCLAIMED,
+    };
+    let after = empty.changed(alloc, &first)?.changed(alloc, &second)?;
+
+    let mut disk = RealDisk::new(&rt, Unknown);
+    let end = open_folder(alloc, &mut disk, FOLDER)?;
+    let end = change_folder(alloc, &mut disk, FOLDER, end, &first)?;
+    let _ = change_folder(alloc, &mut disk, FOLDER, end, &second)?;
+
+    let mut again = RealDisk::new(&rt, Unknown);
+    let end = open_folder(alloc, &mut again, FOLDER)?;
+    assert!(rt; read_base(alloc, &mut again, FOLDER, end)?.is(&after));
+
+    OpenOptions::new()
+        .write(true)
+        .open(&rt, "disk_tests_base/log")?
+        .set_len(INSIDE)?;
+    let mut cut = RealDisk::new(&rt, Unknown);
+    let opened = open_folder(alloc, &mut cut, FOLDER);
+    assert!(rt; opened == Err(FolderError::Corrupt));
+    fs::remove_dir_all(&rt, "disk_tests_base")?;
+    Ok(())
+}
