@@ -9,7 +9,7 @@ import sys
 os.chdir(os.path.dirname(os.path.dirname(os.path.abspath(__file__))))
 CHANGES = {
     "disk_system/system": "the calls of RealDisk",
-    "disk_system/beside": "temporary files of whole new files",
+    "disk_system/staging": "temporary files of whole new files",
     "disk_system/owned": "the owner of a file that replaces another",
     "disk_system/writing": "whole new files",
     "cmd_base/base_files": "calls of RealDisk, passed on; mode and owner of a base file",

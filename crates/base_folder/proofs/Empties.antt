@@ -9,7 +9,7 @@ use Rattle.base_log.proofs.Paths.{log_in, messages_in, keys_in}
 use Rattle.base_log.specs.Reading.{ReadsAll}
 use Rattle.base_log.specs.Standing.{BaseBytes, IsNew, StandsFor}
 use Rattle.base_log.specs.declared.log.End.{End}
-use Rattle.base_log.specs.declared.log.Told.{Told}
+use Rattle.base_log.specs.declared.log.CommitRecord.{CommitRecord}
 use Rattle.base_file.specs.Base.{Base}
 use Rattle.base_folder_store.specs.Held.{HoldsBase, StandsForBase}
 use Rattle.base_folder.specs.Ours.{IsOfOther}
@@ -87,4 +87,4 @@ unfolding no_end
 empty_nobody own address path files none of =
     let log = bytes_in (files (log_of path)) in
     let end : of.log.end ≡ no_end = one_end log of.log.end no_end of.log.log.reads (empty_folder log (no_log path files none)).reads in
-    of.mark.claimed (ap (λ (t : Told). t.mark.owner) (sym of.log.is) ∙ ap (λ (e : End). e.told.mark.owner) end)
+    of.mark.claimed (ap (λ (t : CommitRecord). t.mark.owner) (sym of.log.is) ∙ ap (λ (e : End). e.told.mark.owner) end)

@@ -16,7 +16,7 @@ use Rattle.base_file.specs.declared.fault.BaseFault.TheVariants as fault
 use Rattle.base_file.proofs.SavedMessages.{all_more, not_countable, saved_parts, stored_all, too_long_here}
 use Rattle.base_folder_store.proofs.Looked.{some_message}
 use Rattle.base_folder.specs.AsFile.{IsDamagedIn, IsFileFault, IsTooLong}
-use Rattle.base_folder.specs.declared.looking.Seen.{Seen}
+use Rattle.base_folder.specs.declared.snapshot.FolderSnapshot.{FolderSnapshot}
 
 -- the message of this number
 pub message_there : (all : List Filed) (i : ℕ) → i < length all → Filed
@@ -76,7 +76,7 @@ too_great base count cursor many at within (inl past) = too_many base.cursor bas
 too_great base count cursor many at within (inr past) = too_many base.cursor base.messages (omega (arith, within, at, past))
 
 -- a message that is too long is there
-pub long_not_damaged : (keyed : ℕ → ℕ → List ℕ → ℕ) (seen : Seen) (s : Stored) (e : BaseFault) → IsTooLong s e → IsDamagedIn keyed seen e
+pub long_not_damaged : (keyed : ℕ → ℕ → List ℕ → ℕ) (seen : FolderSnapshot) (s : Stored) (e : BaseFault) → IsTooLong s e → IsDamagedIn keyed seen e
 long_not_damaged keyed seen s fault.Memory is = tt
 long_not_damaged keyed seen s fault.TooMany is = tt
 long_not_damaged keyed seen s fault.NotBase is = tt

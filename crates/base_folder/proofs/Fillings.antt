@@ -24,9 +24,9 @@ use Rattle.base_file.specs.declared.fault.BaseFault.TheVariants as fault
 use Rattle.base_store.specs.declared.store_error.StoreError.{StoreError}
 use Rattle.base_store.specs.declared.store_error.StoreError.TheVariants as store
 use Rattle.base_folder.specs.Filled.{HoldsFront, HoldsMore, IsKept, IsUnfilled, StandsForOneOf, StandsForOneOfOrWasLeft, unfilled_cause}
-use Rattle.base_folder.specs.Unread.{IsWrong}
-use Rattle.base_folder.specs.declared.unread.Unread.{Unread}
-use Rattle.base_folder.specs.declared.unread.Unread.TheVariants as unread
+use Rattle.base_folder.specs.OpenError.{IsWrong}
+use Rattle.base_folder.specs.declared.open_error.OpenError.{OpenError}
+use Rattle.base_folder.specs.declared.open_error.OpenError.TheVariants as unread
 
 -- one message more
 pub front_one : (keyed : ℕ → ℕ → List ℕ → ℕ) (old now : BaseBytes) (base : Base) (i cursor : ℕ) (m : Filed) → IsBase base.messages base.cursor → slice_get base.messages i ≡ Some m
@@ -114,7 +114,7 @@ fill_run keyed path here d e f first next at opening kept filling =
     (λ (one : StandsForBaseAlone keyed path e next c). inr (alone_since keyed path d e next kept c one)) or))
 
 -- a folder that is not opened is not filled
-pub unfilled_where_wrong : (strange : Bool) (path : List ℕ) (files : Files) (why : Unread) → IsWrong strange path files why → IsUnfilled strange path files why
+pub unfilled_where_wrong : (strange : Bool) (path : List ℕ) (files : Files) (why : OpenError) → IsWrong strange path files why → IsUnfilled strange path files why
 unfilled_where_wrong strange path files (unread.Wrong fault.TooMany) was = tt
 unfilled_where_wrong strange path files (unread.Wrong fault.NotBase) was = was
 unfilled_where_wrong strange path files (unread.Wrong (fault.Truncated n)) was = was
@@ -128,8 +128,8 @@ unfilled_where_wrong strange path files unread.Raced was = was
 unfilled_where_wrong strange path files (unread.NotOwner address) was = was
 
 -- why it was not filled once it was open
-pub unfilled_as_caused : (strange : Bool) (path : List ℕ) (files : Files) (cause : StoreError) (why : Unread) → why ≡ unfilled_cause cause → IsUnfilled strange path files why
-unfilled_as_caused strange path files store.Memory why is = subst (λ (w : Unread). IsUnfilled strange path files w) (sym is) tt
-unfilled_as_caused strange path files store.Device why is = subst (λ (w : Unread). IsUnfilled strange path files w) (sym is) tt
-unfilled_as_caused strange path files store.Damaged why is = subst (λ (w : Unread). IsUnfilled strange path files w) (sym is) tt
-unfilled_as_caused strange path files store.TooMany why is = subst (λ (w : Unread). IsUnfilled strange path files w) (sym is) tt
+pub unfilled_as_caused : (strange : Bool) (path : List ℕ) (files : Files) (cause : StoreError) (why : OpenError) → why ≡ unfilled_cause cause → IsUnfilled strange path files why
+unfilled_as_caused strange path files store.Memory why is = subst (λ (w : OpenError). IsUnfilled strange path files w) (sym is) tt
+unfilled_as_caused strange path files store.Device why is = subst (λ (w : OpenError). IsUnfilled strange path files w) (sym is) tt
+unfilled_as_caused strange path files store.Damaged why is = subst (λ (w : OpenError). IsUnfilled strange path files w) (sym is) tt
+unfilled_as_caused strange path files store.TooMany why is = subst (λ (w : OpenError). IsUnfilled strange path files w) (sym is) tt

@@ -11,7 +11,7 @@ use Rattle.base_log.proofs.Opened.{end_tells}
 use Rattle.base_log.proofs.Same.{front_long}
 use Rattle.base_log.specs.declared.log.Log.{Log}
 use Rattle.base_folder.specs.Looked.{IsSeenFrom}
-use Rattle.base_folder.specs.declared.looking.Seen.{Seen}
+use Rattle.base_folder.specs.declared.snapshot.FolderSnapshot.{FolderSnapshot}
 use Rattle.base_folder.proofs.Wrongs.{one_end}
 
 -- an error that was handed on as it is
@@ -27,7 +27,7 @@ pub at_err : {T E : Type 0} (P : E → Type 0) (r : Result T E) (e : E) → r �
 at_err P r e is was = subst (λ (q : Result _ _). IfErr q P) is was
 
 -- the same, whatever the logs are that are noted with it
-pub noted : (first : ℕ) (base : BaseBytes) (seen now : Seen) → now.messages ≡ seen.messages → now.before ≡ seen.before → now.all ≡ seen.all → now.keys ≡ seen.keys → now.cursor ≡ seen.cursor → now.mark ≡ seen.mark
+pub noted : (first : ℕ) (base : BaseBytes) (seen now : FolderSnapshot) → now.messages ≡ seen.messages → now.before ≡ seen.before → now.all ≡ seen.all → now.keys ≡ seen.keys → now.cursor ≡ seen.cursor → now.mark ≡ seen.mark
     → IsSeenFrom first base seen → IsSeenFrom first base now
 noted first base seen now m b a k c mark was = record {
   begins = λ lt. subst (λ (n : ℕ). n ≤ place_at base.keys first) (sym b) (was.begins lt);

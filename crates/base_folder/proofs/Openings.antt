@@ -10,8 +10,8 @@ use Rattle.disk_io.proofs.Moments.{then_run, weaker_run}
 use Rattle.base_log.specs.Names.{keys_of, log_of, messages_of}
 use Rattle.base_log.specs.Standing.{BaseBytes, StandsFor, base_at}
 use Rattle.base_log.specs.declared.log.End.{End}
-use Rattle.base_log.specs.declared.log.Mark.{Mark}
-use Rattle.base_log.specs.declared.log.Told.{Told}
+use Rattle.base_log.specs.declared.log.FolderIdentity.{FolderIdentity}
+use Rattle.base_log.specs.declared.log.CommitRecord.{CommitRecord}
 use Rattle.base_log.specs.Opening.{StandsOrWasLeft}
 use Rattle.base_log.specs.Reading.{IsLogIn, IsRead}
 use Rattle.base_log.specs.declared.log.Log.{Log}
@@ -30,8 +30,8 @@ use Rattle.base_folder.specs.Ours.{IsLeftAlone, IsMarkOfOther, IsOfOther, SameKe
 use Rattle.base_folder.specs.Unopened.{HaveRoom}
 use Rattle.base_folder.specs.Wrong.{IsToldBy}
 use Rattle.base_folder.proofs.Wrongs.{one_end}
-use Rattle.base_folder.specs.declared.unread.Unread.{Unread}
-use Rattle.base_folder.specs.declared.unread.Unread.TheVariants as unread
+use Rattle.base_folder.specs.declared.open_error.OpenError.{OpenError}
+use Rattle.base_folder.specs.declared.open_error.OpenError.TheVariants as unread
 
 -- the files stand for the same base
 pub stands_since : (keyed : ℕ → ℕ → List ℕ → ℕ) (path : List ℕ) (d e : DiskState) (base : Base) → ChangesNothing d e → StandsForBase keyed path base d.seen → StandsForBase keyed path base e.seen
@@ -85,28 +85,28 @@ claimed_committed keyed d f g base only settled written holds =
     subst (λ (b : BaseBytes). HoldsBase keyed b base) (last ∙ sym same) holds
 
 -- a log tells one thing
-pub one_told : (strange : Bool) (log : List ℕ) (a b : Told) → IsToldBy strange log a → IsToldBy strange log b → a ≡ b
+pub one_told : (strange : Bool) (log : List ℕ) (a b : CommitRecord) → IsToldBy strange log a → IsToldBy strange log b → a ≡ b
 one_told strange log a b one other = sym one.is ∙ ap (λ (e : End). e.told) (one_end log one.end other.end one.log.reads other.log.reads) ∙ other.is
 
 -- a folder that is nobody's or this system's is no other's
-pub not_other : (own : Address) (mark : Mark) (address : Address) → (mark.owner ≡ 0) ⊎ (mark.owner ≡ number_of own) → IsMarkOfOther own mark address → ⊥
+pub not_other : (own : Address) (mark : FolderIdentity) (address : Address) → (mark.owner ≡ 0) ⊎ (mark.owner ≡ number_of own) → IsMarkOfOther own mark address → ⊥
 not_other own mark address (inl none) other = other.claimed none
 not_other own mark address (inr ours) other = other.other ours
 
 -- a log tells of this owner that it is another system's, or not
-pub told_other : (own : Address) (strange : Bool) (path : List ℕ) (files : Files) (told : Told) (address : Address) → IsToldBy strange (bytes_in (files (log_of path))) told → (told.mark.owner ≡ 0) ⊎ (told.mark.owner ≡ number_of own)
+pub told_other : (own : Address) (strange : Bool) (path : List ℕ) (files : Files) (told : CommitRecord) (address : Address) → IsToldBy strange (bytes_in (files (log_of path))) told → (told.mark.owner ≡ 0) ⊎ (told.mark.owner ≡ number_of own)
     → IsOfOther own strange path files address → ⊥
 told_other own strange path files told address by ours other =
     let same = one_told strange (bytes_in (files (log_of path))) other.told told other.log by in
-    not_other own told.mark address ours (subst (λ (t : Told). IsMarkOfOther own t.mark address) same other.mark)
+    not_other own told.mark address ours (subst (λ (t : CommitRecord). IsMarkOfOther own t.mark address) same other.mark)
 
 -- the files stand for the same before looks, and after them
-pub stood_before : (d e : DiskState) (path : List ℕ) (told : Told) → ChangesNothing d e → StandsFor path (base_at e path told) e.seen → StandsFor path (base_at d path told) d.seen
+pub stood_before : (d e : DiskState) (path : List ℕ) (told : CommitRecord) → ChangesNothing d e → StandsFor path (base_at e path told) e.seen → StandsFor path (base_at d path told) d.seen
 stood_before d e path told quiet stands =
     let same : e.seen ≡ d.seen = λ i m. quiet.seen m i in
     subst (λ (f : Files). StandsFor path (base_at d path told) f) same (subst (λ (b : BaseBytes). StandsFor path b e.seen) (base_quiet d e path told quiet) stands)
 
-pub stood_since : (d e : DiskState) (path : List ℕ) (told : Told) → ChangesNothing d e → StandsFor path (base_at d path told) d.seen → StandsFor path (base_at e path told) e.seen
+pub stood_since : (d e : DiskState) (path : List ℕ) (told : CommitRecord) → ChangesNothing d e → StandsFor path (base_at d path told) d.seen → StandsFor path (base_at e path told) e.seen
 stood_since d e path told quiet stands = subst (λ (b : BaseBytes). StandsFor path b e.seen) (sym (base_quiet d e path told quiet)) (stands_quiet d e path (base_at d path told) quiet stands)
 
 -- what the log tells is the base for which the files stand
@@ -129,7 +129,7 @@ opening_run keyed path d e f log base stands quiet is read run =
     (opened_run keyed path e f base since (subst (λ (b : BaseBytes). LeavesOnly e f (StandsOrWasLeft path e b)) (base_is path stands.bytes d e log quiet is read stands.stands) run))
 
 -- looks change nothing, whatever they find
-pub left_alone : (d e : DiskState) (why : Unread) → ChangesNothing d e → IsLeftAlone d e why
+pub left_alone : (d e : DiskState) (why : OpenError) → ChangesNothing d e → IsLeftAlone d e why
 left_alone d e (unread.Wrong fault) quiet = quiet
 left_alone d e (unread.NotOwner address) quiet = quiet
 left_alone d e unread.Memory quiet = tt

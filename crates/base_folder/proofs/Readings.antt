@@ -13,7 +13,7 @@ use Rattle.base_folder_store.specs.Held.{digest_by}
 use Rattle.base_folder_store.proofs.Bases.{told_where}
 use Rattle.base_folder.specs.Looked.{SeesBase}
 use Rattle.base_folder.specs.Reading.{HasDigest, IsThere}
-use Rattle.base_folder.specs.declared.looking.Seen.{Seen}
+use Rattle.base_folder.specs.declared.snapshot.FolderSnapshot.{FolderSnapshot}
 
 -- a message begins behind those before it
 rise : (messages keys : List ℕ) (all : List Filed) → StandWhereTold all messages keys → (k i : ℕ) → k + i < length all → place_at keys k ≤ place_at keys (k + i)
@@ -33,14 +33,14 @@ rises messages keys all stand k i below within =
     subst (λ (n : ℕ). place_at keys k ≤ place_at keys n) same (rise messages keys all stand k (i - k) (omega (arith, below, within)))
 
 -- the message of this number, which was read
-pub record ReadAt (keyed : ℕ → ℕ → List ℕ → ℕ) (seen : Seen) (base : Base) (i : ℕ) : Type 0 where
+pub record ReadAt (keyed : ℕ → ℕ → List ℕ → ℕ) (seen : FolderSnapshot) (base : Base) (i : ℕ) : Type 0 where
   pub bytes : BaseBytes
   pub s : Stored
   pub there : IsThere seen bytes i s
   pub digest : HasDigest keyed bytes i s
   pub is : (d : Filed) → get_or base.messages i d ≡ message_in Second s
 
-pub read_at : (keyed : ℕ → ℕ → List ℕ → ℕ) (first : ℕ) (base : Base) (seen : Seen) → SeesBase keyed first base seen → (i : ℕ) → first ≤ i → i < length base.messages → ReadAt keyed seen base i
+pub read_at : (keyed : ℕ → ℕ → List ℕ → ℕ) (first : ℕ) (base : Base) (seen : FolderSnapshot) → SeesBase keyed first base seen → (i : ℕ) → first ≤ i → i < length base.messages → ReadAt keyed seen base i
 read_at keyed first base seen sees i from within =
     let bytes = sees.bytes in
     let told = told_where keyed bytes base sees.holds in
@@ -56,13 +56,13 @@ read_at keyed first base seen sees i from within =
     }
 
 -- how many there are
-pub seen_count : (keyed : ℕ → ℕ → List ℕ → ℕ) (first : ℕ) (base : Base) (seen : Seen) → SeesBase keyed first base seen → length seen.keys.items / 16 ≡ length base.messages
+pub seen_count : (keyed : ℕ → ℕ → List ℕ → ℕ) (first : ℕ) (base : Base) (seen : FolderSnapshot) → SeesBase keyed first base seen → length seen.keys.items / 16 ≡ length base.messages
 seen_count keyed first base seen sees =
     let told = told_where keyed sees.bytes base sees.holds in
     let keys : length seen.keys.items ≡ length sees.bytes.keys = ap (λ (l : List ℕ). length l) sees.read.keys in
     omega (arith, told.many, keys)
 
-pub seen_cursor : (keyed : ℕ → ℕ → List ℕ → ℕ) (first : ℕ) (base : Base) (seen : Seen) → SeesBase keyed first base seen → seen.cursor ≡ base.cursor
+pub seen_cursor : (keyed : ℕ → ℕ → List ℕ → ℕ) (first : ℕ) (base : Base) (seen : FolderSnapshot) → SeesBase keyed first base seen → seen.cursor ≡ base.cursor
 seen_cursor keyed first base seen sees = sees.read.cursor ∙ sees.holds.cursor
 
 -- two numbers are told apart as what they are equal to

@@ -6,7 +6,7 @@ use Rattle.base_file.specs.declared.fault.BaseFault.{BaseFault}
 use Rattle.base_file.specs.declared.fault.BaseFault.TheVariants as fault
 use Rattle.echo_filed.specs.Stored.{Stored, is_short_enough}
 use Rattle.base_folder.specs.Reading.{HasNone}
-use Rattle.base_folder.specs.declared.looking.Seen.{Seen}
+use Rattle.base_folder.specs.declared.snapshot.FolderSnapshot.{FolderSnapshot}
 
 -- no memory, or four bytes do not count what is to be saved of the base
 abbrev pub IsFileFault : Base → BaseFault → Type 0
@@ -21,6 +21,6 @@ IsTooLong s fault.TooMany = is_short_enough s ≡ false
 IsTooLong s _ = ⊥
 
 -- none with the digest of its entry was read under this number, if one is said to be damaged
-abbrev pub IsDamagedIn : (ℕ → ℕ → List ℕ → ℕ) → Seen → BaseFault → Type 0
+abbrev pub IsDamagedIn : (ℕ → ℕ → List ℕ → ℕ) → FolderSnapshot → BaseFault → Type 0
 IsDamagedIn keyed seen (fault.Damaged n) = HasNone keyed seen n
 IsDamagedIn keyed seen _ = Unit {0}

@@ -9,9 +9,9 @@ use Rattle.base_file.specs.declared.fault.BaseFault.TheVariants as fault
 use Rattle.base_store.specs.Store.{with_message}
 use Rattle.base_store.specs.declared.store_error.StoreError.{StoreError}
 use Rattle.base_store.specs.declared.store_error.StoreError.TheVariants as error
-use Rattle.base_folder.specs.Unread.{IsWrong}
-use Rattle.base_folder.specs.declared.unread.Unread.{Unread}
-use Rattle.base_folder.specs.declared.unread.Unread.TheVariants as unread
+use Rattle.base_folder.specs.OpenError.{IsWrong}
+use Rattle.base_folder.specs.declared.open_error.OpenError.{OpenError}
+use Rattle.base_folder.specs.declared.open_error.OpenError.TheVariants as unread
 
 -- each base that was held, and does not know the message, is held with it at its end
 abbrev pub HoldsMore : (ℕ → ℕ → List ℕ → ℕ) → BaseBytes → BaseBytes → Filed → Type 0
@@ -39,13 +39,13 @@ pub record IsKept (keyed : ℕ → ℕ → List ℕ → ℕ) (path : List ℕ) (
   pub stays : (c : Files) → disk.may_leave c → StandsForBase keyed path base c
 
 -- a fault of the store, as one of the folder
-abbrev pub unfilled_cause : StoreError → Unread
+abbrev pub unfilled_cause : StoreError → OpenError
 unfilled_cause error.Memory = unread.Memory
 unfilled_cause error.Device = unread.Device
 unfilled_cause error.Damaged = unread.Memory
 unfilled_cause error.TooMany = unread.Wrong fault.TooMany
 
 -- four bytes do not count what it is to be filled with, or something is wrong with it
-abbrev pub IsUnfilled : Bool → List ℕ → Files → Unread → Type 0
+abbrev pub IsUnfilled : Bool → List ℕ → Files → OpenError → Type 0
 IsUnfilled strange path files (unread.Wrong fault.TooMany) = Unit {0}
 IsUnfilled strange path files why = IsWrong strange path files why

@@ -4,5 +4,5 @@ pub mod Looked
 pub mod Ours
 pub mod Reading
 pub mod Unopened
-pub mod Unread
+pub mod OpenError
 pub mod Wrong

@@ -8,10 +8,10 @@ use Rattle.base_log.specs.Reading.{ReadsAll}
 use Rattle.base_log.specs.declared.log.End.{End}
 use Rattle.base_store.specs.Keys.{place_at}
 use Rattle.base_folder_store.specs.Held.{HoldsBase}
-use Rattle.base_folder.specs.declared.looking.Seen.{Seen}
+use Rattle.base_folder.specs.declared.snapshot.FolderSnapshot.{FolderSnapshot}
 
 -- it is what these bytes are, of the messages at least those from this number on
-pub record IsSeenFrom (first : ℕ) (bytes : BaseBytes) (seen : Seen) : Type 0 where
+pub record IsSeenFrom (first : ℕ) (bytes : BaseBytes) (seen : FolderSnapshot) : Type 0 where
   pub begins : first < length bytes.keys / 16 → seen.before ≤ place_at bytes.keys first
   pub within : seen.before ≤ length bytes.messages
   pub all : seen.all ≡ length bytes.messages
@@ -21,13 +21,13 @@ pub record IsSeenFrom (first : ℕ) (bytes : BaseBytes) (seen : Seen) : Type 0 w
   pub mark : seen.mark ≡ bytes.mark
 
 -- these bytes hold this base
-pub record SeesBase (keyed : ℕ → ℕ → List ℕ → ℕ) (first : ℕ) (base : Base) (seen : Seen) : Type 0 where
+pub record SeesBase (keyed : ℕ → ℕ → List ℕ → ℕ) (first : ℕ) (base : Base) (seen : FolderSnapshot) : Type 0 where
   pub bytes : BaseBytes
   pub read : IsSeenFrom first bytes seen
   pub holds : HoldsBase keyed bytes base
 
 -- the logs that were read before the files and after them are the log of this folder
-pub record HasLogs (path : List ℕ) (files : Files) (seen : Seen) : Type 0 where
+pub record HasLogs (path : List ℕ) (files : Files) (seen : FolderSnapshot) : Type 0 where
   pub log : seen.log.items ≡ bytes_in (files (log_of path))
   pub reread : seen.reread.items ≡ bytes_in (files (log_of path))
 

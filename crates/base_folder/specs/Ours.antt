@@ -4,13 +4,13 @@ use Rattle.echo_addr.specs.declared.address.Address.{Address}
 use Rattle.disk_io.specs.Disk.{DiskState, Files, bytes_in}
 use Rattle.disk_io.specs.Runs.{ChangesNothing}
 use Rattle.base_log.specs.Names.{log_of}
-use Rattle.base_log.specs.declared.log.Mark.{Mark}
-use Rattle.base_log.specs.declared.log.Told.{Told}
+use Rattle.base_log.specs.declared.log.FolderIdentity.{FolderIdentity}
+use Rattle.base_log.specs.declared.log.CommitRecord.{CommitRecord}
 use Rattle.base_folder_store.specs.declared.folder.Folder.{Folder}
-use Rattle.base_folder.specs.Unread.{IsWrong}
+use Rattle.base_folder.specs.OpenError.{IsWrong}
 use Rattle.base_folder.specs.Wrong.{IsToldBy}
-use Rattle.base_folder.specs.declared.unread.Unread.{Unread}
-use Rattle.base_folder.specs.declared.unread.Unread.TheVariants as unread
+use Rattle.base_folder.specs.declared.open_error.OpenError.{OpenError}
+use Rattle.base_folder.specs.declared.open_error.OpenError.TheVariants as unread
 
 -- sixteen bits each of zone, net and node
 abbrev pub number_of : Address → ℕ
@@ -26,13 +26,13 @@ pub record IsOurs (own : Address) (old new : Folder) : Type 0 where
   pub kept : old.told.mark.owner ≢ 0 → new ≡ old
 
 -- this mark is another system's
-pub record IsMarkOfOther (own : Address) (mark : Mark) (address : Address) : Type 0 where
+pub record IsMarkOfOther (own : Address) (mark : FolderIdentity) (address : Address) : Type 0 where
   pub claimed : mark.owner ≢ 0
   pub other : mark.owner ≢ number_of own
   pub told : address ≡ address_of mark.owner
 
 -- the digests are by the same key
-pub record SameKey (old new : Mark) : Type 0 where
+pub record SameKey (old new : FolderIdentity) : Type 0 where
   pub first : new.first ≡ old.first
   pub second : new.second ≡ old.second
 
@@ -43,17 +43,17 @@ HasGivenKey own first second folder = length folder.keys.items ≡ 0
 
 -- the log tells that the folder is that of the system with this address, which is another one
 pub record IsOfOther (own : Address) (strange : Bool) (path : List ℕ) (files : Files) (address : Address) : Type 0 where
-  pub told : Told
+  pub told : CommitRecord
   pub log : IsToldBy strange (bytes_in (files (log_of path))) told
   pub mark : IsMarkOfOther own told.mark address
 
 -- nothing was changed, if the folder is said to be another system's, or none, or cut short
-abbrev pub IsLeftAlone : DiskState → DiskState → Unread → Type 0
+abbrev pub IsLeftAlone : DiskState → DiskState → OpenError → Type 0
 IsLeftAlone old new (unread.NotOwner address) = ChangesNothing old new
 IsLeftAlone old new (unread.Wrong fault) = ChangesNothing old new
 IsLeftAlone old new _ = Unit {0}
 
 -- it is another system's, if that is why, or something is wrong with it
-abbrev pub IsNotOurs : Address → Bool → List ℕ → Files → Unread → Type 0
+abbrev pub IsNotOurs : Address → Bool → List ℕ → Files → OpenError → Type 0
 IsNotOurs own strange path files (unread.NotOwner address) = IsOfOther own strange path files address
 IsNotOurs own strange path files why = IsWrong strange path files why

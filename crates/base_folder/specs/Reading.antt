@@ -6,10 +6,10 @@ use Rattle.base_log.specs.Standing.{BaseBytes}
 use Rattle.base_folder_store.specs.Held.{digest_by}
 use Rattle.base_store.specs.Keys.{HasBytesOf, MayStandAlone, digest_at, digested, place_at}
 use Rattle.base_folder.specs.Looked.{IsSeenFrom}
-use Rattle.base_folder.specs.declared.looking.Seen.{Seen}
+use Rattle.base_folder.specs.declared.snapshot.FolderSnapshot.{FolderSnapshot}
 
 -- these are the bytes of which it was read, and the message of this number, which is stored so, was read
-pub record IsThere (seen : Seen) (bytes : BaseBytes) (i : ℕ) (s : Stored) : Type 0 where
+pub record IsThere (seen : FolderSnapshot) (bytes : BaseBytes) (i : ℕ) (s : Stored) : Type 0 where
   pub first : ℕ
   pub read : IsSeenFrom first bytes seen
   pub begins : seen.before ≤ place_at bytes.keys i
@@ -22,9 +22,9 @@ abbrev pub HasDigest : (ℕ → ℕ → List ℕ → ℕ) → BaseBytes → ℕ 
 HasDigest keyed bytes i s = digest_at bytes.keys i ≡ digest_by keyed bytes.mark (digested (message_in Second s))
 
 -- a message that was read under this number has the digest of its entry
-abbrev pub IsVouched : (ℕ → ℕ → List ℕ → ℕ) → Seen → ℕ → Type 0
+abbrev pub IsVouched : (ℕ → ℕ → List ℕ → ℕ) → FolderSnapshot → ℕ → Type 0
 IsVouched keyed seen i = (bytes : BaseBytes) (s : Stored) → IsThere seen bytes i s → HasDigest keyed bytes i s
 
 -- none that was read under this number has it
-abbrev pub HasNone : (ℕ → ℕ → List ℕ → ℕ) → Seen → ℕ → Type 0
+abbrev pub HasNone : (ℕ → ℕ → List ℕ → ℕ) → FolderSnapshot → ℕ → Type 0
 HasNone keyed seen i = (bytes : BaseBytes) (s : Stored) → IsThere seen bytes i s → HasDigest keyed bytes i s → ⊥

@@ -5,7 +5,7 @@ use Rattle.base_log.specs.Names.{keys_of, log_of, messages_of}
 use Rattle.base_log.specs.Reading.{ReadsAll}
 use Rattle.base_log.specs.Standing.{IsBroken, IsLost}
 use Rattle.base_log.specs.declared.log.End.{End}
-use Rattle.base_log.specs.declared.log.Told.{Told}
+use Rattle.base_log.specs.declared.log.CommitRecord.{CommitRecord}
 use Rattle.base_store.specs.Keys.{place_behind}
 
 -- No base folder has a log of this size whose records end so, whatever a crash left: its files have no digit, its keys are
@@ -34,7 +34,7 @@ pub record IsFolderLog (strange : Bool) (log : List ℕ) (end : End) : Type 0 wh
   pub own : is_foreign strange (length log) end ≡ false
 
 -- and the last of its records tells this
-pub record IsToldBy (strange : Bool) (bytes : List ℕ) (told : Told) : Type 0 where
+pub record IsToldBy (strange : Bool) (bytes : List ℕ) (told : CommitRecord) : Type 0 where
   pub end : End
   pub log : IsFolderLog strange bytes end
   pub is : end.told ≡ told

@@ -9,7 +9,7 @@ ghost use Rattle.base_folder.specs.AsFile.{IsDamagedIn, IsFileFault, IsTooLong};
 ghost use Rattle.base_folder.specs.Looked.{SeesBase};
 ghost use Rattle.base_folder.specs.Reading.{HasDigest, IsThere, IsVouched};
 
-use crate::looking::Seen;
+use crate::snapshot::FolderSnapshot;
 use base_file::BaseFault;
 use base_store::{Digest, StoreError};
 use disk_io::Watched;
@@ -57,7 +57,7 @@ fn bytes_at(
     bytes_of(alloc, message, is_short(message, place, cursor))
 }
 
-impl Seen {
+impl FolderSnapshot {
     /// The base file of the same messages and the same cursor, if all were read. It is `Damaged` if the bytes of a
     /// number are no message, or its digest differs from that of its entry.
     pub fn as_file<H: Digest>(&self, alloc: Global) -> Result<Vec<u8>, BaseFault>

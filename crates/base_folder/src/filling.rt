@@ -13,13 +13,13 @@ ghost use Rattle.base_folder_store.specs.Opened.{IsNamed, IsOpen, committed_by, 
 ghost use Rattle.base_folder_store.specs.Owned.{with_mark};
 ghost use Rattle.base_folder.specs.Filled.{HoldsFront, HoldsMore, IsKept, IsUnfilled, StandsForOneOf, StandsForOneOfOrWasLeft, no_messages, unfilled_cause};
 ghost use Rattle.base_folder.specs.Ours.{SameKey};
-ghost use Rattle.base_folder.specs.Unread.{HasUnreadCause};
+ghost use Rattle.base_folder.specs.OpenError.{HasUnreadCause};
 
+use crate::open_error::OpenError;
 use crate::opening::open_base;
-use crate::unread::Unread;
 use base_file::{Base, BaseFault};
 use base_folder_store::{Folder, bytes_alone};
-use base_log::Mark;
+use base_log::FolderIdentity;
 use base_store::{Digest, StoreError, bytes_of_key};
 use disk_io::Disk;
 use echo_filed::{Filed, Key};
@@ -199,7 +199,7 @@ fn give_key(folder: &mut Folder, first: u64, second: u64)
     ensures kept { folder.old.told.mark.owner ≢ 0 → folder.new ≡ folder.old }
 {
     let owner = 0;
-    let _given = folder.claim(Mark {
+    let _given = folder.claim(FolderIdentity {
         owner,
         first,
         second,
@@ -207,13 +207,13 @@ fn give_key(folder: &mut Folder, first: u64, second: u64)
 }
 
 // Why it is not filled. No message is read, so none can be damaged.
-fn unfilled_by(error: StoreError) -> Unread
+fn unfilled_by(error: StoreError) -> OpenError
     ensures { result ≡ unfilled_cause error }
 {
     match error {
-        StoreError::Memory | StoreError::Damaged => Unread::Memory,
-        StoreError::Device => Unread::Device,
-        StoreError::TooMany => Unread::Wrong(BaseFault::TooMany),
+        StoreError::Memory | StoreError::Damaged => OpenError::Memory,
+        StoreError::Device => OpenError::Device,
+        StoreError::TooMany => OpenError::Wrong(BaseFault::TooMany),
     }
 }
 
@@ -230,7 +230,7 @@ pub fn fill<D: Disk, H: Digest, S: BuildHasher>(
     strange: bool,
     key: (u64, u64),
     base: &Base<S>,
-) -> Result<(), Unread>
+) -> Result<(), OpenError>
     requires { Honestly (D.state disk.old) (AreAlone path.now (D.state disk.old)) }
     ensures filled { Honestly (D.state disk.new) (StandsForBase H.keyed path.now no_messages (D.state disk.old).seen
         → OnOk result (IsKept H.keyed path.now (D.state disk.new) base.now)) }

@@ -5,12 +5,12 @@ ghost use Rattle.disk_io.specs.Runs.{ChangesNothing, HasCause};
 ghost use Rattle.base_log.specs.Names.{keys_of, log_of, messages_of};
 ghost use Rattle.base_log.specs.Reading.{IsLogIn, IsRead};
 ghost use Rattle.base_log.specs.Standing.{StandsFor, base_at};
-ghost use Rattle.base_folder.specs.Unread.{HasUnreadCause, IsWrong};
+ghost use Rattle.base_folder.specs.OpenError.{HasUnreadCause, IsWrong};
 ghost use Rattle.base_folder.specs.Wrong.{AreWhole, IsFolderLog, is_foreign, is_no_log};
 
-use crate::unread::Unread;
+use crate::open_error::OpenError;
 use base_file::BaseFault;
-use base_log::{End, FolderError, Log, Names, Told, judge, len_of, read_log};
+use base_log::{CommitRecord, End, FolderError, Log, Names, judge, len_of, read_log};
 use base_store::end_of;
 use disk_io::{Disk, DiskError, read_part};
 use std::alloc::Global;
@@ -81,7 +81,12 @@ fn whole_in(keys: &[u8], all: usize, there: usize) -> u64
 }
 
 // How many messages are whole, of those that a record counts.
-fn whole_of<D: Disk>(alloc: Global, disk: &mut D, path: &[u8], told: Told) -> Result<u64, DiskError>
+fn whole_of<D: Disk>(
+    alloc: Global,
+    disk: &mut D,
+    path: &[u8],
+    told: CommitRecord,
+) -> Result<u64, DiskError>
     requires { told.number < 10 }
     ensures whole { Honestly (D.state disk.new) (IfOk result (AreWhole (take told.keys (bytes_in ((D.state disk.old).seen (keys_of path.now told.number))))
         told.messages (length (bytes_in ((D.state disk.old).seen (messages_of path.now told.number)))))) }
@@ -101,7 +106,7 @@ pub(crate) fn judge_by<D: Disk>(
     path: &[u8],
     strange: bool,
     log: &Log,
-) -> Result<(), Unread>
+) -> Result<(), OpenError>
     requires log { Honestly (D.state disk.old) (IsLogIn path.now (D.state disk.old).seen log.now) }
     requires read { IsRead log.now }
     requires within { log.now.end.gate ≤ length log.now.bytes.items }
@@ -113,17 +118,17 @@ pub(crate) fn judge_by<D: Disk>(
     ensures cause { HasUnreadCause (D.failures disk.old) (D.failures disk.new) result }
 {
     if is_foreign(strange, log.bytes.len(), log.end) {
-        return Err(Unread::Wrong(BaseFault::NotBase));
+        return Err(OpenError::Wrong(BaseFault::NotBase));
     }
     match judge(alloc, disk, path, log) {
         Ok(()) => Ok(()),
-        Err(FolderError::Lost) => Err(Unread::Wrong(BaseFault::NotBase)),
+        Err(FolderError::Lost) => Err(OpenError::Wrong(BaseFault::NotBase)),
         Err(FolderError::Corrupt) => {
             let messages = whole_of(alloc, disk, path, log.end.told)?;
-            Err(Unread::Wrong(BaseFault::Truncated { messages }))
+            Err(OpenError::Wrong(BaseFault::Truncated { messages }))
         }
-        Err(FolderError::Memory) => Err(Unread::Memory),
-        Err(FolderError::Device) => Err(Unread::Device),
+        Err(FolderError::Memory) => Err(OpenError::Memory),
+        Err(FolderError::Device) => Err(OpenError::Device),
     }
 }
 
@@ -133,7 +138,7 @@ pub(crate) fn judged<D: Disk>(
     disk: &mut D,
     path: &[u8],
     strange: bool,
-) -> Result<Log, Unread>
+) -> Result<Log, OpenError>
     ensures log { Honestly (D.state disk.new) (IfOk result (IsLogIn path.now (D.state disk.old).seen)) }
     ensures read { IfOk result IsRead }
     ensures digit { IfOk result (λ log. log.end.told.number < 10) }
@@ -154,7 +159,7 @@ pub fn log_end<D: Disk>(
     disk: &mut D,
     path: &[u8],
     strange: bool,
-) -> Result<End, Unread>
+) -> Result<End, OpenError>
     ensures folder { Honestly (D.state disk.new) (IfOk result (IsFolderLog strange (bytes_in ((D.state disk.old).seen (log_of path.now))))) }
     ensures wrong { Honestly (D.state disk.new) (IfErr result (IsWrong strange path.now (D.state disk.old).seen)) }
     ensures quiet { ChangesNothing (D.state disk.old) (D.state disk.new) }

@@ -10,12 +10,12 @@ ghost use Rattle.base_folder_store.specs.Held.{HoldsBase, StandsForBase, StandsF
 ghost use Rattle.base_folder_store.specs.Opened.{IsNamed, IsOpen, IsWritten, held_by, path_of};
 ghost use Rattle.base_folder.specs.Ours.{HasGivenKey, IsLeftAlone, IsNotOurs, IsOfOther, number_of};
 ghost use Rattle.base_folder.specs.Unopened.{HasOpened, HaveRoom};
-ghost use Rattle.base_folder.specs.Unread.{HasUnreadCause, IsWrong};
+ghost use Rattle.base_folder.specs.OpenError.{HasUnreadCause, IsWrong};
 ghost use Rattle.base_folder.specs.Wrong.{IsSound};
 
 use crate::judging::judged;
+use crate::open_error::OpenError;
 use crate::owning::{address_of, claim_for, number_of};
-use crate::unread::Unread;
 use base_folder_store::Folder;
 use disk_io::Disk;
 use echo_addr::Address;
@@ -30,7 +30,7 @@ pub fn open_base<D: Disk>(
     disk: &mut D,
     path: &[u8],
     strange: bool,
-) -> Result<Folder, Unread>
+) -> Result<Folder, OpenError>
     requires { Honestly (D.state disk.old) (AreAlone path.now (D.state disk.old)) }
     ensures opened { Honestly (D.state disk.new) (IfOk result (IsOpen (D.state disk.new))) }
     ensures named { IfOk result IsNamed }
@@ -65,7 +65,7 @@ pub fn open_own<D: Disk>(
     strange: bool,
     own: Address,
     key: (u64, u64),
-) -> Result<Folder, Unread>
+) -> Result<Folder, OpenError>
     requires { Honestly (D.state disk.old) (AreAlone path.now (D.state disk.old)) }
     ensures opened { Honestly (D.state disk.new) (IfOk result (IsOpen (D.state disk.new))) }
     ensures named { IfOk result IsNamed }
@@ -89,7 +89,7 @@ pub fn open_own<D: Disk>(
     let owner = log.end.told.mark.owner;
     let number = number_of(own);
     if owner != 0 && owner != number {
-        return Err(Unread::NotOwner(address_of(owner)));
+        return Err(OpenError::NotOwner(address_of(owner)));
     }
     let mut folder = Folder::open(alloc, disk, path, &log)?;
     claim_for(&mut folder, own, key.0, key.1);

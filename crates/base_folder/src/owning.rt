@@ -4,7 +4,7 @@ ghost use Rattle.base_folder_store.specs.Owned.{IsUnclaimed, with_mark};
 ghost use Rattle.base_folder.specs.Ours.{IsOurs, SameKey, address_of, number_of};
 
 use base_folder_store::Folder;
-use base_log::Mark;
+use base_log::FolderIdentity;
 use echo_addr::Address;
 
 /// The number of a system in a folder: sixteen bits each of zone, net and node.
@@ -39,7 +39,7 @@ pub(crate) fn claim_for(folder: &mut Folder, own: Address, first: u64, second: u
     if folder.owner().is_some() {
         return;
     }
-    let mark = Mark {
+    let mark = FolderIdentity {
         owner,
         first,
         second,

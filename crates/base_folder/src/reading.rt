@@ -9,13 +9,13 @@ ghost use Rattle.base_folder_store.specs.Held.{digest_by};
 ghost use Rattle.base_store.specs.Keys.{digest_at, digested};
 ghost use Rattle.base_folder.specs.Reading.{HasDigest, IsThere, IsVouched};
 
-use crate::looking::Seen;
+use crate::snapshot::FolderSnapshot;
 use base_folder_store::{Alone, read_alone};
 use base_store::{Digest, StoreError, bytes_of_key, digest_of, end_of, place_of};
 use echo_filed::Key;
 use std::alloc::{AllocError, Global};
 
-impl Seen {
+impl FolderSnapshot {
     /// The message of this number, alone in a base of its own. It is `Damaged` if none was read there, or its digest
     /// differs from that of its entry.
     pub fn message_at<H: Digest>(&self, alloc: Global, i: usize) -> Result<Alone, StoreError>

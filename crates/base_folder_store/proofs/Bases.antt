@@ -8,7 +8,7 @@ use Rattle.base_log.specs.Standing.{BaseBytes, base_at}
 use Rattle.base_log.specs.Opening.{StandsOrWasLeft}
 use Rattle.base_log.specs.AtRest.{IsAtRest, IsStaged}
 use Rattle.base_log.specs.declared.log.End.{End}
-use Rattle.base_log.specs.declared.log.Told.{Told}
+use Rattle.base_log.specs.declared.log.CommitRecord.{CommitRecord}
 use Rattle.base_log.specs.declared.names.Names.{Names}
 use Rattle.base_log.proofs.Quiet.{base_quiet, staged_quiet}
 use Rattle.base_log.proofs.Rested.{rest_staged}
@@ -55,16 +55,16 @@ opened_is d e path end folder quiet rest at names same_end same_told keys none =
     let at_path : IsStaged e (path_of folder) end end.told = subst (λ (p : List ℕ). IsStaged e p end end.told) (sym at) here in
     let at_end : IsStaged e (path_of folder) folder.end end.told = subst (λ (x : End). IsStaged e (path_of folder) x end.told) (sym same_end) at_path in
     record {
-      names = subst (λ (t : Told). AreNames folder.names t.number) (sym same_told) names;
-      staged = subst (λ (t : Told). IsStaged e (path_of folder) folder.end t) (sym same_told) at_end;
+      names = subst (λ (t : CommitRecord). AreNames folder.names t.number) (sym same_told) names;
+      staged = subst (λ (t : CommitRecord). IsStaged e (path_of folder) folder.end t) (sym same_told) at_end;
       keys = keys ∙ sym (ap (λ (b : BaseBytes). b.keys) (base_quiet d e path end.told quiet)) ∙ (λ i. (base_at e (sym at i) (sym same_told i)).keys) ∙ sym (ap (λ (b : BaseBytes). b.keys) (written_held e folder none));
     }
 
 -- it holds what its record tells
-pub opened_bytes : (d e : DiskState) (path : List ℕ) (folder : Folder) (told : Told) (bytes : BaseBytes) → ChangesNothing d e → path_of folder ≡ path → folder.told ≡ told → base_at d path told ≡ bytes → IsWritten folder → held_by e folder ≡ bytes
+pub opened_bytes : (d e : DiskState) (path : List ℕ) (folder : Folder) (told : CommitRecord) (bytes : BaseBytes) → ChangesNothing d e → path_of folder ≡ path → folder.told ≡ told → base_at d path told ≡ bytes → IsWritten folder → held_by e folder ≡ bytes
 opened_bytes d e path folder told bytes quiet at same_told same none = written_held e folder none ∙ (λ i. base_at e (at i) (same_told i)) ∙ base_quiet d e path told quiet ∙ same
 
 -- the keys that were read are those of the file of this number
-pub keys_there : (d : DiskState) (path : List ℕ) (told : Told) (names : Names) (keys : List ℕ) → folder_of names ≡ path → AreNames names told.number → keys ≡ take told.keys (bytes_in (d.seen names.keys.items)) → keys ≡ (base_at d path told).keys
+pub keys_there : (d : DiskState) (path : List ℕ) (told : CommitRecord) (names : Names) (keys : List ℕ) → folder_of names ≡ path → AreNames names told.number → keys ≡ take told.keys (bytes_in (d.seen names.keys.items)) → keys ≡ (base_at d path told).keys
 keys_there d path told names keys at are is =
     is ∙ ap (λ (m : List ℕ). take told.keys (bytes_in (d.seen m))) (are.keys ∙ ap (λ (p : List ℕ). keys_of p told.number) at)

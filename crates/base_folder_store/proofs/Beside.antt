@@ -8,7 +8,7 @@ use Rattle.base_log.specs.AtRest.{IsAtRest}
 use Rattle.base_log.specs.Moments.{IsBeforeOrAfter, KeepsOutside, StandsAlone}
 use Rattle.base_log.specs.Names.{AreNames, keys_of, messages_of}
 use Rattle.base_log.specs.Standing.{BaseBytes, StandsFor, base_at}
-use Rattle.base_log.specs.declared.log.Told.{Told}
+use Rattle.base_log.specs.declared.log.CommitRecord.{CommitRecord}
 use Rattle.base_log.proofs.Paths.{keys_not_messages, keys_of-injective, messages_not_keys, messages_of-injective}
 use Rattle.base_file.specs.Base.{Base}
 use Rattle.base_store.specs.Keys.{StandWhereTold}
@@ -54,10 +54,10 @@ readable_beside d e f g beside same was =
 -- an open folder at rest can be read
 pub rest_readable : (d : DiskState) (f : Folder) → IsOpen d f → IsAtRest d (path_of f) f.end → f.end.told ≡ f.told → IsWritten f → IsReadable d f
 rest_readable d f opened rest told none = record {
-  names = subst (λ (t : Told). AreNames f.names t.number) (sym told) opened.names;
+  names = subst (λ (t : CommitRecord). AreNames f.names t.number) (sym told) opened.names;
   there = rest.messages_on.there;
   long = rest.messages_long;
-  keys = opened.keys ∙ ap (λ (b : BaseBytes). b.keys) (written_held d f none) ∙ ap (λ (t : Told). (base_at d (path_of f) t).keys) (sym told);
+  keys = opened.keys ∙ ap (λ (b : BaseBytes). b.keys) (written_held d f none) ∙ ap (λ (t : CommitRecord). (base_at d (path_of f) t).keys) (sym told);
 }
 
 -- and one at rest is open
@@ -67,15 +67,15 @@ rest_open d e f opened rest told same none = record {
   staged = committed_staged e (path_of f) f.end f.told rest told;
   keys = opened.keys
       ∙ ap (λ (b : BaseBytes). b.keys) (written_held d f none)
-      ∙ ap (λ (t : Told). (base_at d (path_of f) t).keys) (sym told)
+      ∙ ap (λ (t : CommitRecord). (base_at d (path_of f) t).keys) (sym told)
       ∙ sym (ap (λ (b : BaseBytes). b.keys) same)
-      ∙ ap (λ (t : Told). (base_at e (path_of f) t).keys) told
+      ∙ ap (λ (t : CommitRecord). (base_at e (path_of f) t).keys) told
       ∙ sym (ap (λ (b : BaseBytes). b.keys) (written_held e f none));
 }
 
 -- it holds what was committed
 pub rest_held : (d : DiskState) (f : Folder) → f.end.told ≡ f.told → IsWritten f → held_by d f ≡ committed_by d f
-rest_held d f told none = written_held d f none ∙ ap (λ (t : Told). base_at d (path_of f) t) (sym told)
+rest_held d f told none = written_held d f none ∙ ap (λ (t : CommitRecord). base_at d (path_of f) t) (sym told)
 
 -- each message stands where the keys that were read tell
 pub told_readable : (keyed : ℕ → ℕ → List ℕ → ℕ) (d : DiskState) (f : Folder) (base : Base) (file : List ℕ) → IsReadable d f → HoldsBase keyed (committed_by d f) base → file ≡ f.names.messages.items

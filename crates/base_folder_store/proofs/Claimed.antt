@@ -1,7 +1,7 @@
 -- A base folder that is claimed.
 use Rattle.std.proofs.Common.{◌≡◌, ◌<◌, ◌^◌, ℕ, List, [], ◌∷◌, Bool, true, false, Option, length, refl, sym, ap, subst, ◌∙◌, arith}
 use Rattle.disk_io.specs.Disk.{DiskState}
-use Rattle.base_log.specs.declared.log.Mark.{Mark}
+use Rattle.base_log.specs.declared.log.FolderIdentity.{FolderIdentity}
 use Rattle.echo_filed.specs.Stored.{Stored}
 use Rattle.base_file.specs.Base.{Base}
 use Rattle.base_store.specs.Keys.{keys_from}
@@ -21,7 +21,7 @@ no_entries : (digest : List ℕ → ℕ) (all : List Stored) → length (keys_fr
 no_entries digest [] none = refl
 no_entries digest (s ∷ later) none = absurd (omega (arith, none, keys_long digest 0 (s ∷ later)))
 
-pub claimed_open : (d : DiskState) (f : Folder) (mark : Mark) → IsOpen d f → IsOpen d (with_mark f mark)
+pub claimed_open : (d : DiskState) (f : Folder) (mark : FolderIdentity) → IsOpen d f → IsOpen d (with_mark f mark)
 claimed_open d f mark was = record {
   names = was.names;
   staged = record {
@@ -42,7 +42,7 @@ claimed_open d f mark was = record {
 }
 
 -- with no message each key serves
-pub claimed_holds : (keyed : ℕ → ℕ → List ℕ → ℕ) → ((first second : ℕ) (bytes : List ℕ) → keyed first second bytes < 2 ^ 64) → (d : DiskState) (f : Folder) (mark : Mark) (base : Base) → IsOpen d f → IsUnclaimed f
+pub claimed_holds : (keyed : ℕ → ℕ → List ℕ → ℕ) → ((first second : ℕ) (bytes : List ℕ) → keyed first second bytes < 2 ^ 64) → (d : DiskState) (f : Folder) (mark : FolderIdentity) (base : Base) → IsOpen d f → IsUnclaimed f
     → HoldsBase keyed (held_by d f) base → HoldsBase keyed (held_by d (with_mark f mark)) base
 claimed_holds keyed fits d f mark base opened free holds =
     let files = holds.files in
@@ -66,31 +66,31 @@ claimed_holds keyed fits d f mark base opened free holds =
     }
 
 -- what a claim answers of the folder
-pub record IsClaim (f g : Folder) (mark : Mark) (result : Bool) : Type 0 where
+pub record IsClaim (f g : Folder) (mark : FolderIdentity) (result : Bool) : Type 0 where
   pub claimed : result ≡ true → IsUnclaimed f × (g ≡ with_mark f mark)
   pub refused : result ≡ false → (IsUnclaimed f → ⊥) × (g ≡ f)
 
 -- what is so of the folder as it was and of one that was unclaimed, with the mark
-pub by_claim : (P : Folder → Type 0) (f g : Folder) (mark : Mark) (result : Bool) → IsClaim f g mark result → P f → (IsUnclaimed f → P (with_mark f mark)) → P g
+pub by_claim : (P : Folder → Type 0) (f g : Folder) (mark : FolderIdentity) (result : Bool) → IsClaim f g mark result → P f → (IsUnclaimed f → P (with_mark f mark)) → P g
 by_claim P f g mark true claim was is = let c = claim.claimed refl in subst P (sym c.1) (is c.0)
 by_claim P f g mark false claim was is = subst P (sym (claim.refused refl).1) was
 
-pub claim_keeps : (keyed : ℕ → ℕ → List ℕ → ℕ) → ((first second : ℕ) (bytes : List ℕ) → keyed first second bytes < 2 ^ 64) → (d : DiskState) (f g : Folder) (mark : Mark) (result : Bool) (base : Base) → IsClaim f g mark result
+pub claim_keeps : (keyed : ℕ → ℕ → List ℕ → ℕ) → ((first second : ℕ) (bytes : List ℕ) → keyed first second bytes < 2 ^ 64) → (d : DiskState) (f g : Folder) (mark : FolderIdentity) (result : Bool) (base : Base) → IsClaim f g mark result
     → IsOpen d f → HoldsBase keyed (held_by d f) base → HoldsBase keyed (held_by d g) base
 claim_keeps keyed fits d f g mark result base claim opened holds =
     by_claim (λ (x : Folder). HoldsBase keyed (held_by d x) base) f g mark result claim holds (λ free. claimed_holds keyed fits d f mark base opened free holds)
 
-pub claim_goes_on : (keyed : ℕ → ℕ → List ℕ → ℕ) (d : DiskState) (f g : Folder) (mark : Mark) (result : Bool) (k : Option Base) → IsClaim f g mark result → IsUsable d f → GoesOn (state_of d keyed f k) (state_of d keyed g k)
+pub claim_goes_on : (keyed : ℕ → ℕ → List ℕ → ℕ) (d : DiskState) (f g : Folder) (mark : FolderIdentity) (result : Bool) (k : Option Base) → IsClaim f g mark result → IsUsable d f → GoesOn (state_of d keyed f k) (state_of d keyed g k)
 claim_goes_on keyed d f g mark result k claim usable =
     by_claim (λ (x : Folder). GoesOn (state_of d keyed f k) (state_of d keyed x k)) f g mark result claim
     (record { ready = usable; committed = λ honest base is. is; honest = λ is. is })
     (λ free. record { ready = record { named = usable.named; opened = λ honest. claimed_open d f mark (usable.opened honest) }; committed = λ honest base is. is; honest = λ is. is })
 
-pub claim_commits : (keyed : ℕ → ℕ → List ℕ → ℕ) (d : DiskState) (f g : Folder) (mark : Mark) (result : Bool) (k : Option Base) → IsClaim f g mark result → IsUsable d f → CommitsNothing (state_of d keyed f k) (state_of d keyed g k)
+pub claim_commits : (keyed : ℕ → ℕ → List ℕ → ℕ) (d : DiskState) (f g : Folder) (mark : FolderIdentity) (result : Bool) (k : Option Base) → IsClaim f g mark result → IsUsable d f → CommitsNothing (state_of d keyed f k) (state_of d keyed g k)
 claim_commits keyed d f g mark result k claim usable =
     by_claim (λ (x : Folder). CommitsNothing (state_of d keyed f k) (state_of d keyed x k)) f g mark result claim
     (stages d d keyed f f k k refl (λ honest. nothing_left d f (usable.opened honest)) (outside_same (path_of f) d))
     (λ free. stages d d keyed f (with_mark f mark) k k refl (λ honest. nothing_left d f (usable.opened honest)) (outside_same (path_of f) d))
 
-pub claim_indexed : (d : DiskState) (f g : Folder) (mark : Mark) (result : Bool) (i : Index) → IsClaim f g mark result → IsIndexed d f i → IsIndexed d g i
+pub claim_indexed : (d : DiskState) (f g : Folder) (mark : FolderIdentity) (result : Bool) (i : Index) → IsClaim f g mark result → IsIndexed d f i → IsIndexed d g i
 claim_indexed d f g mark result i claim was = by_claim (λ (x : Folder). IsIndexed d x i) f g mark result claim was (λ free. was)

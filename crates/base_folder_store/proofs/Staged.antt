@@ -9,7 +9,7 @@ use Rattle.base_log.specs.Moments.{IsBeforeOrAfter, KeepsOutside, StandsAlone}
 use Rattle.base_log.specs.Names.{AreNames, folder_of, keys_of, messages_of}
 use Rattle.base_log.specs.Standing.{BaseBytes, StandsFor, and_keys, and_messages, base_at}
 use Rattle.base_log.specs.declared.log.End.{End}
-use Rattle.base_log.specs.declared.log.Told.{Told}
+use Rattle.base_log.specs.declared.log.CommitRecord.{CommitRecord}
 use Rattle.base_log.specs.declared.names.Names.{Names}
 use Rattle.base_log.proofs.Rested.{rest_staged}
 use Rattle.base_store.specs.Keys.{entry}
@@ -41,15 +41,15 @@ both_runs path d e f base now one two kept same =
     then_run d e f (StandsAlone path d base) (StandsAlone path e now) one two (alone_before path d e base now kept same)
 
 -- so many bytes of the messages count, and so many of the keys
-pub messages_count : (d : DiskState) (path : List ℕ) (end : End) (told : Told) → IsStaged d path end told → length (base_at d path told).messages ≡ told.messages
+pub messages_count : (d : DiskState) (path : List ℕ) (end : End) (told : CommitRecord) → IsStaged d path end told → length (base_at d path told).messages ≡ told.messages
 messages_count d path end told staged = length-take-le told.messages (bytes_in (d.seen (messages_of path told.number))) staged.messages_long
 
-pub keys_count : (d : DiskState) (path : List ℕ) (end : End) (told : Told) → IsStaged d path end told → length (base_at d path told).keys ≡ told.keys
+pub keys_count : (d : DiskState) (path : List ℕ) (end : End) (told : CommitRecord) → IsStaged d path end told → length (base_at d path told).keys ≡ told.keys
 keys_count d path end told staged = length-take-le told.keys (bytes_in (d.seen (keys_of path told.number))) staged.keys_long
 
 -- what was committed is staged
-pub committed_staged : (d : DiskState) (path : List ℕ) (after : End) (told : Told) → IsAtRest d path after → after.told ≡ told → IsStaged d path after told
-committed_staged d path after told rest is = subst (λ (t : Told). IsStaged d path after t) is (rest_staged d path after after.told.cursor after.told.mark rest)
+pub committed_staged : (d : DiskState) (path : List ℕ) (after : End) (told : CommitRecord) → IsAtRest d path after → after.told ≡ told → IsStaged d path after told
+committed_staged d path after told rest is = subst (λ (t : CommitRecord). IsStaged d path after t) is (rest_staged d path after after.told.cursor after.told.mark rest)
 
 -- the folder with one message more that waits, and its entry
 module _ (d : DiskState) (f g : Folder) (bytes : List ℕ) (digest : ℕ) (was : IsOpen d f) (more : OneMoreWaits f g bytes digest) where
@@ -66,8 +66,8 @@ module _ (d : DiskState) (f g : Folder) (bytes : List ℕ) (digest : ℕ) (was :
 
   pub added_open : IsOpen d g
   added_open = record {
-    names = subst (λ (t : Told). AreNames g.names t.number) (sym more.told) (subst (λ (n : Names). AreNames n f.told.number) (sym more.names) was.names);
-    staged = subst (λ (t : Told). IsStaged d (path_of g) g.end t) (sym more.told)
+    names = subst (λ (t : CommitRecord). AreNames g.names t.number) (sym more.told) (subst (λ (n : Names). AreNames n f.told.number) (sym more.names) was.names);
+    staged = subst (λ (t : CommitRecord). IsStaged d (path_of g) g.end t) (sym more.told)
         (subst (λ (x : End). IsStaged d (path_of g) x f.told) (sym more.end) (subst (λ (n : Names). IsStaged d (folder_of n) f.end f.told) (sym more.names) was.staged));
     keys = more.keys ∙ (λ i. was.keys i ++ entry (next_place f) digest) ∙ sym (ap (λ (b : BaseBytes). b.keys) added_held);
   }
@@ -123,8 +123,8 @@ committed_open d e f g was names told keys rest is held none =
     let path : path_of g ≡ path_of f = ap (λ (n : Names). folder_of n) names in
     let staged : IsStaged e (path_of f) g.end f.told = committed_staged e (path_of f) g.end f.told rest is in
     record {
-      names = subst (λ (t : Told). AreNames g.names t.number) (sym told) (subst (λ (n : Names). AreNames n f.told.number) (sym names) was.names);
-      staged = subst (λ (t : Told). IsStaged e (path_of g) g.end t) (sym told) (subst (λ (p : List ℕ). IsStaged e p g.end f.told) (sym path) staged);
+      names = subst (λ (t : CommitRecord). AreNames g.names t.number) (sym told) (subst (λ (n : Names). AreNames n f.told.number) (sym names) was.names);
+      staged = subst (λ (t : CommitRecord). IsStaged e (path_of g) g.end t) (sym told) (subst (λ (p : List ℕ). IsStaged e p g.end f.told) (sym path) staged);
       keys = keys ∙ was.keys ∙ sym (ap (λ (b : BaseBytes). b.keys) held) ∙ (λ i. (base_at e (sym path i) (is i)).keys) ∙ (λ i. (base_at e (path_of g) (sym told i)).keys)
           ∙ sym (ap (λ (b : BaseBytes). b.keys) (written_held e g none));
     }

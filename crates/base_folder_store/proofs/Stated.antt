@@ -8,7 +8,7 @@ use Rattle.base_log.specs.Moments.{IsBeforeOrAfter, KeepsOutside, StandsAlone}
 use Rattle.base_log.specs.Standing.{BaseBytes, StandsFor}
 use Rattle.base_log.proofs.Quiet.{base_quiet}
 use Rattle.base_file.specs.Base.{Base}
-use Rattle.base_store.specs.Store.{Commits, CommitsNothing, GoesOn, HasStoreCause, IsSameStore, KeepsBeside, LooksOn, MayCommit, StandsBeside, StandsForEither, StoreState}
+use Rattle.base_store.specs.Store.{Commits, CommitsNothing, GoesOn, HasStoreCause, IsSameStore, KeepsBeside, LooksOn, MayCommit, LeavesCommitted, LeavesEither, StoreState}
 use Rattle.base_store.specs.declared.store_error.StoreError.{StoreError}
 use Rattle.base_store.specs.declared.store_error.StoreError.TheVariants as error
 use Rattle.base_folder_store.specs.Answers.{Answers, HasReadCause}
@@ -48,7 +48,7 @@ pub stages : (d e : DiskState) (keyed : ℕ → ℕ → List ℕ → ℕ) (f g :
     → KeepsOutside (path_of f) d e → CommitsNothing (state_of d keyed f h) (state_of e keyed g k)
 stages d e keyed f g h k path run kept = record {
   any_moment = λ honest base is.
-      weaker_run d e (StandsAlone (path_of f) d (committed_by d f)) (StandsBeside (state_of d keyed f h) base) (run honest)
+      weaker_run d e (StandsAlone (path_of f) d (committed_by d f)) (LeavesCommitted (state_of d keyed f h) base) (run honest)
       (λ c left. record { beside = left.outside; stands = record { bytes = committed_by d f; stands = left.stands; holds = is } });
   beside = beside d e keyed f g h k kept;
   same = same_folder d e keyed f g h k path;
@@ -90,7 +90,7 @@ pub may_commit : (d e : DiskState) (keyed : ℕ → ℕ → List ℕ → ℕ) (f
     → Honestly e (LeavesOnly d e (IsBeforeOrAfter (path_of f) d (committed_by d f) (held_by d f))) → KeepsOutside (path_of f) d e → MayCommit (state_of d keyed f h) (state_of e keyed g k)
 may_commit d e keyed f g h k path run kept = record {
   any_moment = λ honest first next was is.
-      weaker_run d e (IsBeforeOrAfter (path_of f) d (committed_by d f) (held_by d f)) (StandsForEither (state_of d keyed f h) first next) (run honest)
+      weaker_run d e (IsBeforeOrAfter (path_of f) d (committed_by d f) (held_by d f)) (LeavesEither (state_of d keyed f h) first next) (run honest)
       (λ c left. record { beside = left.outside; stands = either_stands keyed (path_of f) first next (committed_by d f) (held_by d f) c was is left.stands });
   beside = beside d e keyed f g h k kept;
   same = same_folder d e keyed f g h k path;

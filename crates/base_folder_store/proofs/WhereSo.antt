@@ -2,7 +2,7 @@
 use Rattle.std.proofs.Common.{Result, Ok, Err}
 use Rattle.std.specs.Prelude.{OnOk}
 use Rattle.disk_io.proofs.Moments.{weaker_run}
-use Rattle.base_store.specs.Store.{Commits, CommitsNothing, GoesOn, IsSameStore, KeepsBeside, LooksOn, MayCommit, StandsBeside, StandsForEither, StoreState}
+use Rattle.base_store.specs.Store.{Commits, CommitsNothing, GoesOn, IsSameStore, KeepsBeside, LooksOn, MayCommit, LeavesCommitted, LeavesEither, StoreState}
 use Rattle.base_store.specs.declared.store_error.StoreError.{StoreError}
 use Rattle.base_folder_store.specs.State.{where_so}
 
@@ -36,7 +36,7 @@ commits_where s t P Q (Err failed) is so = tt
 pub nothing_where : (s t : StoreState) (P Q : Type 0) → CommitsNothing s t → CommitsNothing (where_so s P) (where_so t Q)
 nothing_where s t P Q is = record {
   any_moment = λ honest base was.
-      weaker_run s.disk t.disk (StandsBeside s base) (StandsBeside (where_so s P) base) (is.any_moment honest base was) (λ c left. record { beside = left.beside; stands = left.stands });
+      weaker_run s.disk t.disk (LeavesCommitted s base) (LeavesCommitted (where_so s P) base) (is.any_moment honest base was) (λ c left. record { beside = left.beside; stands = left.stands });
   beside = beside_where s t P Q is.beside;
   same = same_where s t P Q is.same;
 }
@@ -44,7 +44,7 @@ nothing_where s t P Q is = record {
 pub may_commit_where : (s t : StoreState) (P Q : Type 0) → MayCommit s t → MayCommit (where_so s P) (where_so t Q)
 may_commit_where s t P Q is = record {
   any_moment = λ honest first next was now.
-      weaker_run s.disk t.disk (StandsForEither s first next) (StandsForEither (where_so s P) first next) (is.any_moment honest first next was now)
+      weaker_run s.disk t.disk (LeavesEither s first next) (LeavesEither (where_so s P) first next) (is.any_moment honest first next was now)
       (λ c left. record { beside = left.beside; stands = left.stands });
   beside = beside_where s t P Q is.beside;
   same = same_where s t P Q is.same;

@@ -3,12 +3,12 @@ use Rattle.std.specs.Prelude.{◌≡◌, ◌⊎◌, ℕ, List}
 use Rattle.disk_io.specs.Disk.{DiskState, Files}
 use Rattle.base_log.specs.Moments.{SameOutside}
 use Rattle.base_log.specs.Standing.{BaseBytes, StandsFor}
-use Rattle.base_log.specs.declared.log.Mark.{Mark}
+use Rattle.base_log.specs.declared.log.FolderIdentity.{FolderIdentity}
 use Rattle.base_file.specs.Base.{Base}
 use Rattle.base_store.specs.Keys.{FolderStandsFor}
 
 -- the digest by the key that a mark has
-abbrev pub digest_by : (ℕ → ℕ → List ℕ → ℕ) → Mark → List ℕ → ℕ
+abbrev pub digest_by : (ℕ → ℕ → List ℕ → ℕ) → FolderIdentity → List ℕ → ℕ
 digest_by keyed mark = keyed mark.first mark.second
 
 -- The bytes of the two files, and the cursor, are those of this base. The digests in the keys are by the key that the folder keeps.

@@ -1,10 +1,10 @@
 -- Whose a base folder is.
 use Rattle.std.specs.Prelude.{◌≡◌, ℕ, nat_eq, length, if◌then◌else◌, Option, Some, None}
-use Rattle.base_log.specs.declared.log.Mark.{Mark}
+use Rattle.base_log.specs.declared.log.FolderIdentity.{FolderIdentity}
 use Rattle.base_folder_store.specs.declared.folder.Folder.{Folder}
 
 -- none where nobody has claimed it
-abbrev pub owner_of : Mark → Option ℕ
+abbrev pub owner_of : FolderIdentity → Option ℕ
 owner_of mark = if nat_eq mark.owner 0 then None else Some mark.owner
 
 -- nobody has claimed it, and no digest was taken by its key
@@ -13,7 +13,7 @@ pub record IsUnclaimed (folder : Folder) : Type 0 where
   pub keys : length folder.keys.items ≡ 0
 
 -- the folder with this mark, which the next commit tells
-abbrev pub with_mark : Folder → Mark → Folder
+abbrev pub with_mark : Folder → FolderIdentity → Folder
 with_mark folder mark = record folder { told = record folder.told { mark = mark } }
 
 -- with another owner and the same key

@@ -12,7 +12,7 @@ ghost use Rattle.base_folder_store.specs.Left.{AreGone};
 ghost use Rattle.base_folder_store.specs.Opened.{IsNamed, IsOpen, IsWritten, committed_by, held_by, path_of};
 
 use crate::folder::{ENTRY, Folder};
-use base_log::{End, Names, Told, commit, remove_files, stage_keys, stage_messages};
+use base_log::{CommitRecord, End, Names, commit, remove_files, stage_keys, stage_messages};
 use base_store::{StoreError, entry};
 use disk_io::{Disk, DiskError};
 
@@ -27,10 +27,10 @@ fn stage_both<D: Disk>(
     disk: &mut D,
     names: &Names,
     end: End,
-    told: Told,
+    told: CommitRecord,
     bytes: &[u8],
     keys: &[u8],
-) -> Result<Told, DiskError>
+) -> Result<CommitRecord, DiskError>
     requires names { AreNames names.now told.number }
     requires staged { Honestly (D.state disk.old) (IsStaged (D.state disk.old) (folder_of names.now) end told) }
     requires messages_room { told.messages + length bytes.now < 2 ^ 64 }

@@ -14,7 +14,7 @@ ghost use Rattle.base_folder_store.specs.Opened.{IsNamed, IsOpen, IsWritten, hel
 
 use crate::alone::{Alone, read_alone};
 use crate::waiting::Waiting;
-use base_log::{End, Log, Names, Told, open};
+use base_log::{CommitRecord, End, Log, Names, open};
 use base_store::{StoreError, end_of, place_of};
 use disk_io::{Disk, DiskError, read_part};
 use std::alloc::Global;
@@ -28,7 +28,7 @@ pub(crate) const ENTRY: usize = 16;
 pub struct Folder {
     pub(crate) names: Names,
     pub(crate) end: End,
-    pub(crate) told: Told,
+    pub(crate) told: CommitRecord,
     pub(crate) keys: Vec<u8>,
     pub(crate) waiting: Waiting,
 }

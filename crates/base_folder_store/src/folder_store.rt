@@ -11,7 +11,7 @@ ghost use Rattle.base_store.specs.Store.{CommitsNothing, GoesOn, LooksOn};
 use crate::alone::{Alone, bytes_alone};
 use crate::folder::Folder;
 use crate::sought::Id;
-use base_log::Mark;
+use base_log::FolderIdentity;
 use base_store::{Digest, Index, PurgedStore, Store, StoreError, bytes_of_key};
 use disk_io::Disk;
 use echo_filed::{Filed, Key};
@@ -73,7 +73,7 @@ impl<D: Disk, H: Digest> FolderStore<D, H> {
 
     /// Gives the folder an owner and a key, if it has no owner and no message, and returns whether it did. It keeps
     /// them from the next commit on.
-    pub fn claim(&mut self, mark: Mark) -> bool
+    pub fn claim(&mut self, mark: FolderIdentity) -> bool
         requires { (⟦<FolderStore<D, H> as Store>⟧.state self.old).is_ready }
         ensures claimed { result ≡ true → IsUnclaimed self.old.folder × (self.new ≡ record self.old { folder = with_mark self.old.folder mark }) }
         ensures refused { result ≡ false → (IsUnclaimed self.old.folder → ⊥) × (self.new ≡ self.old) }

@@ -4,7 +4,7 @@ ghost use Rattle.base_folder_store.specs.Held.{digest_by};
 ghost use Rattle.base_folder_store.specs.Owned.{IsUnclaimed, owner_of, with_mark, with_owner};
 
 use crate::folder::Folder;
-use base_log::Mark;
+use base_log::FolderIdentity;
 use base_store::Digest;
 
 impl Folder {
@@ -20,7 +20,7 @@ impl Folder {
 
     /// Gives it an owner and a key, if it has no owner and no message, and returns whether it did. Nothing is
     /// committed.
-    pub fn claim(&mut self, mark: Mark) -> bool
+    pub fn claim(&mut self, mark: FolderIdentity) -> bool
         ensures claimed { result ≡ true → IsUnclaimed self.old × (self.new ≡ with_mark self.old mark) }
         ensures refused { result ≡ false → (IsUnclaimed self.old → ⊥) × (self.new ≡ self.old) }
     {

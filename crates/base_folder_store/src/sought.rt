@@ -16,7 +16,7 @@ pub trait Sought {
     ghost test: { Self → Filed → Bool };
 
     /// Whether the stored message certainly is one. False is inconclusive.
-    fn is_plain(&self, bytes: &[u8]) -> bool
+    fn matches_by_header(&self, bytes: &[u8]) -> bool
         ensures { IsTrue result → (m : Filed) → IsStoredAlone m bytes.now → test self.now m ≡ true };
 
     /// Whether the message is one.
@@ -27,7 +27,7 @@ pub trait Sought {
 impl Sought for Key {
     ghost test = { λ key m. same_key (key_of m) key };
 
-    fn is_plain(&self, bytes: &[u8]) -> bool {
+    fn matches_by_header(&self, bytes: &[u8]) -> bool {
         let Key::ById { tag, msgid } = self else {
             return false;
         };
@@ -51,7 +51,7 @@ pub struct Id<'a> {
 impl Sought for Id<'_> {
     ghost test = { λ id. has_id id.msgid.now };
 
-    fn is_plain(&self, bytes: &[u8]) -> bool {
+    fn matches_by_header(&self, bytes: &[u8]) -> bool {
         let Some(text) = text_in(bytes) else {
             return false;
         };
@@ -73,7 +73,7 @@ pub(crate) fn is_stored<W: Sought>(
     ensures device { IsErrOf result StoreError.Device → ⊥ }
     ensures few { IsErrOf result StoreError.TooMany → ⊥ }
 {
-    if sought.is_plain(bytes) {
+    if sought.matches_by_header(bytes) {
         return Ok(true);
     }
     let alone = read_alone(alloc, bytes)?;

@@ -14,7 +14,7 @@ use Rattle.base_log.specs.Log.{IsLog, last_told, opened}
 use Rattle.base_log.specs.Standing.{BaseBytes, IsFrontOf, AreThere, StandsFor, base_at, and_messages, and_keys}
 use Rattle.base_log.specs.AtRest.{IsLogAt, IsStaged}
 use Rattle.base_log.specs.Moments.{StandsAlone}
-use Rattle.base_log.specs.declared.log.Told.{Told}
+use Rattle.base_log.specs.declared.log.CommitRecord.{CommitRecord}
 use Rattle.base_log.specs.declared.log.End.{End}
 use Rattle.base_log.proofs.Logs.{shut_log, shut_at}
 use Rattle.base_log.proofs.Paths.{log_not_messages, log_not_keys, messages_not_keys, keys_not_messages, messages_of-injective, keys_of-injective, messages_in, keys_in}
@@ -68,7 +68,7 @@ log_kept d e path file end ne kept was = record {
 
 -- ---- more messages, and more keys
 
-module _ (d0 d : DiskState) (path : List ℕ) (end : End) (told : Told) (staged : IsStaged d0 path end told) where
+module _ (d0 d : DiskState) (path : List ℕ) (end : End) (told : CommitRecord) (staged : IsStaged d0 path end told) where
   abbrev pub now : BaseBytes
   now = base_at d0 path end.told
 
@@ -85,7 +85,7 @@ module _ (d0 d : DiskState) (path : List ℕ) (end : End) (told : Told) (staged 
       let by = tells_by path now a bodies was a_log in
       let o_same = same (keys_of path number) (keys_not_messages path number told.number) in
       let behind : number ≡ told.number → length now.messages ≤ told.messages =
-      λ (is : number ≡ told.number). omega (arith, by.1.messages_long, ap (λ (t : Told). t.messages) staged.log.told, staged.messages_behind (sym is ∙ ap (λ (t : Told). t.number) staged.log.told)) in
+      λ (is : number ≡ told.number). omega (arith, by.1.messages_long, ap (λ (t : CommitRecord). t.messages) staged.log.told, staged.messages_behind (sym is ∙ ap (λ (t : CommitRecord). t.number) staged.log.told)) in
       let Kept : ℕ → Type 0 = λ k. (IsSome (a (messages_of path k)) → IsSome (c (messages_of path k))) × IsFrontOf now.messages (bytes_in (c (messages_of path k))) in
       let fronts : Kept number =
       elim (cases_eq number told.number) [
@@ -145,7 +145,7 @@ module _ (d0 d : DiskState) (path : List ℕ) (end : End) (told : Told) (staged 
         ] in
         λ i. record { messages = front_same i; keys = take end.told.keys (bytes_in (k_same i)); cursor = end.told.cursor; mark = end.told.mark }
 
-    abbrev pub more_messages : Told
+    abbrev pub more_messages : CommitRecord
     more_messages = record told { messages = told.messages + length bytes }
 
     pub messages_added : base_at d path more_messages ≡ and_messages (base_at d0 path told) bytes
@@ -187,7 +187,7 @@ module _ (d0 d : DiskState) (path : List ℕ) (end : End) (told : Told) (staged 
       let by = tells_by path now a bodies was a_log in
       let o_same = same (messages_of path number) (messages_not_keys path number told.number) in
       let behind : number ≡ told.number → length now.keys ≤ told.keys =
-      λ (is : number ≡ told.number). omega (arith, by.1.keys_long, ap (λ (t : Told). t.keys) staged.log.told, staged.keys_behind (sym is ∙ ap (λ (t : Told). t.number) staged.log.told)) in
+      λ (is : number ≡ told.number). omega (arith, by.1.keys_long, ap (λ (t : CommitRecord). t.keys) staged.log.told, staged.keys_behind (sym is ∙ ap (λ (t : CommitRecord). t.number) staged.log.told)) in
       let Kept : ℕ → Type 0 = λ k. (IsSome (a (keys_of path k)) → IsSome (c (keys_of path k))) × IsFrontOf now.keys (bytes_in (c (keys_of path k))) in
       let fronts : Kept number =
       elim (cases_eq number told.number) [
@@ -247,7 +247,7 @@ module _ (d0 d : DiskState) (path : List ℕ) (end : End) (told : Told) (staged 
         ] in
         λ i. record { keys = front_same i; messages = take end.told.messages (bytes_in (m_same i)); cursor = end.told.cursor; mark = end.told.mark }
 
-    abbrev pub more_keys : Told
+    abbrev pub more_keys : CommitRecord
     more_keys = record told { keys = told.keys + length bytes }
 
     pub keys_added : base_at d path more_keys ≡ and_keys (base_at d0 path told) bytes

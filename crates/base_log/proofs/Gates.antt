@@ -13,13 +13,13 @@ use Rattle.base_log.specs.Log.{opened, told_by, body_of, FitsRecord, last_told}
 use Rattle.base_log.specs.Standing.{BaseBytes, StandsFor, TellsBase, base_at}
 use Rattle.base_log.specs.AtRest.{IsAtRest, IsStaged}
 use Rattle.base_log.specs.Moments.{SameOutside, KeepsOutside, IsBeforeOrAfter}
-use Rattle.base_log.specs.declared.log.Told.{Told}
+use Rattle.base_log.specs.declared.log.CommitRecord.{CommitRecord}
 use Rattle.base_log.specs.declared.log.End.{End}
 use Rattle.base_log.proofs.Logs.{opened-snoc, AreBodies-snoc, last_told-snoc, shut_log, shut_at, torn_record, whole_record, torn_gate, whole_gate}
 use Rattle.base_log.proofs.Paths.{log_in, messages_in, keys_in, messages_not_log, keys_not_log}
 use Rattle.base_log.proofs.Same.{AreThere-both, TellsBase-seen, log_changed}
 
-pub told_by-body_of : (told : Told) → FitsRecord told → told_by (body_of told) ≡ told
+pub told_by-body_of : (told : CommitRecord) → FitsRecord told → told_by (body_of told) ≡ told
 told_by-body_of told fits = λ i. record {
   messages = from_le_bytes-to_le_bytes_8 told.messages fits.messages i;
   keys = from_le_bytes-to_le_bytes_8 told.keys fits.keys i;
@@ -86,7 +86,7 @@ on_disk_kept d e file other kept ne on = record {
 record_behind : (bodies : List (List ℕ)) (body left : List ℕ) → opened bodies ++ 1 ∷ ((body ++ 0 ∷ []) ++ left) ≡ opened (bodies ++ body ∷ []) ++ 0 ∷ left
 record_behind bodies body left = ap (λ (l : List ℕ). opened bodies ++ 1 ∷ l) (append_assoc body (0 ∷ []) left) ∙ sym (opened-snoc bodies body (0 ∷ left))
 
-module _ (d0 : DiskState) (path : List ℕ) (end : End) (told : Told) (staged : IsStaged d0 path end told) where
+module _ (d0 : DiskState) (path : List ℕ) (end : End) (told : CommitRecord) (staged : IsStaged d0 path end told) where
   abbrev pub first : BaseBytes
   first = base_at d0 path end.told
 
@@ -230,8 +230,8 @@ module _ (d0 : DiskState) (path : List ℕ) (end : End) (told : Told) (staged : 
                   bodies = more;
                   log = shut_log more 0 left log (AreBodies-snoc bodies body staged.log.sizes size) (omega arith) (now is_open);
                   ended = inl (shut_at (opened more) 0 left log (omega arith) (now is_open));
-                  there = AreThere-both path more c (subst (λ (t : Told). IsSome (c (messages_of path t.number))) (sym is_told) there_m) (subst (λ (t : Told). IsSome (c (keys_of path t.number))) (sym is_told) there_k);
-                  tells = subst (λ (t : Told). TellsBase t path next c) (sym is_told) tells;
+                  there = AreThere-both path more c (subst (λ (t : CommitRecord). IsSome (c (messages_of path t.number))) (sym is_told) there_m) (subst (λ (t : CommitRecord). IsSome (c (keys_of path t.number))) (sym is_told) there_k);
+                  tells = subst (λ (t : CommitRecord). TellsBase t path next c) (sym is_told) tells;
                 }),
             outside,
           )

@@ -11,7 +11,7 @@ use Rattle.base_log.specs.Log.{opened, AreBodies, IsLog, IsShutAt, last_told, no
 use Rattle.base_log.specs.Opening.{AreNamed, HasFiles, KeepsButOne}
 use Rattle.base_log.specs.Standing.{BaseBytes, AreThere, IsBroken, IsLost, IsNew, TellsBase, StandsFor, base_at}
 use Rattle.base_log.specs.Reading.{ReadsAll}
-use Rattle.base_log.specs.declared.log.Told.{Told}
+use Rattle.base_log.specs.declared.log.CommitRecord.{CommitRecord}
 use Rattle.base_log.specs.declared.log.End.{End}
 use Rattle.base_log.proofs.Empty.{new_log}
 use Rattle.base_log.proofs.Logs.{shut_log, shut_at}
@@ -69,10 +69,10 @@ log_moved d e path end was same on named = record {
 }
 
 -- the two files of a folder without a record
-pub first_files : (path : List ℕ) (files : Files) (told : Told) → told ≡ nothing_told → IsSome (files (messages_of path 0)) → IsSome (files (keys_of path 0)) → HasFiles path files told
+pub first_files : (path : List ℕ) (files : Files) (told : CommitRecord) → told ≡ nothing_told → IsSome (files (messages_of path 0)) → IsSome (files (keys_of path 0)) → HasFiles path files told
 first_files path files told none m k =
     let zero : HasFiles path files nothing_told = record { messages = m; keys = k; messages_long = omega arith; keys_long = omega arith } in
-    subst (λ (t : Told). HasFiles path files t) (sym none) zero
+    subst (λ (t : CommitRecord). HasFiles path files t) (sym none) zero
 
 -- the two files are put on the disk
 pub files_settled : (d e : DiskState) (path : List ℕ) (end : End) → IsLogAt d path end → ChangesNothing d e → end.told.number < 10 → HasFiles path d.seen end.told
@@ -100,7 +100,7 @@ files_settled d e path end log quiet digit has m_alone k_alone m_flushed k_flush
     }
 
 -- files that are the same but for the log
-pub files_beside : (d e : DiskState) (path : List ℕ) (told : Told) → KeepsButOne d e (log_of path) → HasFiles path d.seen told → HasFiles path e.seen told
+pub files_beside : (d e : DiskState) (path : List ℕ) (told : CommitRecord) → KeepsButOne d e (log_of path) → HasFiles path d.seen told → HasFiles path e.seen told
 files_beside d e path told kept has =
     let m = kept.seen (messages_of path told.number) (messages_not_log path told.number) in
     let k = kept.seen (keys_of path told.number) (keys_not_log path told.number) in
@@ -176,7 +176,7 @@ module _ (bytes : List ℕ) (end : End) (reads : ReadsAll bytes end) where
       by = tells_by path base files bodies stands log_in_files
 
       pub end_tells : TellsBase end.told path base files
-      end_tells = subst (λ (t : Told). TellsBase t path base files) reads.reads.told by.1
+      end_tells = subst (λ (t : CommitRecord). TellsBase t path base files) reads.reads.told by.1
 
       pub end_shut : IsShutAt end.gate bytes ⊎ IsNew path files
       end_shut =
@@ -188,7 +188,7 @@ module _ (bytes : List ℕ) (end : End) (reads : ReadsAll bytes end) where
       pub has_files : end.gate ≢ 0 → HasFiles path files end.told
       has_files some =
           let there =
-          subst (λ (t : Told). IsSome (files (messages_of path t.number)) × IsSome (files (keys_of path t.number))) reads.reads.told
+          subst (λ (t : CommitRecord). IsSome (files (messages_of path t.number)) × IsSome (files (keys_of path t.number))) reads.reads.told
           (some_bodies bodies path files (λ none. some (reads.reads.gate ∙ none)) by.0) in
           record {
             messages = there.0;
@@ -220,7 +220,7 @@ module _ (bytes : List ℕ) (end : End) (reads : ReadsAll bytes end) where
 
     pub no_digit : 10 ≤ end.told.number → IsBroken path files
     no_digit high =
-        broken_by (λ none. absurd (omega (arith, high, ap (λ (t : Told). t.number) (nothing_read (omega (arith, none, within))))))
+        broken_by (λ none. absurd (omega (arith, high, ap (λ (t : CommitRecord). t.number) (nothing_read (omega (arith, none, within))))))
         (λ base stands. absurd (omega (arith, high, (end_tells base stands).digit)))
 
     pub no_files : end.gate ≢ 0 → (HasFiles path files end.told → ⊥) → IsBroken path files
@@ -236,7 +236,7 @@ module _ (bytes : List ℕ) (end : End) (reads : ReadsAll bytes end) where
 
     nothing_seen : end.told ≡ nothing_told → TellsBase end.told path seen d.seen
     nothing_seen told =
-        TellsBase-seen end.told path d d.seen (omega (arith, ap (λ (t : Told). t.number) told)) (omega (arith, ap (λ (t : Told). t.messages) told)) (omega (arith, ap (λ (t : Told). t.keys) told)) refl refl
+        TellsBase-seen end.told path d d.seen (omega (arith, ap (λ (t : CommitRecord). t.number) told)) (omega (arith, ap (λ (t : CommitRecord). t.messages) told)) (omega (arith, ap (λ (t : CommitRecord). t.keys) told)) refl refl
 
     pub new_stands : IsNew path d.seen → StandsFor path seen d.seen
     new_stands new =
@@ -246,7 +246,7 @@ module _ (bytes : List ℕ) (end : End) (reads : ReadsAll bytes end) where
           log = new_log path d.seen new;
           ended = inr new;
           there = tt;
-          tells = subst (λ (t : Told). TellsBase t path seen d.seen) told (nothing_seen told);
+          tells = subst (λ (t : CommitRecord). TellsBase t path seen d.seen) told (nothing_seen told);
         }
 
     shut_stands : IsShutAt end.gate bytes → AreThere path bodies d.seen → TellsBase end.told path seen d.seen → StandsFor path seen d.seen
@@ -255,7 +255,7 @@ module _ (bytes : List ℕ) (end : End) (reads : ReadsAll bytes end) where
       log = log_in_files path d.seen is;
       ended = inl (subst (λ (n : ℕ). IsShutAt n (bytes_in (d.seen (log_of path)))) reads.reads.gate (subst (λ (l : List ℕ). IsShutAt end.gate l) is shut));
       there = there;
-      tells = subst (λ (t : Told). TellsBase t path seen d.seen) (sym reads.reads.told) tells;
+      tells = subst (λ (t : CommitRecord). TellsBase t path seen d.seen) (sym reads.reads.told) tells;
     }
 
     pub first_stands : end.gate ≡ 0 → IsShutAt end.gate bytes → StandsFor path seen d.seen
@@ -266,5 +266,5 @@ module _ (bytes : List ℕ) (end : End) (reads : ReadsAll bytes end) where
     pub files_stand : end.told.number < 10 → HasFiles path d.seen end.told → IsShutAt end.gate bytes → StandsFor path seen d.seen
     files_stand digit has shut =
         shut_stands shut
-        (AreThere-both path bodies d.seen (subst (λ (t : Told). IsSome (d.seen (messages_of path t.number))) (sym reads.reads.told) has.messages) (subst (λ (t : Told). IsSome (d.seen (keys_of path t.number))) (sym reads.reads.told) has.keys))
+        (AreThere-both path bodies d.seen (subst (λ (t : CommitRecord). IsSome (d.seen (messages_of path t.number))) (sym reads.reads.told) has.messages) (subst (λ (t : CommitRecord). IsSome (d.seen (keys_of path t.number))) (sym reads.reads.told) has.keys))
         (TellsBase-seen end.told path d d.seen digit has.messages_long has.keys_long refl refl)

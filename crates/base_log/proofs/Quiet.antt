@@ -7,12 +7,12 @@ use Rattle.base_log.specs.Names.{log_of, messages_of, keys_of}
 use Rattle.base_log.specs.Standing.{BaseBytes, IsNew, StandsFor, base_at}
 use Rattle.base_log.specs.AtRest.{IsLogAt, IsStaged}
 use Rattle.base_log.specs.Opening.{StayGone}
-use Rattle.base_log.specs.declared.log.Told.{Told}
+use Rattle.base_log.specs.declared.log.CommitRecord.{CommitRecord}
 use Rattle.base_log.specs.declared.log.End.{End}
 use Rattle.base_log.proofs.Gates.{on_disk_quiet}
 
 -- the same bytes are seen
-pub base_quiet : (d e : DiskState) (path : List ℕ) (told : Told) → ChangesNothing d e → base_at e path told ≡ base_at d path told
+pub base_quiet : (d e : DiskState) (path : List ℕ) (told : CommitRecord) → ChangesNothing d e → base_at e path told ≡ base_at d path told
 base_quiet d e path told quiet = λ i. record {
   messages = take told.messages (bytes_in (quiet.seen (messages_of path told.number) i));
   keys = take told.keys (bytes_in (quiet.seen (keys_of path told.number) i));
@@ -40,7 +40,7 @@ log_quiet d e path end quiet was = record {
 }
 
 -- what is staged is so still
-pub staged_quiet : (d e : DiskState) (path : List ℕ) (end : End) (told : Told) → ChangesNothing d e → IsStaged d path end told → IsStaged e path end told
+pub staged_quiet : (d e : DiskState) (path : List ℕ) (end : End) (told : CommitRecord) → ChangesNothing d e → IsStaged d path end told → IsStaged e path end told
 staged_quiet d e path end told quiet was =
     let messages = quiet.seen (messages_of path told.number) in
     let keys = quiet.seen (keys_of path told.number) in

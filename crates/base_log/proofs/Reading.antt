@@ -4,8 +4,8 @@ use Rattle.std.proofs.lemmas.List.{drop_more, drop-drop, drop-take, take-take, g
 use Rattle.std.specs.Int.{w64, from_le_bytes}
 use Rattle.base_log.specs.Log.{opened, mark_by, told_by}
 use Rattle.base_log.specs.Reading.{ReadsTo}
-use Rattle.base_log.specs.declared.log.Mark.{Mark}
-use Rattle.base_log.specs.declared.log.Told.{Told}
+use Rattle.base_log.specs.declared.log.FolderIdentity.{FolderIdentity}
+use Rattle.base_log.specs.declared.log.CommitRecord.{CommitRecord}
 use Rattle.base_log.specs.declared.log.End.{End}
 use Rattle.base_log.proofs.Logs.{opened-snoc, AreBodies-snoc, last_told-snoc}
 
@@ -33,7 +33,7 @@ mark_fields bytes at o f s o_is f_is s_is =
     λ i. record { owner = o_told i; first = f_told i; second = s_told i }
 
 -- the four numbers that a record's bytes tell, and the mark
-pub told_fields : (bytes : List ℕ) (at m k c : ℕ) (mark : Mark) → m ≡ from_le_bytes w64 (take 8 (drop at bytes)) → k ≡ from_le_bytes w64 (take 8 (drop (at + 8) bytes))
+pub told_fields : (bytes : List ℕ) (at m k c : ℕ) (mark : FolderIdentity) → m ≡ from_le_bytes w64 (take 8 (drop at bytes)) → k ≡ from_le_bytes w64 (take 8 (drop (at + 8) bytes))
     → c ≡ from_le_bytes w64 (take 8 (drop (at + 16) bytes)) → mark ≡ mark_by (take 24 (drop (at + 25) bytes))
     → record { messages = m; keys = k; cursor = c; number = get_or bytes (at + 24) 0; mark = mark } ≡ told_by (take 49 (drop at bytes))
 told_fields bytes at m k c mark m_is k_is c_is mark_is =
@@ -56,7 +56,7 @@ record_in_front rest long is =
     ∙ ap (λ (l : List ℕ). 1 ∷ l) (sym (take-append-drop 49 (drop 1 rest)) ∙ ap (λ (l : List ℕ). take 49 (drop 1 rest) ++ l) (drop-drop 49 1 rest))
 
 -- one record more
-pub reads_more : (bytes : List ℕ) (end : End) (told : Told) → ReadsTo bytes end (drop end.gate bytes) → 50 ≤ length (drop end.gate bytes) → get_or bytes end.gate 0 ≡ 1
+pub reads_more : (bytes : List ℕ) (end : End) (told : CommitRecord) → ReadsTo bytes end (drop end.gate bytes) → 50 ≤ length (drop end.gate bytes) → get_or bytes end.gate 0 ≡ 1
     → told ≡ told_by (take 49 (drop (end.gate + 1) bytes)) → ReadsTo bytes (record { gate = end.gate + 50; told = told }) (drop (end.gate + 50) bytes)
 reads_more bytes end told reads long is told_is =
     let rest = drop end.gate bytes in

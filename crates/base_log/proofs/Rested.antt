@@ -6,8 +6,8 @@ use Rattle.base_log.specs.Names.{log_of, messages_of, keys_of}
 use Rattle.base_log.specs.Log.{opened}
 use Rattle.base_log.specs.Standing.{TellsBase, StandsFor, base_at}
 use Rattle.base_log.specs.AtRest.{IsAtRest, IsStaged}
-use Rattle.base_log.specs.declared.log.Mark.{Mark}
-use Rattle.base_log.specs.declared.log.Told.{Told}
+use Rattle.base_log.specs.declared.log.FolderIdentity.{FolderIdentity}
+use Rattle.base_log.specs.declared.log.CommitRecord.{CommitRecord}
 use Rattle.base_log.specs.declared.log.End.{End}
 use Rattle.base_log.proofs.Logs.{shut_log, shut_at}
 use Rattle.base_log.proofs.Same.{AreThere-both, TellsBase-seen}
@@ -25,8 +25,8 @@ rest_same d path end rest c same_log same_m same_k =
       bodies = log.bodies;
       log = shut_log log.bodies log.closed log.rest (bytes_in (c (log_of path))) log.sizes log.shut is;
       ended = inl (shut_at (opened log.bodies) log.closed log.rest (bytes_in (c (log_of path))) log.shut is);
-      there = AreThere-both path log.bodies c (subst (λ (t : Told). IsSome (c (messages_of path t.number))) (sym log.told) there_m) (subst (λ (t : Told). IsSome (c (keys_of path t.number))) (sym log.told) there_k);
-      tells = subst (λ (t : Told). TellsBase t path (base_at d path end.told) c) (sym log.told) (TellsBase-seen end.told path d c rest.digit rest.messages_long rest.keys_long same_m same_k);
+      there = AreThere-both path log.bodies c (subst (λ (t : CommitRecord). IsSome (c (messages_of path t.number))) (sym log.told) there_m) (subst (λ (t : CommitRecord). IsSome (c (keys_of path t.number))) (sym log.told) there_k);
+      tells = subst (λ (t : CommitRecord). TellsBase t path (base_at d path end.told) c) (sym log.told) (TellsBase-seen end.told path d c rest.digit rest.messages_long rest.keys_long same_m same_k);
     }
 
 pub rest_stands : (d : DiskState) (path : List ℕ) (end : End) → IsAtRest d path end → (c : Files) → d.may_leave c → StandsFor path (base_at d path end.told) c
@@ -36,7 +36,7 @@ rest_stands d path end rest c left =
     (d.on_disk (messages_of path end.told.number) rest.messages_on.named rest.messages_on.flushed c left)
     (d.on_disk (keys_of path end.told.number) rest.keys_on.named rest.keys_on.flushed c left)
 
-pub rest_staged : (d : DiskState) (path : List ℕ) (end : End) (cursor : ℕ) (mark : Mark) → IsAtRest d path end → IsStaged d path end (record end.told { cursor = cursor; mark = mark })
+pub rest_staged : (d : DiskState) (path : List ℕ) (end : End) (cursor : ℕ) (mark : FolderIdentity) → IsAtRest d path end → IsStaged d path end (record end.told { cursor = cursor; mark = mark })
 rest_staged d path end cursor mark rest = record {
   log = rest.log;
   stands = rest_stands d path end rest;

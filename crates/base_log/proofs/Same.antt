@@ -5,7 +5,7 @@ use Rattle.disk_io.specs.Disk.{DiskState, Files, bytes_in}
 use Rattle.base_log.specs.Names.{log_of, messages_of, keys_of}
 use Rattle.base_log.specs.Log.{IsLog, IsShutAt, last_told, opened}
 use Rattle.base_log.specs.Standing.{BaseBytes, IsFrontOf, AreThere, IsEnded, TellsBase, StandsFor, base_at}
-use Rattle.base_log.specs.declared.log.Told.{Told}
+use Rattle.base_log.specs.declared.log.CommitRecord.{CommitRecord}
 use Rattle.base_log.proofs.Logs.{one_log}
 use Rattle.base_log.proofs.Paths.{messages_not_log, keys_not_log}
 
@@ -18,7 +18,7 @@ pub AreThere-both : (path : List ℕ) (bodies : List (List ℕ)) (c : Files) →
 AreThere-both path [] c m k = tt
 AreThere-both path (body ∷ bodies) c m k = (m, k)
 
-pub TellsBase-same : (told : Told) (path : List ℕ) (base : BaseBytes) (a c : Files) → c (messages_of path told.number) ≡ a (messages_of path told.number)
+pub TellsBase-same : (told : CommitRecord) (path : List ℕ) (base : BaseBytes) (a c : Files) → c (messages_of path told.number) ≡ a (messages_of path told.number)
     → c (keys_of path told.number) ≡ a (keys_of path told.number) → TellsBase told path base a → TellsBase told path base c
 TellsBase-same told path base a c m k was = record {
   messages_long = was.messages_long;
@@ -39,7 +39,7 @@ pub front_long : (front bytes : List ℕ) → IsFrontOf front bytes → length f
 front_long front bytes is = omega (arith, ap length is, length-take (length front) bytes)
 
 -- the base that is seen, where the files are as they are seen
-pub TellsBase-seen : (told : Told) (path : List ℕ) (d : DiskState) (c : Files) → told.number < 10 → told.messages ≤ length (bytes_in (d.seen (messages_of path told.number)))
+pub TellsBase-seen : (told : CommitRecord) (path : List ℕ) (d : DiskState) (c : Files) → told.number < 10 → told.messages ≤ length (bytes_in (d.seen (messages_of path told.number)))
     → told.keys ≤ length (bytes_in (d.seen (keys_of path told.number))) → c (messages_of path told.number) ≡ d.seen (messages_of path told.number)
     → c (keys_of path told.number) ≡ d.seen (keys_of path told.number) → TellsBase told path (base_at d path told) c
 TellsBase-seen told path d c digit m_long k_long m k = record {

@@ -5,7 +5,7 @@ use Rattle.disk_io.specs.Synced.{IsOnDisk}
 use Rattle.base_log.specs.Names.{log_of, messages_of, keys_of}
 use Rattle.base_log.specs.Log.{opened, AreBodies, last_told}
 use Rattle.base_log.specs.Standing.{StandsFor, base_at}
-use Rattle.base_log.specs.declared.log.Told.{Told}
+use Rattle.base_log.specs.declared.log.CommitRecord.{CommitRecord}
 use Rattle.base_log.specs.declared.log.End.{End}
 
 -- a closed gate stands at this place in the log, behind records of which the last tells this, and the log is on the disk
@@ -32,7 +32,7 @@ pub record IsAtRest (disk : DiskState) (path : List ℕ) (end : End) : Type 0 wh
 
 -- So much was written and is not yet told: each crash leaves the base that the log tells, which is seen too, and the files have the bytes
 -- of the next one.
-pub record IsStaged (disk : DiskState) (path : List ℕ) (end : End) (told : Told) : Type 0 where
+pub record IsStaged (disk : DiskState) (path : List ℕ) (end : End) (told : CommitRecord) : Type 0 where
   pub log : IsLogAt disk path end
   pub stands : (c : Files) → disk.may_leave c → StandsFor path (base_at disk path end.told) c
   pub shown : StandsFor path (base_at disk path end.told) disk.seen

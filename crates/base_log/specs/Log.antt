@@ -1,8 +1,8 @@
 -- The log of a base folder: what its records tell, and where they end.
 use Rattle.std.specs.Prelude.{◌≡◌, ◌≢◌, ◌<◌, ◌⊎◌, ◌^◌, ℕ, List, [], ◌∷◌, ◌++◌, length, take, drop, slice_index}
 use Rattle.std.specs.Int.{w64, from_le_bytes, to_le_bytes}
-use Rattle.base_log.specs.declared.log.Mark.{Mark}
-use Rattle.base_log.specs.declared.log.Told.{Told}
+use Rattle.base_log.specs.declared.log.FolderIdentity.{FolderIdentity}
+use Rattle.base_log.specs.declared.log.CommitRecord.{CommitRecord}
 
 -- the bytes of records, one after another: a gate that is open, and what the record tells
 abbrev pub opened : List (List ℕ) → List ℕ
@@ -29,7 +29,7 @@ pub record IsLog (bodies : List (List ℕ)) (bytes : List ℕ) : Type 0 where
   pub ends : EndsHere rest
 
 -- whose the folder is, and the two halves of a key: numbers of eight bytes, low byte first
-abbrev pub mark_by : List ℕ → Mark
+abbrev pub mark_by : List ℕ → FolderIdentity
 mark_by body = record {
   owner = from_le_bytes w64 (take 8 body);
   first = from_le_bytes w64 (take 8 (drop 8 body));
@@ -37,11 +37,11 @@ mark_by body = record {
 }
 
 -- of a folder that nobody has claimed
-abbrev pub no_mark : Mark
+abbrev pub no_mark : FolderIdentity
 no_mark = record { owner = 0; first = 0; second = 0 }
 
 -- three numbers of eight bytes, low byte first, one of one byte, and a mark
-abbrev pub told_by : List ℕ → Told
+abbrev pub told_by : List ℕ → CommitRecord
 told_by body = record {
   messages = from_le_bytes w64 (take 8 body);
   keys = from_le_bytes w64 (take 8 (drop 8 body));
@@ -51,12 +51,12 @@ told_by body = record {
 }
 
 -- the bytes of a record behind its gate
-abbrev pub body_of : Told → List ℕ
+abbrev pub body_of : CommitRecord → List ℕ
 body_of told = to_le_bytes w64 told.messages ++ to_le_bytes w64 told.keys ++ to_le_bytes w64 told.cursor ++ told.number ∷ []
     ++ to_le_bytes w64 told.mark.owner ++ to_le_bytes w64 told.mark.first ++ to_le_bytes w64 told.mark.second
 
 -- each of its numbers has eight bytes
-pub record FitsRecord (told : Told) : Type 0 where
+pub record FitsRecord (told : CommitRecord) : Type 0 where
   pub messages : told.messages < 2 ^ 64
   pub keys : told.keys < 2 ^ 64
   pub cursor : told.cursor < 2 ^ 64
@@ -65,11 +65,11 @@ pub record FitsRecord (told : Told) : Type 0 where
   pub second : told.mark.second < 2 ^ 64
 
 -- of a log with no record
-abbrev pub nothing_told : Told
+abbrev pub nothing_told : CommitRecord
 nothing_told = record { messages = 0; keys = 0; cursor = 0; number = 0; mark = no_mark }
 
 -- the last record counts
-abbrev pub last_told : List (List ℕ) → Told
+abbrev pub last_told : List (List ℕ) → CommitRecord
 last_told [] = nothing_told
 last_told (body ∷ []) = told_by body
 last_told (body ∷ next ∷ bodies) = last_told (next ∷ bodies)

@@ -4,7 +4,7 @@ use Rattle.disk_io.specs.Device.{Failed}
 use Rattle.disk_io.specs.Disk.{DiskState, Files, IsIn, bytes_in}
 use Rattle.disk_io.specs.declared.disk_error.DiskError.{DiskError}
 use Rattle.disk_io.specs.declared.disk_error.DiskError.TheVariants as disk
-use Rattle.base_log.specs.declared.log.Told.{Told}
+use Rattle.base_log.specs.declared.log.CommitRecord.{CommitRecord}
 use Rattle.base_log.specs.declared.folder_error.FolderError.{FolderError}
 use Rattle.base_log.specs.declared.folder_error.FolderError.TheVariants as folder
 use Rattle.base_log.specs.Names.{log_of, messages_of, keys_of}
@@ -42,7 +42,7 @@ pub record KeepsButOne (old new : DiskState) (file : List ℕ) : Type 0 where
   pub honest : new.is_honest → old.is_honest
 
 -- the two files of the number are there, and as long as a record tells
-pub record HasFiles (path : List ℕ) (files : Files) (told : Told) : Type 0 where
+pub record HasFiles (path : List ℕ) (files : Files) (told : CommitRecord) : Type 0 where
   pub messages : IsSome (files (messages_of path told.number))
   pub keys : IsSome (files (keys_of path told.number))
   pub messages_long : told.messages ≤ length (bytes_in (files (messages_of path told.number)))

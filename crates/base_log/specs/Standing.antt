@@ -3,15 +3,15 @@ use Rattle.std.specs.Prelude.{◌≡◌, ◌<◌, ◌≤◌, ◌⊎◌, ℕ, Lis
 use Rattle.disk_io.specs.Disk.{DiskState, Files, bytes_in}
 use Rattle.base_log.specs.Names.{log_of, messages_of, keys_of}
 use Rattle.base_log.specs.Log.{IsLog, IsShutAt, last_told, opened}
-use Rattle.base_log.specs.declared.log.Mark.{Mark}
-use Rattle.base_log.specs.declared.log.Told.{Told}
+use Rattle.base_log.specs.declared.log.FolderIdentity.{FolderIdentity}
+use Rattle.base_log.specs.declared.log.CommitRecord.{CommitRecord}
 
 -- the bytes of the messages, those of their keys, the cursor, and the mark
 pub record BaseBytes : Type 0 where
   pub messages : List ℕ
   pub keys : List ℕ
   pub cursor : ℕ
-  pub mark : Mark
+  pub mark : FolderIdentity
 
 -- with more messages behind them
 abbrev pub and_messages : BaseBytes → List ℕ → BaseBytes
@@ -31,7 +31,7 @@ AreThere path (body ∷ bodies) files =
     IsSome (files (messages_of path (last_told (body ∷ bodies)).number)) × IsSome (files (keys_of path (last_told (body ∷ bodies)).number))
 
 -- a record tells how long this base is, and the files of its number begin with it
-pub record TellsBase (told : Told) (path : List ℕ) (base : BaseBytes) (files : Files) : Type 0 where
+pub record TellsBase (told : CommitRecord) (path : List ℕ) (base : BaseBytes) (files : Files) : Type 0 where
   pub messages_long : told.messages ≡ length base.messages
   pub keys_long : told.keys ≡ length base.keys
   pub cursor : told.cursor ≡ base.cursor
@@ -74,7 +74,7 @@ pub record IsBroken (path : List ℕ) (files : Files) : Type 0 where
   pub none : (base : BaseBytes) → StandsFor path base files → ⊥
 
 -- the base of so many bytes, as they are seen now
-abbrev pub base_at : DiskState → List ℕ → Told → BaseBytes
+abbrev pub base_at : DiskState → List ℕ → CommitRecord → BaseBytes
 base_at disk path told = record {
   messages = take told.messages (bytes_in (disk.seen (messages_of path told.number)));
   keys = take told.keys (bytes_in (disk.seen (keys_of path told.number)));

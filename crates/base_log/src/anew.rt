@@ -7,7 +7,7 @@ ghost use Rattle.base_log.specs.Standing.{base_at};
 ghost use Rattle.base_log.specs.AtRest.{IsAtRest, IsStaged};
 ghost use Rattle.base_log.specs.Moments.{StandsAlone, KeepsOutside};
 
-use crate::log::{End, Told};
+use crate::log::{CommitRecord, End};
 use crate::names::Names;
 use disk_io::{Disk, DiskError, sync_folder_of};
 
@@ -19,7 +19,7 @@ pub fn stage_anew<D: Disk>(
     end: End,
     number: u8,
     cursor: u64,
-) -> Result<Told, DiskError>
+) -> Result<CommitRecord, DiskError>
     requires names { AreNames names.now number }
     requires digit { number < 10 }
     requires other { number ≢ end.told.number }
@@ -38,7 +38,7 @@ pub fn stage_anew<D: Disk>(
     disk.create(&names.messages)?;
     disk.create(&names.keys)?;
     sync_folder_of(disk, &names.folder)?;
-    Ok(Told {
+    Ok(CommitRecord {
         messages: 0,
         keys: 0,
         cursor,

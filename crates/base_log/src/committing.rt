@@ -8,12 +8,12 @@ ghost use Rattle.base_log.specs.Standing.{base_at};
 ghost use Rattle.base_log.specs.AtRest.{IsAtRest, IsStaged};
 ghost use Rattle.base_log.specs.Moments.{IsBeforeOrAfter, KeepsOutside, LeavesOutside};
 
-use crate::log::{End, Told};
+use crate::log::{CommitRecord, End};
 use crate::names::Names;
 use disk_io::{Disk, DiskError, write_synced};
 
 // The bytes of a record, and the closed gate after it.
-fn record_of(told: Told) -> [u8; 50]
+fn record_of(told: CommitRecord) -> [u8; 50]
     ensures bytes { result ≡ body_of told ++ 0 ∷ [] }
     ensures fits { FitsRecord told }
 {
@@ -30,7 +30,12 @@ fn record_of(told: Told) -> [u8; 50]
 
 /// Makes the staged bytes the base. At `Ok` it is acknowledged: from then on each crash leaves files that hold it. At
 /// `Err`, open the folder again.
-pub fn commit<D: Disk>(disk: &mut D, names: &Names, end: End, told: Told) -> Result<End, DiskError>
+pub fn commit<D: Disk>(
+    disk: &mut D,
+    names: &Names,
+    end: End,
+    told: CommitRecord,
+) -> Result<End, DiskError>
     requires names { AreNames names.now told.number }
     requires staged { Honestly (D.state disk.old) (IsStaged (D.state disk.old) (folder_of names.now) end told) }
     requires room { end.gate + 50 < 2 ^ 64 }

@@ -9,7 +9,7 @@ ghost use Rattle.base_log.specs.Reading.{IsLogIn, IsRead};
 ghost use Rattle.base_log.specs.Standing.{HasNoBytes, IsBroken, IsLost, StandsFor, base_at};
 
 use crate::folder_error::FolderError;
-use crate::log::{Log, Told, last_record};
+use crate::log::{CommitRecord, Log, last_record};
 use crate::names::{Names, log_path};
 use disk_io::{Disk, DiskError, read_file};
 use std::alloc::Global;
@@ -98,7 +98,7 @@ fn has_bytes<D: Disk>(disk: &mut D, path: &[u8], count: usize) -> Result<bool, D
 }
 
 // Whether both files exist and are as long as the record says.
-fn has_files<D: Disk>(disk: &mut D, names: &Names, told: Told) -> Result<bool, DiskError>
+fn has_files<D: Disk>(disk: &mut D, names: &Names, told: CommitRecord) -> Result<bool, DiskError>
     requires { AreNames names.now told.number }
     ensures has { Honestly (D.state disk.new) (IfOk result (λ has. IsTrue has ↔ HasFiles (folder_of names.now) (D.state disk.old).seen told)) }
     ensures quiet { ChangesNothing (D.state disk.old) (D.state disk.new) }

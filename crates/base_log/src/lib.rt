@@ -25,7 +25,7 @@ pub use anew::stage_anew;
 pub use committing::commit;
 pub use folder_error::FolderError;
 pub use judging::{judge, len_of, read_log};
-pub use log::{End, Log, Mark, Told};
+pub use log::{CommitRecord, End, FolderIdentity, Log};
 pub use names::Names;
 pub use opening::open;
 pub use removing::remove_files;

@@ -7,7 +7,7 @@ ghost use Rattle.base_log.specs.Reading.{ReadsAll};
 /// The owner of a base folder, and the two halves of the key of its digests: numbers that the folder keeps and does
 /// not judge. All are 0 before the first commit.
 #[derive(Clone, Copy, Debug, PartialEq, Eq)]
-pub struct Mark {
+pub struct FolderIdentity {
     pub owner: u64,
     pub first: u64,
     pub second: u64,
@@ -16,19 +16,19 @@ pub struct Mark {
 /// The contents of a record: how many bytes of the messages and of their keys count, the cursor, the number of the
 /// files that hold them, and the mark.
 #[derive(Clone, Copy, Debug, PartialEq, Eq)]
-pub struct Told {
+pub struct CommitRecord {
     pub messages: usize,
     pub keys: usize,
     pub cursor: u64,
     pub number: u8,
-    pub mark: Mark,
+    pub mark: FolderIdentity,
 }
 
 /// The end of the log's records, and the contents of the last of them.
 #[derive(Clone, Copy, Debug, PartialEq, Eq)]
 pub struct End {
     pub gate: usize,
-    pub told: Told,
+    pub told: CommitRecord,
 }
 
 /// The log of a base folder, and the end of its records.
@@ -73,11 +73,11 @@ fn number_at(bytes: &[u8], at: usize) -> u64
 }
 
 // The mark that begins there.
-fn mark_at(bytes: &[u8], at: usize) -> Mark
+fn mark_at(bytes: &[u8], at: usize) -> FolderIdentity
     requires { at + 24 ≤ length bytes.now }
     ensures { result ≡ mark_by (take 24 (drop at bytes.now)) }
 {
-    Mark {
+    FolderIdentity {
         owner: number_at(bytes, at),
         first: number_at(bytes, at + 8),
         second: number_at(bytes, at + 16),
@@ -85,11 +85,11 @@ fn mark_at(bytes: &[u8], at: usize) -> Mark
 }
 
 // The contents of the record that begins there.
-fn told_at(bytes: &[u8], at: usize) -> Told
+fn told_at(bytes: &[u8], at: usize) -> CommitRecord
     requires { at + 49 ≤ length bytes.now }
     ensures { result ≡ told_by (take 49 (drop at bytes.now)) }
 {
-    Told {
+    CommitRecord {
         messages: number_at(bytes, at) as usize,
         keys: number_at(bytes, at + 8) as usize,
         cursor: number_at(bytes, at + 16),
@@ -105,12 +105,12 @@ pub(crate) fn last_record(bytes: &[u8]) -> End
 {
     let mut end = End {
         gate: 0,
-        told: Told {
+        told: CommitRecord {
             messages: 0,
             keys: 0,
             cursor: 0,
             number: 0,
-            mark: Mark {
+            mark: FolderIdentity {
                 owner: 0,
                 first: 0,
                 second: 0,

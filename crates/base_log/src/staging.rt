@@ -9,18 +9,24 @@ ghost use Rattle.base_log.specs.Standing.{base_at, and_messages, and_keys};
 ghost use Rattle.base_log.specs.AtRest.{IsAtRest, IsStaged};
 ghost use Rattle.base_log.specs.Moments.{StandsAlone, KeepsOutside, LeavesOutside};
 
-use crate::log::{End, Mark, Told};
+use crate::log::{CommitRecord, End, FolderIdentity};
 use crate::names::Names;
 use disk_io::{Disk, DiskError};
 
 /// The record that a commit would write of a base at rest to which nothing was added, with this cursor and this mark.
 /// More is staged from there.
-pub fn stage_nothing<D: Disk>(_disk: &D, _folder: &[u8], end: End, cursor: u64, mark: Mark) -> Told
+pub fn stage_nothing<D: Disk>(
+    _disk: &D,
+    _folder: &[u8],
+    end: End,
+    cursor: u64,
+    mark: FolderIdentity,
+) -> CommitRecord
     requires { Honestly (D.state _disk.now) (IsAtRest (D.state _disk.now) _folder.now end) }
     ensures staged { Honestly (D.state _disk.now) (IsStaged (D.state _disk.now) _folder.now end result) }
     ensures told { result ≡ record end.told { cursor = cursor; mark = mark } }
 {
-    Told {
+    CommitRecord {
         cursor,
         mark,
         ..end.told
@@ -32,9 +38,9 @@ pub fn stage_messages<D: Disk>(
     disk: &mut D,
     names: &Names,
     end: End,
-    told: Told,
+    told: CommitRecord,
     bytes: &[u8],
-) -> Result<Told, DiskError>
+) -> Result<CommitRecord, DiskError>
     requires names { AreNames names.now told.number }
     requires staged { Honestly (D.state disk.old) (IsStaged (D.state disk.old) (folder_of names.now) end told) }
     requires room { told.messages + length bytes.now < 2 ^ 64 }
@@ -52,7 +58,7 @@ pub fn stage_messages<D: Disk>(
     ensures cause { HasCause (D.failures disk.old) (D.failures disk.new) result }
 {
     disk.write_at(&names.messages, told.messages, bytes)?;
-    Ok(Told {
+    Ok(CommitRecord {
         messages: told.messages + bytes.len(),
         ..told
     })
@@ -63,9 +69,9 @@ pub fn stage_keys<D: Disk>(
     disk: &mut D,
     names: &Names,
     end: End,
-    told: Told,
+    told: CommitRecord,
     bytes: &[u8],
-) -> Result<Told, DiskError>
+) -> Result<CommitRecord, DiskError>
     requires names { AreNames names.now told.number }
     requires staged { Honestly (D.state disk.old) (IsStaged (D.state disk.old) (folder_of names.now) end told) }
     requires room { told.keys + length bytes.now < 2 ^ 64 }
@@ -83,7 +89,7 @@ pub fn stage_keys<D: Disk>(
     ensures cause { HasCause (D.failures disk.old) (D.failures disk.new) result }
 {
     disk.write_at(&names.keys, told.keys, bytes)?;
-    Ok(Told {
+    Ok(CommitRecord {
         keys: told.keys + bytes.len(),
         ..told
     })

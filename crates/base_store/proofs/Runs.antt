@@ -4,7 +4,7 @@ use Rattle.disk_io.specs.Disk.{DiskState, Files}
 use Rattle.disk_io.specs.Runs.{ChangesNothing}
 use Rattle.disk_io.proofs.Moments.{no_call, nothing_twice, then_run, weaker_run}
 use Rattle.base_file.specs.Base.{Base}
-use Rattle.base_store.specs.Store.{StoreState, CommitsNothing, GoesOn, IsSameStore, KeepsBeside, LooksOn, StandsBeside}
+use Rattle.base_store.specs.Store.{StoreState, CommitsNothing, GoesOn, IsSameStore, KeepsBeside, LooksOn, LeavesCommitted}
 
 pub same_store : (s : StoreState) → IsSameStore s s
 same_store s = record { stands = λ base c. (λ h. h, λ h. h); own = λ m. (λ h. h, λ h. h); undoes = (λ h. h, λ h. h) }
@@ -57,7 +57,7 @@ goes_on_twice old mid new first second =
 pub looks_commit : (old new : StoreState) → old.is_ready → LooksOn old new → CommitsNothing old new
 looks_commit old new ready looks = record {
   any_moment = λ honest base is.
-      weaker_run old.disk new.disk old.disk.may_leave (StandsBeside old base) looks.quiet.run
+      weaker_run old.disk new.disk old.disk.may_leave (LeavesCommitted old base) looks.quiet.run
       (λ c left. record { beside = λ m other named flushed. old.disk.on_disk m named flushed c left; stands = old.stays (looks.quiet.honest honest) ready base is c left });
   beside = record {
     seen = λ m other. looks.quiet.seen m;
@@ -81,7 +81,7 @@ beside_twice old mid new same first second =
     }
 
 -- what a crash leaves of the later calls, as it stood before the first one
-stood_before : (old mid : StoreState) (base : Base) (c : Files) → IsSameStore old mid → KeepsBeside old mid → StandsBeside mid base c → StandsBeside old base c
+stood_before : (old mid : StoreState) (base : Base) (c : Files) → IsSameStore old mid → KeepsBeside old mid → LeavesCommitted mid base c → LeavesCommitted old base c
 stood_before old mid base c same kept stood = record {
   beside = λ m other named flushed.
       stood.beside m (λ own. other ((same.own m).0 own)) (kept.named m other named) (kept.flushed m other flushed) ∙ kept.seen m other;
@@ -93,7 +93,7 @@ pub commits_none : (old mid new : StoreState) → CommitsNothing old mid → Goe
 commits_none old mid new first on second = record {
   any_moment = λ honest base is.
       let before = second.beside.honest honest in
-      then_run old.disk mid.disk new.disk (StandsBeside old base) (StandsBeside mid base) (first.any_moment before base is)
+      then_run old.disk mid.disk new.disk (LeavesCommitted old base) (LeavesCommitted mid base) (first.any_moment before base is)
       (second.any_moment honest base (on.committed before base is)) (λ c. stood_before old mid base c first.same first.beside);
   beside = beside_twice old mid new first.same first.beside second.beside;
   same = same_twice old mid new first.same second.same;

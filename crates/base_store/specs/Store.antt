@@ -72,12 +72,12 @@ abbrev pub SameBesideStore : StoreState → Files → Type 0
 SameBesideStore old c = (m : List ℕ) → (old.is_own m → ⊥) → old.disk.is_named m → old.disk.is_flushed m → c m ≡ old.disk.seen m
 
 -- a crash left the base that was committed before, and no other file has changed
-pub record StandsBeside (old : StoreState) (base : Base) (c : Files) : Type 0 where
+pub record LeavesCommitted (old : StoreState) (base : Base) (c : Files) : Type 0 where
   pub beside : SameBesideStore old c
   pub stands : old.stands base c
 
 -- or the one that is being committed
-pub record StandsForEither (old : StoreState) (first next : Base) (c : Files) : Type 0 where
+pub record LeavesEither (old : StoreState) (first next : Base) (c : Files) : Type 0 where
   pub beside : SameBesideStore old c
   pub stands : old.stands first c ⊎ old.stands next c
 
@@ -91,13 +91,13 @@ pub record KeepsBeside (old new : StoreState) : Type 0 where
 
 -- until the next commit a crash leaves the base that was committed before
 pub record CommitsNothing (old new : StoreState) : Type 0 where
-  pub any_moment : Honestly new.disk ((base : Base) → old.committed base → LeavesOnly old.disk new.disk (StandsBeside old base))
+  pub any_moment : Honestly new.disk ((base : Base) → old.committed base → LeavesOnly old.disk new.disk (LeavesCommitted old base))
   pub beside : KeepsBeside old new
   pub same : IsSameStore old new
 
 -- a crash leaves the base that was committed before, or the one that the store holds
 pub record MayCommit (old new : StoreState) : Type 0 where
-  pub any_moment : Honestly new.disk ((first next : Base) → old.committed first → old.keeps next → LeavesOnly old.disk new.disk (StandsForEither old first next))
+  pub any_moment : Honestly new.disk ((first next : Base) → old.committed first → old.keeps next → LeavesOnly old.disk new.disk (LeavesEither old first next))
   pub beside : KeepsBeside old new
   pub same : IsSameStore old new
 

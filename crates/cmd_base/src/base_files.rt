@@ -91,7 +91,7 @@ fn is_link(rt: &HostRuntime, path: &str) -> bool {
 }
 
 /// The path that the staging file with this path replaces.
-pub fn target_beside(path: &str) -> Option<&str> {
+pub fn target_staging(path: &str) -> Option<&str> {
     let front = path.strip_suffix(BESIDE)?;
     let (target, _) = front.rsplit_once(".~")?;
     Some(target)
@@ -114,7 +114,7 @@ impl Files for BaseFiles<'_> {
         if let Some(file) = self.made_at(path) {
             return file;
         }
-        match target_beside(path) {
+        match target_staging(path) {
             Some(target) if how.asks_create_new() => self.make(path, target),
             _ => self.rt.open_file(how, path),
         }
@@ -145,7 +145,7 @@ impl Files for BaseFiles<'_> {
 
     // A file at a staging path stays, unless a stopped run left it and its base file may be replaced.
     fn remove_file(&self, path: &str) -> io::Result<()> {
-        if let Some(target) = target_beside(path) {
+        if let Some(target) = target_staging(path) {
             self.rt.symlink_metadata(path)?;
             let _ = self.access_at(target)?;
             check_left(self.rt.alloc(), self.rt, path, BASE_START).map_err(system_error)?;

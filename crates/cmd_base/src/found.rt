@@ -3,21 +3,21 @@
 use crate::hard_links::break_hard_links;
 use cmd_input::{drawn_key, folder_path, is_strange};
 use cmd_status::Fault;
-use station_bases::Found;
+use station_bases::FolderProbe;
 
 /// The state of a base folder before it is opened, and the path before the names of its files.
 #[derive(Drop)]
-pub struct FoundFolder {
+pub struct FolderState {
     pub path: String,
-    pub found: Found,
+    pub found: FolderProbe,
 }
 
 /// The state of the base folder with this path, and a key for its digests. Its files have no second path then.
-pub fn found_in<'a>(rt: &HostRuntime, base: &'a str) -> Result<FoundFolder, Fault<'a>> {
+pub fn found_in<'a>(rt: &HostRuntime, base: &'a str) -> Result<FolderState, Fault<'a>> {
     let strange = is_strange(rt, base)?;
     let path = folder_path(rt, base)?;
     break_hard_links(rt, base, path.as_str(), strange)?;
     let key = drawn_key(rt)?;
-    let found = Found { strange, key };
-    Ok(FoundFolder { path, found })
+    let found = FolderProbe { strange, key };
+    Ok(FolderState { path, found })
 }

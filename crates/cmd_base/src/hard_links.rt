@@ -74,44 +74,44 @@ fn copy_linked(rt: &HostRuntime, base: &str, path: &str, spare: u8) -> Result<()
     requires { spare < 10 }
 {
     let names = Names::new(rt.alloc(), path.as_bytes(), spare)?;
-    let beside = text_of(&names.messages)?;
-    match fs::remove_file(rt, beside) {
+    let staging = text_of(&names.messages)?;
+    match fs::remove_file(rt, staging) {
         Err(error) if error.kind() != ErrorKind::NotFound => return Err(OutputFault::from(error)),
         _ => {}
     }
-    let copied = copy_each(rt, path, text_of(&names.log)?, beside);
+    let copied = copy_each(rt, path, text_of(&names.log)?, staging);
     if copied.is_err() {
-        let _ = fs::remove_file(rt, beside);
+        let _ = fs::remove_file(rt, staging);
     }
     copied?;
     flush_folder(rt, base)
 }
 
 // Copies the log and the files of each number.
-fn copy_each(rt: &HostRuntime, path: &str, log: &str, beside: &str) -> Result<(), OutputFault> {
-    copy_if_linked(rt, log, beside)?;
+fn copy_each(rt: &HostRuntime, path: &str, log: &str, staging: &str) -> Result<(), OutputFault> {
+    copy_if_linked(rt, log, staging)?;
     'numbers: for number in 0..NUMBERS {
         let names = Names::new(rt.alloc(), path.as_bytes(), number)?;
-        copy_if_linked(rt, text_of(&names.messages)?, beside)?;
-        copy_if_linked(rt, text_of(&names.keys)?, beside)?;
+        copy_if_linked(rt, text_of(&names.messages)?, staging)?;
+        copy_if_linked(rt, text_of(&names.keys)?, staging)?;
     }
     Ok(())
 }
 
 // Puts a copy in the place of the file with this path, if that has a second one. It keeps mode and owner.
-fn copy_if_linked(rt: &HostRuntime, path: &str, beside: &str) -> Result<(), OutputFault> {
+fn copy_if_linked(rt: &HostRuntime, path: &str, staging: &str) -> Result<(), OutputFault> {
     if !is_linked(rt, path)? {
         return Ok(());
     }
     let access = access_of(rt, path)?;
-    make_new(rt, beside)?;
-    fs::copy(rt, path, beside)?;
-    let copy = fs::open(rt, beside)?;
+    make_new(rt, staging)?;
+    fs::copy(rt, path, staging)?;
+    let copy = fs::open(rt, staging)?;
     if let Some(access) = access {
         give_access(&copy, access)?;
     }
     copy.sync_all()?;
-    fs::rename(rt, beside, path)?;
+    fs::rename(rt, staging, path)?;
     Ok(())
 }
 

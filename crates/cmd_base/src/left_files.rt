@@ -1,11 +1,11 @@
 //! Lists the packets that earlier scans left in staging files. The number in a name counts the messages scanned
 //! before. So it shows whether that scan moved the cursor.
 ghost use Rattle.std.specs.Prelude.{◌≡◌, IfOk};
-ghost use Rattle.station_scan.specs.Listing.{AreListed};
+ghost use Rattle.station_scan.specs.ListStaged.{AreListed};
 
 use disk_io::DiskError;
 use echo_addr::Items;
-use station_scan::{LeftPacket, Listing};
+use station_scan::{ListStaged, StagedPacket};
 use std::alloc::{AllocError, Global};
 use std::fs::DirEntry;
 use std::io::ErrorKind;
@@ -17,7 +17,7 @@ pub struct LeftFiles<'r> {
     rt: &'r HostRuntime,
     folder: Items<u8>,
     own: Items<u8>,
-    told: Items<LeftPacket>,
+    told: Items<StagedPacket>,
     failures: u64,
 }
 
@@ -34,17 +34,17 @@ impl<'r> LeftFiles<'r> {
 }
 
 // A copy of one packet.
-fn copy_of(alloc: Global, left: &LeftPacket) -> Result<LeftPacket, AllocError>
+fn copy_of(alloc: Global, left: &StagedPacket) -> Result<StagedPacket, AllocError>
     ensures { IfOk result (λ copy. copy ≡ left.now) }
 {
-    Ok(LeftPacket {
+    Ok(StagedPacket {
         name: Items::new(Vec::from_slice(alloc, left.name.as_slice())?),
         before: left.before,
     })
 }
 
 // A copy of each packet.
-fn copies_of(alloc: Global, found: &[LeftPacket]) -> Result<Vec<LeftPacket>, AllocError>
+fn copies_of(alloc: Global, found: &[StagedPacket]) -> Result<Vec<StagedPacket>, AllocError>
     ensures { IfOk result (λ copies. copies.items ≡ found.now) }
 {
     let mut copies = Vec::with_capacity(alloc, found.len())?;
@@ -56,18 +56,18 @@ fn copies_of(alloc: Global, found: &[LeftPacket]) -> Result<Vec<LeftPacket>, All
 }
 
 // The report is true if these files are as it says.
-impl Listing for LeftFiles<'_> {
+impl ListStaged for LeftFiles<'_> {
     ghost is_true = { λ listing files. AreListed listing.folder listing.own files listing.told };
 
     ghost failures = { λ listing. listing.failures };
 
-    fn left_beside(
+    fn left_staged(
         &mut self,
         alloc: Global,
         folder: &[u8],
         own: &[u8],
-    ) -> Result<Vec<LeftPacket>, DiskError> {
-        match packets_beside(self.rt, folder, own) {
+    ) -> Result<Vec<StagedPacket>, DiskError> {
+        match packets_staging(self.rt, folder, own) {
             Ok(found) => {
                 self.folder = Items::new(Vec::from_slice(alloc, folder)?);
                 self.own = Items::new(Vec::from_slice(alloc, own)?);
@@ -85,11 +85,11 @@ impl Listing for LeftFiles<'_> {
 
 // The packets of the system of this own name in staging files of the folder, as their names say. A missing folder has
 // none.
-fn packets_beside(
+fn packets_staging(
     rt: &HostRuntime,
     folder: &[u8],
     own: &[u8],
-) -> Result<Vec<LeftPacket>, DiskError> {
+) -> Result<Vec<StagedPacket>, DiskError> {
     let (Ok(folder), Ok(own)) = (str::from_utf8(folder), str::from_utf8(own)) else {
         return Err(DiskError::Device);
     };
@@ -111,11 +111,11 @@ fn push_entry(
     rt: &HostRuntime,
     entry: io::Result<DirEntry>,
     ending: &str,
-    found: &mut Vec<LeftPacket>,
+    found: &mut Vec<StagedPacket>,
 ) -> Result<(), DiskError> {
     match entry {
         Ok(entry) => {
-            if let Some((front, before)) = packet_beside(entry.file_name(), ending) {
+            if let Some((front, before)) = packet_staging(entry.file_name(), ending) {
                 found.push(left_packet(rt, front, before)?)?;
             }
             Ok(())
@@ -127,10 +127,10 @@ fn push_entry(
 }
 
 // A packet with this front of its name. No scan moves a cursor past the greatest number of four bytes.
-fn left_packet(rt: &HostRuntime, front: &str, before: u64) -> Result<LeftPacket, AllocError> {
+fn left_packet(rt: &HostRuntime, front: &str, before: u64) -> Result<StagedPacket, AllocError> {
     let mut name = Vec::from_slice(rt.alloc(), front.as_bytes())?;
     name.extend_from_slice(b".pkt")?;
-    Ok(LeftPacket {
+    Ok(StagedPacket {
         name: Items::new(name),
         before: u32::try_from(before).unwrap_or(u32::MAX),
     })
@@ -144,7 +144,7 @@ fn unlisted(error: &io::Error) -> DiskError {
 }
 
 // The part before `.pkt` in the name of a staged packet, and the number at its end.
-fn packet_beside<'n>(name: &'n str, ending: &str) -> Option<(&'n str, u64)> {
+fn packet_staging<'n>(name: &'n str, ending: &str) -> Option<(&'n str, u64)> {
     let front = name.strip_suffix(ending)?;
     let (_, number) = front.rsplit_once('.')?;
     let before = number.parse::<u64>().ok()?;

@@ -18,7 +18,7 @@ mod opened;
 mod scan_files;
 
 pub use base_files::BaseFiles;
-pub use found::{FoundFolder, found_in};
+pub use found::{FolderState, found_in};
 pub use left_files::LeftFiles;
 pub use opened::Opened;
 pub use scan_files::ScanFiles;

@@ -2,7 +2,7 @@
 //! except one that a stopped run left. The base is replaced as in `base_files`. The path of a failed call is noted
 //! for the report. If the folder gives a packet no second path, that is the folder.
 
-use crate::base_files::{BaseFiles, system_error, target_beside};
+use crate::base_files::{BaseFiles, system_error, target_staging};
 use cmd_input::Progress;
 use disk_system::{check_left, make_new};
 use std::alloc::Allocator;
@@ -77,7 +77,7 @@ impl<'p, 'r> ScanFiles<'p, 'r> {
 
     // The path of the packet there, or in that staging file.
     fn packet_at<'q>(&self, path: &'q str) -> Option<&'q str> {
-        let packet = target_beside(path).unwrap_or(path);
+        let packet = target_staging(path).unwrap_or(path);
         let name = packet.strip_prefix(self.folder)?;
         if packet == self.base || name.contains('/') || !name.ends_with(PACKET) {
             return None;
@@ -108,7 +108,7 @@ impl<'p, 'r> ScanFiles<'p, 'r> {
 
     // Whether it is the path at which the folder is tried for a second path. It is no staging path.
     fn is_trial(&self, path: &str) -> bool {
-        target_beside(path) == Some(self.folder)
+        target_staging(path) == Some(self.folder)
     }
 
     // Notes where the first call failed.
@@ -223,7 +223,7 @@ impl Files for ScanFiles<'_, '_> {
             return self.note_found(path, self.bases.metadata(path));
         }
         let found = self.rt.symlink_metadata(path);
-        if target_beside(path).is_none() {
+        if target_staging(path).is_none() {
             match found {
                 Ok(_) => self.keep(&self.taken, path),
                 Err(_) => self.packets.set(self.packets.get().saturating_add(1)),

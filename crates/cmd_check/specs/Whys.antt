@@ -10,7 +10,7 @@ use Rattle.echo_links.specs.Links.{LinkFile}
 use Rattle.echo_net.specs.declared.verdict.Verdict.{Verdict}
 use Rattle.echo_net.specs.declared.verdict.Verdict.TheVariants.{Yes, No}
 use Rattle.model_why.specs.declared.shown.Harm.{Harm}
-use Rattle.model_why.specs.declared.shown.Harm.TheVariants.{NeverGets, NeverRests, SentAgain, SentOwn}
+use Rattle.model_why.specs.declared.shown.Harm.TheVariants.{NeverGets, NeverSettles, SentAgain, SentOwn}
 use Rattle.model_plan.specs.declared.plan.Move.{Move}
 use Rattle.model_plan.specs.declared.plan.Move.TheVariants.{Deliver, Scan}
 use Rattle.model_why.specs.declared.shown.Shown.{Shown}
@@ -31,7 +31,7 @@ harm_line id (SentAgain a times) =
     codes "; " ++ (address_text a ++ (codes " is sent " ++ (id ++ (codes " " ++ (decimal times ++ codes " times\n")))))
 harm_line id (SentOwn a) = codes "; " ++ (address_text a ++ (codes " is sent its own " ++ (id ++ codes "\n")))
 harm_line id (NeverGets a) = codes "; " ++ (address_text a ++ (codes " never gets " ++ (id ++ codes "\n")))
-harm_line id NeverRests = codes "; " ++ (id ++ codes " never comes to rest\n")
+harm_line id NeverSettles = codes "; " ++ (id ++ codes " never comes to rest\n")
 
 -- the lines of the run: the posting, the moves and the harm
 abbrev pub shown_lines : List ℕ → Shown → List ℕ

@@ -11,7 +11,7 @@ use cmd_status::{Fault, Status, link_files, print_rest};
 use disk_io::Sink;
 use echo_addr::Items;
 use echo_links::LinkFile;
-use model_replay::{ScriptFault, Telling, World, read_script, replay_told};
+use model_replay::{ReplayProgress, ScriptFault, World, read_script, replay_told};
 use model_run::Event;
 use std::alloc::Global;
 use std::hash::RandomState;
@@ -21,7 +21,7 @@ use std::hash::RandomState;
 /// not delivered, and whether the net has settled. Of a faulty input nothing is printed; the first fault
 /// is answered, that of the script before those of link files. `stopped` is why no further file was
 /// read, and comes last. Look-ups go by the hasher, and `told` hears of each event once it happened.
-pub fn replay<'a, T: Telling, W: Sink>(
+pub fn replay<'a, T: ReplayProgress, W: Sink>(
     alloc: Global,
     script: &[u8],
     files: &[Items<u8>],
@@ -41,7 +41,7 @@ pub fn replay<'a, T: Telling, W: Sink>(
 }
 
 // The same of inputs that are read.
-fn replay_read<'a, T: Telling, W: Sink>(
+fn replay_read<'a, T: ReplayProgress, W: Sink>(
     alloc: Global,
     links: Vec<LinkFile>,
     events: &[Event],

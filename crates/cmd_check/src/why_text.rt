@@ -2,7 +2,7 @@
 ghost use Rattle.std.specs.Prelude.{◌≡◌, ◌++◌, codes, OnOk, option_copied};
 ghost use Rattle.std.specs.List.{flat_map};
 ghost use Rattle.echo_addr.specs.Address.{address_text};
-ghost use Rattle.model_why.specs.declared.shown.Harm.TheVariants.{NeverRests, SentAgain};
+ghost use Rattle.model_why.specs.declared.shown.Harm.TheVariants.{NeverSettles, SentAgain};
 ghost use Rattle.cmd_print.specs.Checked.{verdict_line};
 ghost use Rattle.cmd_print.specs.Pushed.{Pushes};
 ghost use Rattle.cmd_check.specs.Whys.{AreWhyLines, found_lines, harm_line, move_line, post_line, shown_lines};
@@ -108,7 +108,7 @@ fn push_harm(lines: &mut Vec<u8>, id: &[u8], harm: Harm) -> Result<(), AllocErro
         Harm::SentAgain(address, times) => push_again(lines, address, id, times),
         Harm::SentOwn(address) => push_of_system(lines, address, b" is sent its own ", id),
         Harm::NeverGets(address) => push_of_system(lines, address, b" never gets ", id),
-        Harm::NeverRests => push_restless(lines, id),
+        Harm::NeverSettles => push_restless(lines, id),
     }
 }
 
@@ -144,7 +144,7 @@ fn push_of_system(
 
 // Adds the line of a message that never comes to rest.
 fn push_restless(lines: &mut Vec<u8>, id: &[u8]) -> Result<(), AllocError>
-    ensures { OnOk result (lines.new.items ≡ lines.old.items ++ harm_line id.now NeverRests) }
+    ensures { OnOk result (lines.new.items ≡ lines.old.items ++ harm_line id.now NeverSettles) }
 {
     lines.extend_from_slice(b"; ")?;
     lines.extend_from_slice(id)?;

@@ -1,7 +1,7 @@
 //! Base folders: which BASE is one, and its files.
 use crate::{folder_fault, folder_path, output_fault, read_file};
 use base_file::{Base, BaseFault};
-use base_folder::{Seen, Unread, fill, log_end, look};
+use base_folder::{FolderSnapshot, OpenError, fill, log_end, read_snapshot};
 use base_store::SipDigest;
 use cmd_status::Fault;
 use disk_system::{RealDisk, Unknown, flush_path};
@@ -55,11 +55,17 @@ pub fn flush_name<'a>(rt: &HostRuntime, base: &'a str, messages: usize) -> Resul
 }
 
 /// What the base folder with this path holds, of its messages those from this number on. Nothing of it is changed.
-pub fn look_into<'a>(rt: &HostRuntime, base: &'a str, first: u64) -> Result<Seen, Fault<'a>> {
+pub fn look_into<'a>(
+    rt: &HostRuntime,
+    base: &'a str,
+    first: u64,
+) -> Result<FolderSnapshot, Fault<'a>> {
     let strange = is_strange(rt, base)?;
     let path = folder_path(rt, base)?;
     let mut disk = RealDisk::new(rt, Unknown);
-    look(rt.alloc(), &mut disk, path.as_bytes(), strange, first).map_err(|why| why.fault(base))
+    read_snapshot(rt.alloc(), &mut disk, path.as_bytes(), strange, first).map_err(|why| why.fault(
+        base,
+    ))
 }
 
 /// The bytes of a base file, or of the base file of the same messages where the base is a folder.
@@ -77,7 +83,7 @@ pub fn is_empty<'a>(rt: &HostRuntime, base: &'a str) -> Result<bool, Fault<'a>> 
     let mut disk = RealDisk::new(rt, Unknown);
     match log_end(rt.alloc(), &mut disk, path.as_bytes(), strange) {
         Ok(end) => Ok(end.gate == 0),
-        Err(Unread::Wrong(_)) => Ok(false),
+        Err(OpenError::Wrong(_)) => Ok(false),
         Err(why) => Err(why.fault(base)),
     }
 }

@@ -3,7 +3,7 @@
 
 use cmd_status::print_rest;
 use disk_io::Watched;
-use station::Watching;
+use station::MessageProgress;
 use std::alloc::AllocError;
 use std::cell::Cell;
 use std::io;
@@ -130,7 +130,7 @@ pub struct Messages<'p, 'r> {
     pub progress: Option<&'p Progress<'r>>,
 }
 
-impl Watching for Messages<'_, '_> {
+impl MessageProgress for Messages<'_, '_> {
     fn tell(&self, place: usize, messages: usize) {
         if let Some(progress) = self.progress {
             if progress.is_due() {

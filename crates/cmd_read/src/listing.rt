@@ -1,7 +1,7 @@
 //! `list` and `export` of a base folder: the messages that are asked for are all read before a line is printed.
 
 use crate::bases::form_of;
-use base_folder::Seen;
+use base_folder::FolderSnapshot;
 use base_store::SipDigest;
 use cmd_input::{Progress, look_into};
 use cmd_show::{begin_at, export_seen, judge_messages, list_areas_seen, list_seen};
@@ -33,7 +33,7 @@ pub(crate) fn list_folder<'a, W: Sink>(
 // Reads the messages from this number on, and reports how far that is.
 fn judge_seen<'a>(
     rt: &HostRuntime,
-    seen: &Seen,
+    seen: &FolderSnapshot,
     first: u64,
     progress: &Progress<'_>,
 ) -> Result<(), Fault<'a>> {

@@ -4,11 +4,11 @@ use cmd_check::{
     assume, check, check_all, check_assuming, picture, picture_why, print_assumed, replay, why,
 };
 use cmd_input::{MAX_INPUT, PathNames, Progress, read_if_given, read_links, read_script};
-use cmd_status::{Fault, Status, wanted};
+use cmd_status::{Fault, Status, parse_address};
 use cmd_words::CheckWords;
 use disk_io::Sink;
 use echo_addr::{Address, Items};
-use model_replay::Telling;
+use model_replay::ReplayProgress;
 use std::alloc::AllocError;
 use std::collections::hash_map::RandomState;
 
@@ -45,7 +45,7 @@ pub fn run_check<'a, W: Sink>(
 fn assumed_in<'a>(rt: &HostRuntime, words: &[&str]) -> Result<Vec<Address>, Fault<'a>> {
     let mut assumed = Vec::new(rt.alloc());
     for word in words {
-        assumed.push(wanted(*word)?)?;
+        assumed.push(parse_address(*word)?)?;
     }
     Ok(assumed)
 }
@@ -158,7 +158,7 @@ struct Events<'p, 'r> {
     progress: &'p Progress<'r>,
 }
 
-impl Telling for Events<'_, '_> {
+impl ReplayProgress for Events<'_, '_> {
     fn tell(&self, happened: usize, events: usize) {
         if self.progress.is_due() {
             self.progress.tell_event(happened, events);

@@ -2,7 +2,7 @@
 
 use cmd_input::{MAX_INPUT, read_file, read_given};
 use cmd_show::{nodelist, show};
-use cmd_status::{Fault, Status, wanted};
+use cmd_status::{Fault, Status, parse_address};
 use disk_io::Sink;
 
 /// `show [--hex] [--text] PACKET`
@@ -25,7 +25,7 @@ pub fn run_nodelist<'a, W: Sink>(
     out: &mut W,
 ) -> Result<Status, Fault<'a>> {
     let address = match find {
-        Some(word) => Some(wanted(word)?),
+        Some(word) => Some(parse_address(word)?),
         None => None,
     };
     let input = read_file(rt, file, MAX_INPUT)?;

@@ -8,7 +8,7 @@ use cmd_input::{
 };
 use cmd_numbered::resend;
 use cmd_report::{push_packet, resent_name};
-use cmd_status::{Fault, Status, number_of, print_rest, wanted};
+use cmd_status::{Fault, Status, number_of, parse_address, print_rest};
 use cmd_words::ResendWords;
 use disk_io::{Disk, Sink};
 use disk_system::{NewFile, OutputFault, RealDisk, Unknown, create_file, flush_folder};
@@ -46,7 +46,7 @@ pub fn run_resend<W: Sink, E: Sink>(
 
 // The packet that is asked for.
 fn asked_of<'a>(rt: &HostRuntime, words: &ResendWords<'a>) -> Result<Resend<'a>, Fault<'a>> {
-    let to = wanted(words.to)?;
+    let to = parse_address(words.to)?;
     let first = match words.from {
         Some(word) => number_of(word)?,
         None => 0,

@@ -5,8 +5,8 @@ use Rattle.base_file.specs.Base.{Base}
 use Rattle.echo_links.specs.Links.{LinkFile}
 use Rattle.echo_packet.specs.declared.limits.Limits.{Limits}
 use Rattle.base_store.specs.Store.{StoreState}
-use Rattle.echo_toss.specs.declared.stop.StoppedToss.{StoppedToss}
-use Rattle.echo_toss.specs.declared.stop.TossStop.{TossStop}
+use Rattle.echo_toss.specs.declared.step_error.StoppedToss.{StoppedToss}
+use Rattle.echo_toss.specs.declared.step_error.TossStepError.{TossStepError}
 use Rattle.echo_toss.specs.declared.tally.Tally.{Tally}
 use Rattle.echo_toss.specs.Messages.{TossesMessages}
 use Rattle.echo_toss.specs.PacketSteps.{PacketStep}
@@ -22,7 +22,7 @@ pub record NotesPacketIn (limits : Limits) (file : LinkFile) (base : Base) (befo
   pub holds : HoldsUnlessFailed old (stop_in result) new next
 
 -- the same for the messages after a header
-pub record NotesMessagesIn {A : Type 0} (limits : Limits) (sender : Address) (file : LinkFile) (base : Base) (before after : Option (List ℕ)) (tally : Tally) (text noted : List ℕ) (old : StoreState) (result : Result A TossStop) (new : StoreState) : Type 0 where
+pub record NotesMessagesIn {A : Type 0} (limits : Limits) (sender : Address) (file : LinkFile) (base : Base) (before after : Option (List ℕ)) (tally : Tally) (text noted : List ℕ) (old : StoreState) (result : Result A TossStepError) (new : StoreState) : Type 0 where
   pub next : Base
   pub step : TossesMessages limits sender (state_in file base) before after tally (messages_answer result) (state_in file next)
   pub notes : NotesTaken limits sender (state_in file base) before tally (state_in file next) text noted

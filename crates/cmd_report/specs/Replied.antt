@@ -7,7 +7,7 @@ use Rattle.echo_text.specs.Echo.{msgid_of}
 use Rattle.echo_text.specs.Ids.{is_id}
 use Rattle.cmd_report.specs.declared.posting.NewMessage.{NewMessage}
 use Rattle.cmd_report.specs.declared.replying.Answer.{Answer}
-use Rattle.cmd_report.specs.declared.replying.Found.{Found}
+use Rattle.cmd_report.specs.declared.replying.ReplyFields.{ReplyFields}
 
 -- whether a subject is that of an answer: it begins with `Re:`, in letters of either case
 abbrev pub is_answer : List ℕ → Bool
@@ -30,7 +30,7 @@ named_id None = []
 named_id (Some msgid) = if is_id msgid then msgid else []
 
 -- the words that a message gives
-pub record IsFound (m : Filed) (found : Found) : Type 0 where
+pub record IsFound (m : Filed) (found : ReplyFields) : Type 0 where
   pub tag : found.tag ≡ m.echo.tag
   pub to_name : found.to_name ≡ m.from_name
   pub subject : found.subject ≡ answered m.subject

@@ -24,7 +24,7 @@ pub struct Answer<'a> {
 
 /// The words that a message gives to the answer.
 #[derive(Drop)]
-pub struct Found {
+pub struct ReplyFields {
     pub tag: Items<u8>,
     pub to_name: Items<u8>,
     pub subject: Items<u8>,
@@ -32,11 +32,11 @@ pub struct Found {
 }
 
 /// The words that the message gives.
-pub fn found_in(alloc: Global, message: &Filed) -> Result<Found, AllocError>
+pub fn found_in(alloc: Global, message: &Filed) -> Result<ReplyFields, AllocError>
     ensures { IfOk result (IsFound message.now) }
 {
     let echo = &message.echo;
-    Ok(Found {
+    Ok(ReplyFields {
         tag: Items::new(Vec::from_slice(alloc, echo.tag.as_slice())?),
         to_name: Items::new(Vec::from_slice(alloc, message.from_name.as_slice())?),
         subject: Items::new(answered(alloc, message.subject.as_slice())?),

@@ -5,7 +5,7 @@ ghost use Rattle.disk_io.specs.Disk.{Honestly};
 ghost use Rattle.base_store.specs.Store.{CommitsNothing, HasStoreCause};
 ghost use Rattle.model_steps.specs.declared.outcome.Outcome.TheVariants.{Filed};
 ghost use Rattle.echo_toss.specs.declared.fault.TossCause.TheVariants as cause;
-ghost use Rattle.echo_toss.specs.declared.stop.TossStop.TheVariants as toss;
+ghost use Rattle.echo_toss.specs.declared.step_error.TossStepError.TheVariants as toss;
 ghost use Rattle.echo_toss.specs.Messages.{CountsStop};
 ghost use Rattle.echo_toss.specs.PacketSteps.{CountsToss};
 ghost use Rattle.echo_toss.specs.PacketsIn.{GoesOnUnlessFailed, messages_answer, packet_answer, stop_in, toss_answer};
@@ -19,7 +19,9 @@ use disk_io::Source;
 use echo_addr::Address;
 use echo_links::LinkFile;
 use echo_packet::{HEADER_BYTES, Limits, Packed, read_next};
-use echo_toss::{Outcome, StoppedToss, Tally, TossCause, TossStop, opened, toss_in};
+use echo_toss::{
+    Outcome, StoppedToss, Tally, TossCause, TossStepError, check_destination, toss_step,
+};
 use std::alloc::{AllocError, Global};
 
 /// Tosses the packet at the front of the reader into the store, as `toss_packet_in` does. It appends to the
@@ -48,10 +50,10 @@ pub fn toss_noting_in<T: Store, R: Source>(
     ensures room { vec_len text.new + room ≤ vec_capacity text.new }
 {
     let mut tally = Tally::NONE;
-    let sender = match opened(links, reader) {
+    let sender = match check_destination(links, reader) {
         Ok(sender) => sender,
         Err(cause) => {
-            let stop = TossStop::Packet(cause);
+            let stop = TossStepError::Packet(cause);
             return Err(StoppedToss { tally, stop });
         }
     };
@@ -75,7 +77,7 @@ fn note_messages_in<T: Store, R: Source>(
     tally: &mut Tally,
     text: &mut Vec<u8>,
     room: usize,
-) -> Result<(), TossStop>
+) -> Result<(), TossStepError>
     requires ready { (T.state store.old).is_ready }
     requires none { tally.old ≡ tally_of [] }
     requires small { room < 2 ^ 62 }
@@ -94,7 +96,7 @@ fn note_messages_in<T: Store, R: Source>(
         let begun = place;
         match read_next(alloc, reader, limits, given, &mut place)? {
             Some(message) => {
-                let outcome = toss_in(alloc, links, store, sender, &message)?;
+                let outcome = toss_step(alloc, links, store, sender, &message)?;
                 note_in(alloc, text, room, given + 1, begun, outcome, &message)?;
                 tally.count(outcome);
                 given += 1;
@@ -113,7 +115,7 @@ fn note_in(
     place: u64,
     outcome: Outcome,
     message: &Packed,
-) -> Result<(), TossStop>
+) -> Result<(), TossStepError>
     requires small { room < 2 ^ 62 }
     requires room { vec_len text.old + room ≤ vec_capacity text.old }
     ensures ok { OnOk result (text.new.items ≡ text.old.items ++ note_of number place outcome message.now) }
@@ -124,7 +126,7 @@ fn note_in(
 {
     match note_outcome(alloc, text, room, number, place, outcome, message) {
         Ok(()) => Ok(()),
-        Err(_) => Err(TossStop::Packet(TossCause::Memory)),
+        Err(_) => Err(TossStepError::Packet(TossCause::Memory)),
     }
 }
 

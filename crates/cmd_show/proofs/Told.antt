@@ -11,7 +11,7 @@ use Rattle.echo_links.specs.LinkLines.{LinksOf, file_fault, file_lines, first_fa
 use Rattle.echo_links.proofs.LinkBytes.{no_lines_left}
 use Rattle.cmd_show.specs.declared.faulty.FaultyLine.{FaultyLine}
 use Rattle.cmd_show.specs.declared.words.Wrong.{Wrong}
-use Rattle.cmd_show.specs.FaultyLines.{faults_of, faulty_among, faulty_lines, good_with, is_homeless, told_of, told_with}
+use Rattle.cmd_show.specs.FaultyLines.{faults_of, faulty_among, faulty_lines, good_with, is_homeless, reported_lines, told_with}
 use Rattle.cmd_show.specs.declared.judged.Judged.TheVariants.{Faulty}
 use Rattle.cmd_show.specs.Judging.{IsJudged, is_memory}
 use Rattle.cmd_show.specs.Before.{IsBefore, JudgesLine, SaidBefore, line_told}
@@ -100,7 +100,7 @@ module _ (bytes : List ℕ) where
   of_a_line why is other =
       first_of_lines [] 1 (file_lines bytes) why (of_lines (first_fault [] 1 (file_lines bytes)) (list_any is_system_line (read_lines bytes)) why other is)
 
-  by_fault : (o : Option LinkFault) → file_fault bytes ≡ o → option_map (λ (l : FaultyLine). l.fault) (slice_get (told_of bytes o) 0) ≡ o
+  by_fault : (o : Option LinkFault) → file_fault bytes ≡ o → option_map (λ (l : FaultyLine). l.fault) (slice_get (reported_lines bytes o) 0) ≡ o
   by_fault None is = refl
   by_fault (Some why) is = elim (cases_Bool (is_homeless why)) [
     | inl alone ↦ ap (λ b. option_map (λ (l : FaultyLine). l.fault) (slice_get (cond b (record { fault = why; word = [] } ∷ []) (faulty_lines bytes)) 0)) alone
@@ -114,13 +114,13 @@ module _ (bytes : List ℕ) where
   first_told = by_fault (file_fault bytes) refl
 
   -- what is told of a file with this fault is all that is wrong with it
-  pub told_with_fault : (why : LinkFault) (told : List FaultyLine) → file_fault bytes ≡ Some why → told ≡ told_of bytes (Some why) → told ≡ faults_of bytes
+  pub told_with_fault : (why : LinkFault) (told : List FaultyLine) → file_fault bytes ≡ Some why → told ≡ reported_lines bytes (Some why) → told ≡ faults_of bytes
   unfolding faults_of
-  told_with_fault why told is so = so ∙ ap (told_of bytes) (sym is)
+  told_with_fault why told is so = so ∙ ap (reported_lines bytes) (sym is)
 
 -- a file was judged, where it was not for want of memory that it was not read
 pub judged_faulty : (bytes : List ℕ) (why : LinkFault) (told : List FaultyLine) (read : Result LinkFile LinkFault) → read ≡ Err why
-    → (read ≡ Err fault.Memory) ⊎ LinksOf bytes read → is_memory why ≡ false → told ≡ told_of bytes (Some why) → IsJudged bytes (Faulty told)
+    → (read ≡ Err fault.Memory) ⊎ LinksOf bytes read → is_memory why ≡ false → told ≡ reported_lines bytes (Some why) → IsJudged bytes (Faulty told)
 judged_faulty bytes why told read is judged other so = by read is judged
   where
     by : (r : Result LinkFile LinkFault) → r ≡ Err why → (r ≡ Err fault.Memory) ⊎ LinksOf bytes r → IsJudged bytes (Faulty told)

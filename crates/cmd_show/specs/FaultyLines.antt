@@ -81,10 +81,10 @@ is_homeless (fault.NoSystem number) = true
 is_homeless _ = false
 
 -- the reported lines of a file with this fault: only that no line has the own address, or each faulty line
-abbrev pub told_of : List ℕ → Option LinkFault → List FaultyLine
-told_of bytes None = []
-told_of bytes (Some why) = if is_homeless why then record { fault = why; word = [] } ∷ [] else faulty_lines bytes
+abbrev pub reported_lines : List ℕ → Option LinkFault → List FaultyLine
+reported_lines bytes None = []
+reported_lines bytes (Some why) = if is_homeless why then record { fault = why; word = [] } ∷ [] else faulty_lines bytes
 
 -- all that is wrong with a link file
 unfoldable pub faults_of : List ℕ → List FaultyLine
-faults_of bytes = told_of bytes (file_fault bytes)
+faults_of bytes = reported_lines bytes (file_fault bytes)

@@ -6,7 +6,7 @@ ghost use Rattle.cmd_status.specs.Inputs.{IsBaseGiven};
 ghost use Rattle.cmd_status.specs.Lines.{PassesOn, WritesFront};
 ghost use Rattle.cmd_show.specs.Exporting.{ExportAnswers, is_exported, is_sought, lost_line, sought_count, sought_lost, sought_text, sought_texts, state_of};
 
-use crate::listing::{base_read, is_of_area, raised};
+use crate::listing::{base_read, is_of_area, upper_tag};
 use base_file::Base;
 use cmd_status::{Fault, pass_on, print_rest};
 use disk_io::Sink;
@@ -51,7 +51,7 @@ fn export_read<'a, S: BuildHasher, W: Sink>(
     ensures { (bytes : List ℕ) → IsBaseGiven (Some bytes) base.now.messages base.now.cursor
         → ExportAnswers form (option_copied area.entry) first purged bytes (output_of W.contents W.failures W.holds out.old) (output_of W.contents W.failures W.holds out.new) result }
 {
-    let area = raised(alloc, area)?;
+    let area = upper_tag(alloc, area)?;
     let mut lines = Vec::new(alloc);
     let count = print_sought(
         alloc,

@@ -11,7 +11,7 @@ ghost use Rattle.cmd_status.specs.Inputs.{IsBaseGiven};
 use crate::AreaCounts;
 use crate::area_counts::{note_message, print_areas};
 use crate::folder_listing::message_of;
-use base_folder::Seen;
+use base_folder::FolderSnapshot;
 use base_store::Digest;
 use cmd_status::{Fault, Status};
 use disk_io::Sink;
@@ -22,7 +22,7 @@ use std::collections::BTreeMap;
 /// of the same messages.
 pub fn list_areas_seen<'a, H: Digest, W: Sink>(
     alloc: Global,
-    seen: &Seen,
+    seen: &FolderSnapshot,
     out: &mut W,
 ) -> Result<Status, Fault<'a>>
     ensures answers { (base : model.Base) (file : List ℕ) → SeesBase H.keyed 0 base seen.now → IsBaseGiven (Some file) base.messages base.cursor
@@ -38,7 +38,7 @@ pub fn list_areas_seen<'a, H: Digest, W: Sink>(
 // The counts of each area.
 fn count_seen<'a, H: Digest>(
     alloc: Global,
-    seen: &Seen,
+    seen: &FolderSnapshot,
 ) -> Result<BTreeMap<Vec<u8>, AreaCounts>, Fault<'a>>
     ensures counts { (base : model.Base) → SeesBase H.keyed 0 base seen.now → IfOk result (λ counts. HaveCounts (λ key. key.items) counts.entries base.messages base.cursor) }
     ensures ascending { IfOk result (λ counts. Ascend (λ key. key.items) counts.entries) }

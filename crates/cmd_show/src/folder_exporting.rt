@@ -11,8 +11,8 @@ ghost use Rattle.cmd_status.specs.Lines.{PassesOn, WritesFront};
 
 use crate::exporting::print_one;
 use crate::folder_listing::{begin_at, message_of};
-use crate::raised;
-use base_folder::Seen;
+use crate::upper_tag;
+use base_folder::FolderSnapshot;
 use base_store::Digest;
 use cmd_status::{Fault, print_rest};
 use disk_io::Sink;
@@ -29,14 +29,14 @@ pub fn export_seen<'a, H: Digest, W: Sink>(
     area: Option<&[u8]>,
     first: u64,
     purged: bool,
-    seen: &Seen,
+    seen: &FolderSnapshot,
     out: &mut W,
 ) -> Result<u128, Fault<'a>>
     ensures answers { (base : model.Base) (file : List ℕ) → SeesBase H.keyed first base seen.now → IsBaseGiven (Some file) base.messages base.cursor
         → ExportAnswers form (option_copied area.entry) first purged file (output_of W.contents W.failures W.holds out.old) (output_of W.contents W.failures W.holds out.new) result }
     ensures vouched { OnOk result ((i : ℕ) → first ≤ i → i < length seen.now.keys.items / 16 → IsVouched H.keyed seen.now i) }
 {
-    let area = raised(alloc, area)?;
+    let area = upper_tag(alloc, area)?;
     let mut lines = Vec::new(alloc);
     let count = print_seen::<H, W>(
         alloc,
@@ -60,7 +60,7 @@ fn print_seen<'a, H: Digest, W: Sink>(
     area: Option<&Items<u8>>,
     first: u64,
     purged: bool,
-    seen: &Seen,
+    seen: &FolderSnapshot,
     lines: &mut Vec<u8>,
     out: &mut W,
 ) -> Result<u128, Fault<'a>>

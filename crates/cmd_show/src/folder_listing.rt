@@ -11,9 +11,9 @@ ghost use Rattle.cmd_status.specs.Ended.{IsOutOfMemory, Stops};
 ghost use Rattle.cmd_status.specs.Inputs.{IsBaseGiven};
 ghost use Rattle.cmd_status.specs.Lines.{PassesOn, WritesFront};
 
-use crate::{Asked, print_message, raised};
+use crate::{Asked, print_message, upper_tag};
 use base_file::BaseFault;
-use base_folder::Seen;
+use base_folder::FolderSnapshot;
 use base_folder_store::Alone;
 use base_store::{Digest, StoreError};
 use cmd_print::{ListForm, push_base_total};
@@ -29,14 +29,14 @@ pub fn list_seen<'a, H: Digest, W: Sink>(
     form: ListForm,
     area: Option<&[u8]>,
     first: u64,
-    seen: &Seen,
+    seen: &FolderSnapshot,
     out: &mut W,
 ) -> Result<Status, Fault<'a>>
     ensures answers { (base : model.Base) (file : List ℕ) → SeesBase H.keyed first base seen.now → IsBaseGiven (Some file) base.messages base.cursor
         → ListAnswers form (option_copied area.entry) first file (output_of W.contents W.failures W.holds out.old) (output_of W.contents W.failures W.holds out.new) result }
     ensures vouched { OnOk result ((i : ℕ) → first ≤ i → i < length seen.now.keys.items / 16 → IsVouched H.keyed seen.now i) }
 {
-    let area = raised(alloc, area)?;
+    let area = upper_tag(alloc, area)?;
     let asked = Asked { form, area, first };
     let mut lines = Vec::new(alloc);
     print_messages::<H, W>(alloc, &asked, seen, &mut lines, out)?;
@@ -50,7 +50,7 @@ pub fn list_seen<'a, H: Digest, W: Sink>(
 /// The message of this number. A damaged one is F3.
 pub(crate) fn message_of<'a, H: Digest>(
     alloc: Global,
-    seen: &Seen,
+    seen: &FolderSnapshot,
     i: usize,
 ) -> Result<Alone, Fault<'a>>
     requires { i < length seen.now.keys.items / 16 }
@@ -80,7 +80,7 @@ pub fn begin_at(first: u64, count: usize) -> usize
 /// Reads the messages from one number up to another, so that of a damaged one nothing has to be printed before it.
 pub fn judge_messages<'a, H: Digest>(
     alloc: Global,
-    seen: &Seen,
+    seen: &FolderSnapshot,
     from: usize,
     to: usize,
 ) -> Result<(), Fault<'a>>
@@ -98,7 +98,7 @@ pub fn judge_messages<'a, H: Digest>(
 fn print_messages<'a, H: Digest, W: Sink>(
     alloc: Global,
     asked: &Asked,
-    seen: &Seen,
+    seen: &FolderSnapshot,
     lines: &mut Vec<u8>,
     out: &mut W,
 ) -> Result<(), Fault<'a>>

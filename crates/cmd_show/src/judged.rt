@@ -1,6 +1,6 @@
 //! A link file judged as a whole.
 ghost use Rattle.std.specs.Prelude.{◌≡◌, false, IfOk, Some};
-ghost use Rattle.cmd_show.specs.FaultyLines.{is_homeless, told_of};
+ghost use Rattle.cmd_show.specs.FaultyLines.{is_homeless, reported_lines};
 ghost use Rattle.cmd_show.specs.Judging.{IsJudged, is_memory};
 
 use crate::before::faulty_lines;
@@ -25,13 +25,17 @@ pub fn judge(alloc: Global, bytes: &[u8]) -> Result<Judged, AllocError>
 {
     match LinkFile::read(alloc, bytes) {
         Ok(file) => Ok(Judged::Good(file)),
-        Err(why) => Ok(Judged::Faulty(Items::new(told_of(alloc, bytes, why)?))),
+        Err(why) => Ok(Judged::Faulty(Items::new(reported_lines(alloc, bytes, why)?))),
     }
 }
 
 // The reported lines of a file with this fault.
-fn told_of(alloc: Global, bytes: &[u8], why: LinkFault) -> Result<Vec<FaultyLine>, AllocError>
-    ensures told { IfOk result (λ told. told.items ≡ told_of bytes.now (Some why)) }
+fn reported_lines(
+    alloc: Global,
+    bytes: &[u8],
+    why: LinkFault,
+) -> Result<Vec<FaultyLine>, AllocError>
+    ensures told { IfOk result (λ told. told.items ≡ reported_lines bytes.now (Some why)) }
     ensures memory { IfOk result (λ told. is_memory why ≡ false) }
 {
     if is_memory(why) {

@@ -48,6 +48,6 @@ pub use laws::one_printing;
 pub use link_laws::first_fault_is_told_first;
 pub use linking::{NamedFile, links};
 pub use links_text::{fault_number, push_number};
-pub use listing::{Asked, list, print_message, raised};
+pub use listing::{Asked, list, print_message, upper_tag};
 pub use nodelists::nodelist;
 pub use showing::show;

@@ -56,7 +56,7 @@ fn list_read<'a, S: BuildHasher, W: Sink>(
     ensures { (bytes : List ℕ) → IsBaseGiven (Some bytes) base.now.messages base.now.cursor
         → ListAnswers form (option_copied area.entry) first bytes (output_of W.contents W.failures W.holds out.old) (output_of W.contents W.failures W.holds out.new) result }
 {
-    let area = raised(alloc, area)?;
+    let area = upper_tag(alloc, area)?;
     let asked = Asked { form, area, first };
     let mut lines = Vec::new(alloc);
     print_messages(&asked, base, &mut lines, out)?;
@@ -78,8 +78,8 @@ pub(crate) fn base_read<'a, S: BuildHasher + Drop>(
 }
 
 /// The tag in capital letters, if one is given.
-pub fn raised(alloc: Global, area: Option<&[u8]>) -> Result<Option<Items<u8>>, AllocError>
-    ensures { IfOk result (λ raised. raised ≡ option_map upper (option_copied area.entry)) }
+pub fn upper_tag(alloc: Global, area: Option<&[u8]>) -> Result<Option<Items<u8>>, AllocError>
+    ensures { IfOk result (λ upper_tag. upper_tag ≡ option_map upper (option_copied area.entry)) }
 {
     match area {
         Some(tag) => Ok(Some(Items::new(tag.to_ascii_uppercase(alloc)?))),

@@ -10,7 +10,7 @@ use cmd_input::{LinkLock, MAX_TEXT_FILE, moment_of, read_file, read_standard_inp
 use cmd_numbered::refuse_message;
 use cmd_report::{Answer, NewMessage};
 use cmd_status::{Fault, Status, number_of};
-use cmd_store::{LetterFault, MailWords, Post, PostMail, Purge, Reply, Spare};
+use cmd_store::{LetterFault, MailDefaults, MailWords, Post, PostMail, Purge, Reply};
 use cmd_words::{PostMailWords, PostStoredWords, PostWords, ReplyWords};
 use disk_io::{Disk, Sink};
 use disk_system::{RealDisk, Unknown};
@@ -175,7 +175,7 @@ fn mail_asked<'a>(
 ) -> Result<(MailWords<'a>, Vec<u8>), Fault<'a>> {
     let (serial, free) = serial_from(rt, words.serial)?;
     let stamp = moment_of(rt, words.at)?;
-    let spare = Spare {
+    let spare = MailDefaults {
         area: words.area,
         to: words.to,
         from: words.from,

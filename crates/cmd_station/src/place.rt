@@ -8,7 +8,7 @@ use cmd_status::Fault;
 use disk_io::Disk;
 use disk_system::{OutputFault, RealDisk, Unknown, target_of};
 use station::{FileLock, Locks, links_at, lock_at};
-use station_bases::Found;
+use station_bases::FolderProbe;
 
 /// The paths of the link file and of the base of a system.
 #[derive(Clone, Copy)]
@@ -22,7 +22,7 @@ pub struct Place<'a> {
 #[derive(Drop)]
 pub struct FoundBase<'r> {
     path: String,
-    folder: Option<Found>,
+    folder: Option<FolderProbe>,
     files: BaseFiles<'r>,
 }
 
@@ -33,7 +33,7 @@ pub struct Station<'a> {
     pub place: Place<'a>,
     pub path: &'a str,
     /// What was found of its base, where that is a folder.
-    pub folder: Option<Found>,
+    pub folder: Option<FolderProbe>,
     /// What its base is replaced on, where that is a file.
     pub files: &'a BaseFiles<'a>,
 }

@@ -11,11 +11,11 @@ use base_store::{SipDigest, StoreError};
 use cmd_base::Opened;
 use cmd_input::{Messages, Progress, Tossing, look_into};
 use cmd_status::Fault;
-use cmd_store::{Stop, StoreCommand};
+use cmd_store::{CommandError, StoreCommand};
 use disk_io::{Disk, Sink};
 use disk_system::{RealDisk, Unknown};
 use station::{FileLock, Locks, Nothing, OpenStation, Unread, run_command};
-use station_bases::{FileStation, FolderPlace, FolderStation, Found};
+use station_bases::{FileStation, FolderPlace, FolderProbe, FolderStation};
 use std::collections::hash_map::RandomState;
 use std::marker::PhantomData;
 use std::rt::Files;
@@ -56,12 +56,12 @@ fn run_on_file<'a, C: StoreCommand<'a>, L: FileLock, K: FileLock, W: Sink>(
     before: Before<'a>,
     command: &mut C,
     out: &mut W,
-) -> Result<C::Answer, Stop<'a>>
+) -> Result<C::Answer, CommandError<'a>>
     requires { AreFree (L.held locks.old.links) (K.held locks.old.base) }
 {
     let done = match file_station(at, before.progress) {
         Ok(station) => run_over(at, at.files, locks, station, before.unread, command, out),
-        Err(fault) => Err(Stop::Met(fault)),
+        Err(fault) => Err(CommandError::Met(fault)),
     };
     at.files.tidy();
     done
@@ -76,7 +76,7 @@ fn run_over<'a, F: Files + Drop + 'a, C: StoreCommand<'a>, L: FileLock, K: FileL
     unread: Option<Fault<'a>>,
     command: &mut C,
     out: &mut W,
-) -> Result<C::Answer, Stop<'a>>
+) -> Result<C::Answer, CommandError<'a>>
     requires { AreFree (L.held locks.old.links) (K.held locks.old.base) }
 {
     let disk = RealDisk::new(files, Unknown);
@@ -100,7 +100,7 @@ fn run_unprepared<
     unread: Option<Fault<'a>>,
     command: &mut C,
     out: &mut W,
-) -> Result<C::Answer, Stop<'a>>
+) -> Result<C::Answer, CommandError<'a>>
     requires free { AreFree (L.held locks.old.links) (K.held locks.old.base) }
     requires can { Honestly (D.state disk) (P.can_open station (D.state disk)) }
 {
@@ -141,11 +141,11 @@ pub fn file_station<'a>(
 fn run_on_folder<'a, C: StoreCommand<'a>, L: FileLock, K: FileLock, W: Sink>(
     at: Station<'a>,
     locks: &mut Locks<L, K>,
-    found: Found,
+    found: FolderProbe,
     before: Before<'a>,
     command: &mut C,
     out: &mut W,
-) -> Result<C::Answer, Stop<'a>>
+) -> Result<C::Answer, CommandError<'a>>
     requires { AreFree (L.held locks.old.links) (K.held locks.old.base) }
 {
     let disk = RealDisk::new(at.rt, Unknown);
@@ -169,7 +169,7 @@ fn run_opened<'a, D: Disk + Drop, C: StoreCommand<'a>, L: FileLock, K: FileLock,
     before: Before<'a>,
     command: &mut C,
     out: &mut W,
-) -> Result<C::Answer, Stop<'a>>
+) -> Result<C::Answer, CommandError<'a>>
     requires free { AreFree (L.held locks.old.links) (K.held locks.old.base) }
     requires alone { Honestly (D.state disk) (AreAlone station.at.path.now (D.state disk)) }
 {
@@ -190,7 +190,7 @@ fn run_opened<'a, D: Disk + Drop, C: StoreCommand<'a>, L: FileLock, K: FileLock,
 }
 
 /// A station whose base is a folder, of which this was found.
-pub fn folder_station<'a>(at: Station<'a>, found: Found) -> FolderStation<'a, SipDigest> {
+pub fn folder_station<'a>(at: Station<'a>, found: FolderProbe) -> FolderStation<'a, SipDigest> {
     FolderStation {
         at: FolderPlace {
             links: at.place.links,
@@ -203,9 +203,12 @@ pub fn folder_station<'a>(at: Station<'a>, found: Found) -> FolderStation<'a, Si
 }
 
 /// Why a command on a station stopped. Of a base folder with a damaged message it is reported which one is the first.
-pub fn fault_of<'a>(at: Station<'a>, stop: Stop<'a>) -> Fault<'a> {
+pub fn fault_of<'a>(at: Station<'a>, stop: CommandError<'a>) -> Fault<'a> {
     match stop {
-        Stop::Store(StoreError::Damaged) if at.folder.is_some() => damaged_in(at.rt, at.place.base),
+        CommandError::Store(StoreError::Damaged) if at.folder.is_some() => damaged_in(
+            at.rt,
+            at.place.base,
+        ),
         other => by_name(at, other.fault(at.place.base)),
     }
 }

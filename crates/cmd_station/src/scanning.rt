@@ -11,14 +11,14 @@ use base_store::{SipDigest, StoreError};
 use cmd_base::{LeftFiles, Opened, ScanFiles};
 use cmd_input::{Messages, Progress, folder_path, moment_of};
 use cmd_status::{Fault, Status};
-use cmd_store::Stop;
+use cmd_store::CommandError;
 use disk_atomic::PlacingError;
 use disk_io::{Disk, Sink};
 use disk_system::{RealDisk, Unknown};
 use model_steps::Stamp;
-use station::{FileLock, LendStation, Locks, Nothing, OpenStation};
-use station_bases::{FileStation, FolderStation, Found};
-use station_scan::{Scan as Wanted, ScanStop, Watching, run_scan as scan_station};
+use station::{FileLock, LendStation, Locks, MessageProgress, Nothing, OpenStation};
+use station_bases::{FileStation, FolderProbe, FolderStation};
+use station_scan::{Scan as Wanted, ScanError, run_scan as scan_station};
 use std::collections::hash_map::RandomState;
 use std::rt::Files;
 
@@ -140,12 +140,12 @@ fn scan_file<'a, F: Files + Drop + 'a, L: FileLock, K: FileLock, W: Sink>(
     files: F,
     locks: &mut Locks<L, K>,
     out: &mut W,
-) -> Result<(), ScanStop<'a>>
+) -> Result<(), ScanError<'a>>
     requires { AreFree (L.held locks.old.links) (K.held locks.old.base) }
 {
     match file_station(scan.at, Some(progress)) {
         Ok(station) => scan_over(scan, progress, files, locks, station, out),
-        Err(fault) => Err(ScanStop::Command(Stop::Met(fault))),
+        Err(fault) => Err(ScanError::Command(CommandError::Met(fault))),
     }
 }
 
@@ -157,7 +157,7 @@ fn scan_over<'a, F: Files + Drop + 'a, L: FileLock, K: FileLock, W: Sink>(
     locks: &mut Locks<L, K>,
     station: FileStation<'a, RandomState, Messages<'a, 'a>>,
     out: &mut W,
-) -> Result<(), ScanStop<'a>>
+) -> Result<(), ScanError<'a>>
     requires { AreFree (L.held locks.old.links) (K.held locks.old.base) }
 {
     let disk = RealDisk::new(files, Unknown);
@@ -168,17 +168,17 @@ fn scan_over<'a, F: Files + Drop + 'a, L: FileLock, K: FileLock, W: Sink>(
 fn report_scanned<E: Sink>(
     scan: Scan<'_>,
     files: &ScanFiles<'_, '_>,
-    done: Result<(), ScanStop<'_>>,
+    done: Result<(), ScanError<'_>>,
     errors: &mut E,
 ) -> Status {
     match done {
         Ok(()) => Status::Good,
-        Err(ScanStop::Command(stop)) => fault_of(scan.at, stop).report(errors),
-        Err(ScanStop::TooFar) => {
-            fault_of(scan.at, Stop::Store(StoreError::TooMany)).report(errors)
+        Err(ScanError::Command(stop)) => fault_of(scan.at, stop).report(errors),
+        Err(ScanError::TooFar) => {
+            fault_of(scan.at, CommandError::Store(StoreError::TooMany)).report(errors)
         }
-        Err(ScanStop::Placing(cause)) => report_unplaced(scan, files, cause, errors),
-        Err(ScanStop::Staying(cause)) => {
+        Err(ScanError::Placing(cause)) => report_unplaced(scan, files, cause, errors),
+        Err(ScanError::Staying(cause)) => {
             report_unplaced(scan, files, PlacingError::from(cause), errors)
         }
     }
@@ -192,7 +192,7 @@ fn scan_unprepared<'a, D: Disk + Drop, P: LendStation<'a, D>, L: FileLock, K: Fi
     locks: &mut Locks<L, K>,
     station: P,
     out: &mut W,
-) -> Result<(), ScanStop<'a>>
+) -> Result<(), ScanError<'a>>
     requires free { AreFree (L.held locks.old.links) (K.held locks.old.base) }
     requires can { Honestly (D.state disk) (P.can_open station (D.state disk)) }
 {
@@ -214,9 +214,9 @@ fn scan_folder<'a, F: Files + Drop + 'a, L: FileLock, K: FileLock, W: Sink>(
     progress: &'a Progress<'a>,
     files: F,
     locks: &mut Locks<L, K>,
-    found: Found,
+    found: FolderProbe,
     out: &mut W,
-) -> Result<(), ScanStop<'a>>
+) -> Result<(), ScanError<'a>>
     requires { AreFree (L.held locks.old.links) (K.held locks.old.base) }
 {
     let disk = RealDisk::new(files, Unknown);
@@ -238,7 +238,7 @@ fn scan_opened<'a, D: Disk + Drop, L: FileLock, K: FileLock, W: Sink>(
     locks: &mut Locks<L, K>,
     station: FolderStation<'a, SipDigest>,
     out: &mut W,
-) -> Result<(), ScanStop<'a>>
+) -> Result<(), ScanError<'a>>
     requires free { AreFree (L.held locks.old.links) (K.held locks.old.base) }
     requires alone { Honestly (D.state disk) (AreAlone station.at.path.now (D.state disk)) }
 {
@@ -275,7 +275,7 @@ struct ScanProgress<'p> {
     progress: &'p Progress<'p>,
 }
 
-impl Watching for ScanProgress<'_> {
+impl MessageProgress for ScanProgress<'_> {
     fn tell(&self, place: usize, messages: usize) {
         if place % SOME == 0 && self.progress.is_due() {
             self.progress

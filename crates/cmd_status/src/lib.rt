@@ -21,6 +21,6 @@ mod status;
 pub use fault::Fault;
 pub use inputs::{link_files, nodelist_given};
 pub use limits::{LIMITS, limits_for};
-pub use options::{number_of, serial_of, stamp_of, wanted};
+pub use options::{number_of, parse_address, serial_of, stamp_of};
 pub use printing::{pass_on, print_rest};
 pub use status::{Status, ended};

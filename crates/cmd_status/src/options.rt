@@ -14,7 +14,7 @@ use echo_addr::{Address, number};
 use model_steps::Stamp;
 
 /// The address that the word after `--find` writes.
-pub fn wanted<'a>(word: &str) -> Result<Address, Fault<'a>>
+pub fn parse_address<'a>(word: &str) -> Result<Address, Fault<'a>>
     ensures ok { IfOk result (λ a. AddressOf word.now a) }
     ensures refused { IfErr result (λ fault. (fault ≡ BadAddress) × IsSome (refusal word.now)) }
 {

@@ -4,15 +4,15 @@ use Rattle.std.specs.Prelude.{IfErr, OnOk}
 use Rattle.base_file.specs.Base.{Base}
 use Rattle.disk_io.specs.Disk.{Files, Honestly}
 use Rattle.disk_io.proofs.Moments.{then_nothing, then_run, weaker_run}
-use Rattle.base_store.specs.Store.{Commits, CommitsNothing, GoesOn, HasStoreCause, IsSameStore, KeepsBeside, KeepsOrCommits, LooksOn, MayCommit, StandsBeside, StandsForEither, StoreState}
+use Rattle.base_store.specs.Store.{Commits, CommitsNothing, GoesOn, HasStoreCause, IsSameStore, KeepsBeside, KeepsOrCommits, LooksOn, MayCommit, LeavesCommitted, LeavesEither, StoreState}
 use Rattle.base_store.specs.declared.store_error.StoreError.{StoreError}
 use Rattle.base_store.proofs.Causes.{cause_after, no_cause}
 use Rattle.base_store.proofs.Runs.{commits_none, goes_on_twice, looks_commit, looks_go_on, same_twice}
-use Rattle.echo_toss.specs.declared.stop.PostStop.{PostStop}
-use Rattle.echo_toss.specs.declared.stop.PostStop.TheVariants as post
+use Rattle.echo_toss.specs.declared.step_error.PostStepError.{PostStepError}
+use Rattle.echo_toss.specs.declared.step_error.PostStepError.TheVariants as post
 use Rattle.echo_toss.specs.Stores.{LooksWhereRefused}
-use Rattle.cmd_store.specs.declared.stop.Stop.{Stop}
-use Rattle.cmd_store.specs.declared.stop.Stop.TheVariants.{Met, Store}
+use Rattle.cmd_store.specs.declared.command_error.CommandError.{CommandError}
+use Rattle.cmd_store.specs.declared.command_error.CommandError.TheVariants.{Met, Store}
 use Rattle.cmd_store.specs.Stops.{IsOfStore, post_stop}
 use Rattle.cmd_store.specs.Answered.{CommitsNoneWhereMet, GoesOnFromEither, HasCommitted, LooksWhereMet, MayCommitWhereMet, MayMake, StandsForMade}
 
@@ -32,7 +32,7 @@ kept_twice old mid new same first second =
 pub none_may : (old new : StoreState) → CommitsNothing old new → MayCommit old new
 none_may old new none = record {
   any_moment = λ honest first next is h.
-      weaker_run old.disk new.disk (StandsBeside old first) (StandsForEither old first next) (none.any_moment honest first is) (λ c s. record { beside = s.beside; stands = inl s.stands });
+      weaker_run old.disk new.disk (LeavesCommitted old first) (LeavesEither old first next) (none.any_moment honest first is) (λ c s. record { beside = s.beside; stands = inl s.stands });
   beside = none.beside;
   same = none.same;
 }
@@ -45,14 +45,14 @@ looks_may old new ready looks = none_may old new (looks_commit old new ready loo
 pub makes_none : (Makes : Base → Base → Type 0) (old new : StoreState) → CommitsNothing old new → MayMake Makes old new
 makes_none Makes old new none = record {
   any_moment = λ honest first base is h.
-      weaker_run old.disk new.disk (StandsBeside old first) (StandsForMade old (Makes base) first) (none.any_moment honest first is) (λ c s. record { beside = s.beside; stands = inl s.stands });
+      weaker_run old.disk new.disk (LeavesCommitted old first) (StandsForMade old (Makes base) first) (none.any_moment honest first is) (λ c s. record { beside = s.beside; stands = inl s.stands });
   beside = none.beside;
   same = none.same;
 }
 
 -- what a crash leaves of a commit, as it stood before the command
 pub stood_made : (Makes : Base → Base → Type 0) (old mid : StoreState) (first base next : Base) (c : Files) → CommitsNothing old mid → Makes base next
-    → StandsForEither mid first next c → StandsForMade old (Makes base) first c
+    → LeavesEither mid first next c → StandsForMade old (Makes base) first c
 stood_made Makes old mid first base next c none made either = record {
   beside = λ m other named flushed.
       either.beside m (λ own. other ((none.same.own m).0 own)) (none.beside.named m other named) (none.beside.flushed m other flushed) ∙ none.beside.seen m other;
@@ -66,41 +66,41 @@ makes_then Makes old mid new none on made may = record {
   any_moment = λ honest first base is h.
       let before = may.beside.honest honest in
       let next = made before base h in
-      then_run old.disk mid.disk new.disk (StandsForMade old (Makes base) first) (StandsForEither mid first next.0)
-      (weaker_run old.disk mid.disk (StandsBeside old first) (StandsForMade old (Makes base) first) (none.any_moment before first is) (λ c s. record { beside = s.beside; stands = inl s.stands }))
+      then_run old.disk mid.disk new.disk (StandsForMade old (Makes base) first) (LeavesEither mid first next.0)
+      (weaker_run old.disk mid.disk (LeavesCommitted old first) (StandsForMade old (Makes base) first) (none.any_moment before first is) (λ c s. record { beside = s.beside; stands = inl s.stands }))
       (may.any_moment honest first next.0 (on.committed before first is) next.2) (λ c either. stood_made Makes old mid first base next.0 c none next.1 either);
   beside = kept_twice old mid new none.same none.beside may.beside;
   same = same_twice old mid new none.same may.same;
 }
 
 -- a base that was made is committed
-pub committed_where : {A : Type 0} (IsMade : Base → Type 0) (mid new : StoreState) (next : Base) (result : Result A Stop) → new.disk.is_honest → OnOk result (Commits mid new) → IsMade next → mid.keeps next
+pub committed_where : {A : Type 0} (IsMade : Base → Type 0) (mid new : StoreState) (next : Base) (result : Result A CommandError) → new.disk.is_honest → OnOk result (Commits mid new) → IsMade next → mid.keeps next
     → OnOk result (HasCommitted IsMade new)
 committed_where IsMade mid new next (Ok value) honest done made kept = record { next = next; made = made; keeps = done.keeps honest next kept; committed = done.committed honest next kept }
 committed_where IsMade mid new next (Err why) honest done made kept = tt
 
-pub ready_where : {A : Type 0} (mid new : StoreState) (result : Result A Stop) → OnOk result (Commits mid new) → OnOk result new.is_ready
+pub ready_where : {A : Type 0} (mid new : StoreState) (result : Result A CommandError) → OnOk result (Commits mid new) → OnOk result new.is_ready
 ready_where mid new (Ok value) done = done.ready
 ready_where mid new (Err why) done = tt
 
 -- only the store stopped a commit
-pub only_store : {A : Type 0} (old new : StoreState) (result : Result A Stop) → IfErr result IsOfStore → IfErr result (LooksWhereMet old new)
+pub only_store : {A : Type 0} (old new : StoreState) (result : Result A CommandError) → IfErr result IsOfStore → IfErr result (LooksWhereMet old new)
 only_store old new (Ok value) only = tt
 only_store old new (Err (Met fault)) only = absurd only
 only_store old new (Err (Store cause)) only = tt
 
 -- what stopped a command was a look, or the store failed
-pub met_looking : (old new : StoreState) (why : Stop) → old.is_ready → LooksOn old new → CommitsNoneWhereMet old new why
+pub met_looking : (old new : StoreState) (why : CommandError) → old.is_ready → LooksOn old new → CommitsNoneWhereMet old new why
 met_looking old new (Met fault) ready looks = (looks_commit old new ready looks, looks_go_on old new looks)
 met_looking old new (Store cause) ready looks = tt
 
 -- a posting was refused, or the store failed
-pub met_refused : (old new : StoreState) (why : PostStop) → CommitsNothing old new → LooksWhereRefused old new why → CommitsNoneWhereMet old new (post_stop why)
+pub met_refused : (old new : StoreState) (why : PostStepError) → CommitsNothing old new → LooksWhereRefused old new why → CommitsNoneWhereMet old new (post_stop why)
 met_refused old new (post.Refused refusal) none looks = (none, looks_go_on old new looks)
 met_refused old new (post.Store cause) none looks = tt
 
 -- what stopped a command after a change that was not committed
-pub met_after : {A : Type 0} (old mid new : StoreState) (result : Result A Stop) → CommitsNothing old mid → GoesOn old mid → IfErr result (LooksWhereMet mid new)
+pub met_after : {A : Type 0} (old mid new : StoreState) (result : Result A CommandError) → CommitsNothing old mid → GoesOn old mid → IfErr result (LooksWhereMet mid new)
     → IfErr result (CommitsNoneWhereMet old new)
 met_after old mid new (Ok value) none on looks = tt
 met_after old mid new (Err (Met fault)) none on looks =
@@ -110,7 +110,7 @@ met_after old mid new (Err (Store cause)) none on looks = tt
 -- what may be committed, and then nothing more
 may_then_none : (old mid new : StoreState) → MayCommit old mid → mid.is_ready → LooksOn mid new → MayCommit old new
 may_then_none old mid new may ready looks = record {
-  any_moment = λ honest first next is h. then_nothing old.disk mid.disk new.disk (StandsForEither old first next) (may.any_moment (looks.quiet.honest honest) first next is h) looks.quiet;
+  any_moment = λ honest first next is h. then_nothing old.disk mid.disk new.disk (LeavesEither old first next) (may.any_moment (looks.quiet.honest honest) first next is h) looks.quiet;
   beside = kept_twice old mid new may.same may.beside (looks_commit mid new ready looks).beside;
   same = same_twice old mid new may.same looks.same;
 }
@@ -124,7 +124,7 @@ either_then old mid new done looks = record {
 }
 
 -- the same after one that may have committed what was held before
-pub may_after : {A : Type 0} (old mid new : StoreState) (result : Result A Stop) → MayCommit old mid → mid.is_ready → Honestly mid.disk (KeepsOrCommits old mid)
+pub may_after : {A : Type 0} (old mid new : StoreState) (result : Result A CommandError) → MayCommit old mid → mid.is_ready → Honestly mid.disk (KeepsOrCommits old mid)
     → IfErr result (LooksWhereMet mid new) → IfErr result (MayCommitWhereMet old new)
 may_after old mid new (Ok value) may ready done looks = tt
 may_after old mid new (Err (Met fault)) may ready done looks = (may_then_none old mid new may ready looks, either_then old mid new done looks)

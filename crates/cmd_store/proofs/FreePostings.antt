@@ -21,13 +21,13 @@ use Rattle.model_steps.proofs.FirstRefusals.{refusal_first}
 use Rattle.base_store.specs.Store.{LooksOn, StoreState, with_message}
 use Rattle.base_store.proofs.Runs.{looks_twice, no_look}
 use Rattle.echo_text.specs.Ids.{id_of}
-use Rattle.echo_toss.specs.declared.stop.PostStop.{PostStop}
-use Rattle.echo_toss.specs.declared.stop.PostStop.TheVariants as post
+use Rattle.echo_toss.specs.declared.step_error.PostStepError.{PostStepError}
+use Rattle.echo_toss.specs.declared.step_error.PostStepError.TheVariants as post
 use Rattle.echo_toss.specs.PacketsIn.{state_in}
 use Rattle.echo_toss.specs.Stores.{IsPostStop, LooksWhereRefused}
 use Rattle.echo_toss.proofs.Judged.{is_fault}
-use Rattle.cmd_store.specs.declared.stop.Stop.{Stop}
-use Rattle.cmd_store.specs.declared.stop.Stop.TheVariants.{Met}
+use Rattle.cmd_store.specs.declared.command_error.CommandError.{CommandError}
+use Rattle.cmd_store.specs.declared.command_error.CommandError.TheVariants.{Met}
 use Rattle.cmd_store.specs.Answered.{PrintsAll}
 use Rattle.cmd_store.specs.FreeSerial.{FiledAs, FilesAs, IsSerial, PostsAs, PostsAsOn}
 use Rattle.cmd_store.specs.Posted.{Posts, PostsOn}
@@ -79,7 +79,7 @@ never_memory file base tag draft serial stamp fault.Memory is memory = (refusal_
 never_memory file base tag draft serial stamp other is memory = absurd (cc)
 
 -- a message that is refused whatever its serial
-pub refused_on : (file : LinkFile) (new : StoreState) (words : NewMessage) (draft : Draft) (serial : ℕ) (base : Base) (why : PostStop)
+pub refused_on : (file : LinkFile) (new : StoreState) (words : NewMessage) (draft : Draft) (serial : ℕ) (base : Base) (why : PostStepError)
     → IsPostStop file base.messages words.tag.now draft serial words.stamp why → (why ≡ post.Refused fault.KnownSerial → ⊥) → FilesAs true file base words draft (Err why) new
 refused_on file new words draft serial base (post.Refused why) is unless =
     elim (refused_first file base.messages words.tag.now draft words.serial serial words.stamp why (is_fault file base.messages words.tag.now draft serial words.stamp why is) (λ known. unless (rw known refl))) [
@@ -89,16 +89,16 @@ refused_on file new words draft serial base (post.Refused why) is unless =
 refused_on file new words draft serial base (post.Store cause) is unless = tt
 
 -- a refusal after looks has changed nothing
-pub looks_where : (old mid new : StoreState) (why : PostStop) → LooksOn old mid → LooksWhereRefused mid new why → LooksWhereRefused old new why
+pub looks_where : (old mid new : StoreState) (why : PostStepError) → LooksOn old mid → LooksWhereRefused mid new why → LooksWhereRefused old new why
 looks_where old mid new (post.Refused why) looks more = looks_twice old mid new looks more
 looks_where old mid new (post.Store cause) looks more = tt
 
 -- what refused a serial that is known has changed nothing
-pub looks_known : (mid new : StoreState) (why : PostStop) → why ≡ post.Refused fault.KnownSerial → LooksWhereRefused mid new why → LooksOn mid new
+pub looks_known : (mid new : StoreState) (why : PostStepError) → why ≡ post.Refused fault.KnownSerial → LooksWhereRefused mid new why → LooksOn mid new
 looks_known mid new (post.Refused why) known looks = looks
 looks_known mid new (post.Store cause) known looks = absurd (cc)
 
-pub refused_known : (file : LinkFile) (base : List Filed) (tag : List ℕ) (draft : Draft) (serial : ℕ) (stamp : Stamp) (why : PostStop) → why ≡ post.Refused fault.KnownSerial
+pub refused_known : (file : LinkFile) (base : List Filed) (tag : List ℕ) (draft : Draft) (serial : ℕ) (stamp : Stamp) (why : PostStepError) → why ≡ post.Refused fault.KnownSerial
     → IsPostStop file base tag draft serial stamp why → post_refusal file base tag draft serial stamp ≡ Some fault.KnownSerial
 refused_known file base tag draft serial stamp (post.Refused fault.KnownSerial) known is = is
 refused_known file base tag draft serial stamp (post.Refused fault.NoArea) known is = absurd (cc)
@@ -110,7 +110,7 @@ refused_known file base tag draft serial stamp (post.Refused fault.Memory) known
 refused_known file base tag draft serial stamp (post.Store cause) known is = absurd (cc)
 
 -- words with the serial that they are posted with, as the words are to be posted
-posts_as_on : {A : Type 0} (free : Bool) (words : NewMessage) (system : SystemState) (body : List ℕ) (old new : Output) (result : Result A Stop) (serial : ℕ) → IsSerial free system.file system.base words.serial serial
+posts_as_on : {A : Type 0} (free : Bool) (words : NewMessage) (system : SystemState) (body : List ℕ) (old new : Output) (result : Result A CommandError) (serial : ℕ) → IsSerial free system.file system.base words.serial serial
     → PostsOn (with_serial words serial) system body old new result → PostsAsOn free words system body old new result
 posts_as_on true words system body old new result serial is posted = record { serial = serial; first = is; posted = posted }
 posts_as_on false words system body old new result serial is posted = subst (λ (n : ℕ). PostsOn (with_serial words n) system body old new result) is posted
@@ -132,7 +132,7 @@ as_memory free words system body old =
     posts_as_on free words system body old old (Err (Met OutOfMemory)) found.0 found.1 (inr (inl tt, refl))
 
 -- a posting that stopped
-pub as_stopped : (free : Bool) (words : NewMessage) (file : LinkFile) (base : Base) (new : StoreState) (body : List ℕ) (old : Output) (draft : Draft) (why : PostStop) → draft ≡ draft_given words body
+pub as_stopped : (free : Bool) (words : NewMessage) (file : LinkFile) (base : Base) (new : StoreState) (body : List ℕ) (old : Output) (draft : Draft) (why : PostStepError) → draft ≡ draft_given words body
     → FilesAs free file base words draft (Err why) new → PostsAsOn {A = Unit {0}} free words (state_in file base) body old old (Err (post_stop why))
 as_stopped free words file base new body old draft (post.Refused why) drafted (serial, is, refused) =
     posts_as_on free words (state_in file base) body old old (Err (post_stop (post.Refused why))) serial is
@@ -142,7 +142,7 @@ as_stopped free words file base new body old draft (post.Store cause) drafted is
     posts_as_on free words (state_in file base) body old old (Err (post_stop (post.Store cause))) found.0 found.1 (inl refl)
 
 -- the line of a posting is printed
-pub as_printed : {A : Type 0} (free : Bool) (words : NewMessage) (file : LinkFile) (base : Base) (new : StoreState) (body : List ℕ) (serial : ℕ) (before after : Output) (draft : Draft) (result : Result A Stop) → draft ≡ draft_given words body
+pub as_printed : {A : Type 0} (free : Bool) (words : NewMessage) (file : LinkFile) (base : Base) (new : StoreState) (body : List ℕ) (serial : ℕ) (before after : Output) (draft : Draft) (result : Result A CommandError) → draft ≡ draft_given words body
     → FiledAs free file base words draft serial new → PrintsAll (posted_line words.tag.now (id_of file.system serial)) before after result
     → PostsAsOn free words (state_in file base) body before after result
 as_printed free words file base new body serial before after draft result drafted filed out =

@@ -11,24 +11,24 @@ use Rattle.model_steps.specs.Posting.{post_refusal, posted}
 use Rattle.model_steps.specs.SystemState.{SystemState}
 use Rattle.base_store.specs.Store.{HasStoreCause, StoreState, with_message}
 use Rattle.echo_text.specs.Ids.{id_of}
-use Rattle.echo_toss.specs.declared.stop.PostStop.{PostStop}
-use Rattle.echo_toss.specs.declared.stop.PostStop.TheVariants as post
+use Rattle.echo_toss.specs.declared.step_error.PostStepError.{PostStepError}
+use Rattle.echo_toss.specs.declared.step_error.PostStepError.TheVariants as post
 use Rattle.echo_toss.specs.Stores.{IsPostStop, post_answer}
-use Rattle.cmd_store.specs.declared.stop.Stop.{Stop}
+use Rattle.cmd_store.specs.declared.command_error.CommandError.{CommandError}
 use Rattle.cmd_store.specs.Answered.{PrintsAll}
 use Rattle.cmd_store.specs.Posted.{IsPostedAt, IsRefusedAt, Posts, PostsOn}
 use Rattle.cmd_store.specs.Stops.{post_stop, store_answer}
 use Rattle.cmd_store.proofs.Printed.{answered}
 
 -- a posting that stopped
-pub post_stopped : (words : NewMessage) (system : SystemState) (body : List ℕ) (old : Output) (draft : Draft) (why : PostStop) → draft ≡ draft_given words body
+pub post_stopped : (words : NewMessage) (system : SystemState) (body : List ℕ) (old : Output) (draft : Draft) (why : PostStepError) → draft ≡ draft_given words body
     → IsPostStop system.file system.base words.tag.now draft words.serial words.stamp why → PostsOn {A = Unit {0}} words system body old old (Err (post_stop why))
 post_stopped words system body old draft (post.Refused refusal) drafted is =
     inr (inr (refusal, refl, subst (λ (d : Draft). post_refusal system.file system.base words.tag.now d words.serial words.stamp ≡ Some refusal) drafted is), refl)
 post_stopped words system body old draft (post.Store cause) drafted is = inl refl
 
 -- why the store failed in a posting
-pub post_caused : (A B : Type 0) (old new : StoreState) (before now : ℕ) (why : PostStop) → HasStoreCause old new before now (post_answer {T = A} (Err why))
+pub post_caused : (A B : Type 0) (old new : StoreState) (before now : ℕ) (why : PostStepError) → HasStoreCause old new before now (post_answer {T = A} (Err why))
     → HasStoreCause old new before now (store_answer {A = B} (Err (post_stop why)))
 post_caused A B old new before now (post.Refused refusal) cause = cause
 post_caused A B old new before now (post.Store why) cause = cause
@@ -43,7 +43,7 @@ posts file words body base draft drafted allowed = record {
 }
 
 -- the line of a posting that nothing refuses is printed
-pub post_printed : {A : Type 0} (words : NewMessage) (system : SystemState) (body : List ℕ) (old new : Output) (draft : Draft) (result : Result A Stop) → draft ≡ draft_given words body
+pub post_printed : {A : Type 0} (words : NewMessage) (system : SystemState) (body : List ℕ) (old new : Output) (draft : Draft) (result : Result A CommandError) → draft ≡ draft_given words body
     → post_refusal system.file system.base words.tag.now draft words.serial words.stamp ≡ None
     → PrintsAll (posted_line words.tag.now (id_of system.file.system words.serial)) old new result → PostsOn words system body old new result
 post_printed words system body old new draft result drafted allowed out =

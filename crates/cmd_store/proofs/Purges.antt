@@ -10,9 +10,9 @@ use Rattle.echo_filed.specs.Stubs.{is_stub}
 use Rattle.cmd_status.proofs.Lines.{alone}
 use Rattle.cmd_status.specs.Devices.{Output}
 use Rattle.model_steps.specs.Purging.{changed}
-use Rattle.base_store.specs.Store.{KeepsOrCommits, MayCommit, StandsForEither, StoreState, purged}
+use Rattle.base_store.specs.Store.{KeepsOrCommits, MayCommit, LeavesEither, StoreState, purged}
 use Rattle.base_store.proofs.Runs.{same_twice}
-use Rattle.cmd_store.specs.declared.stop.Stop.{Stop}
+use Rattle.cmd_store.specs.declared.command_error.CommandError.{CommandError}
 use Rattle.cmd_store.specs.Answered.{MayMake, PrintsAll, RefusesNone, StandsForMade}
 use Rattle.cmd_store.specs.Purged.{HoldsOrPurges, IsPurgedAt, PurgesOn}
 use Rattle.cmd_store.proofs.Commits.{kept_twice}
@@ -22,14 +22,14 @@ use Rattle.cmd_store.proofs.Printed.{answered}
 pub purge_may : (old new : StoreState) → MayCommit old new → MayMake HoldsOrPurges old new
 purge_may old new may = record {
   any_moment = λ honest first base is h.
-      weaker_run old.disk new.disk (StandsForEither old first base) (StandsForMade old (HoldsOrPurges base) first) (may.any_moment honest first base is h)
+      weaker_run old.disk new.disk (LeavesEither old first base) (StandsForMade old (HoldsOrPurges base) first) (may.any_moment honest first base is h)
       (λ c either. record { beside = either.beside; stands = ⊎_elim (λ s. inl s) (λ s. inr (base, inl refl, s)) either.stands });
   beside = may.beside;
   same = may.same;
 }
 
 -- what a crash leaves of the commit after it, as it stood before: `was` is what was committed then
-stood_purged : (old mid : StoreState) (first base was : Base) (c : Files) → (was ≡ first) ⊎ (was ≡ base) → MayCommit old mid → StandsForEither mid was (purged base) c
+stood_purged : (old mid : StoreState) (first base was : Base) (c : Files) → (was ≡ first) ⊎ (was ≡ base) → MayCommit old mid → LeavesEither mid was (purged base) c
     → StandsForMade old (HoldsOrPurges base) first c
 stood_purged old mid first base was c is may either = record {
   beside = λ m other named flushed.
@@ -49,7 +49,7 @@ purge_then old mid new first kept done may = record {
       let at_mid = may.beside.honest honest in
       let from : (was : Base) → (was ≡ before) ⊎ (was ≡ base) → mid.committed was → LeavesOnly old.disk new.disk (StandsForMade old (HoldsOrPurges base) before) =
       λ was same then.
-      then_run old.disk mid.disk new.disk (StandsForMade old (HoldsOrPurges base) before) (StandsForEither mid was (purged base)) ((purge_may old mid first).any_moment at_mid before base is h)
+      then_run old.disk mid.disk new.disk (StandsForMade old (HoldsOrPurges base) before) (LeavesEither mid was (purged base)) ((purge_may old mid first).any_moment at_mid before base is h)
       (may.any_moment honest was (purged base) then (kept at_mid base h)) (λ c either. stood_purged old mid before base was c same first either) in
       ⊎_elim (λ still. from before (inl refl) (still before is)) (λ held. from base (inr refl) (held base h)) (done at_mid);
   beside = kept_twice old mid new first.same first.beside may.beside;
@@ -57,7 +57,7 @@ purge_then old mid new first kept done may = record {
 }
 
 -- the line of a purge is printed
-pub purge_printed : {A : Type 0} (base : Base) (count : ℕ) (none lines : List ℕ) (old new : Output) (result : Result A Stop) → count ≡ count_by (λ m. not (is_stub m)) (take base.cursor base.messages)
+pub purge_printed : {A : Type 0} (base : Base) (count : ℕ) (none lines : List ℕ) (old new : Output) (result : Result A CommandError) → count ≡ count_by (λ m. not (is_stub m)) (take base.cursor base.messages)
     → none ≡ [] → lines ≡ none ++ purged_line count → PrintsAll lines old new result → PurgesOn base old new result
 unfolding changed
 purge_printed base count none lines old new result counted nothing whole out =

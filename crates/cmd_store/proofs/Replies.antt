@@ -4,7 +4,7 @@ use Rattle.std.specs.Prelude.{IfErr, slice_get}
 use Rattle.base_file.specs.Base.{Base}
 use Rattle.cmd_report.specs.declared.posting.NewMessage.{NewMessage}
 use Rattle.cmd_report.specs.declared.replying.Answer.{Answer}
-use Rattle.cmd_report.specs.declared.replying.Found.{Found}
+use Rattle.cmd_report.specs.declared.replying.ReplyFields.{ReplyFields}
 use Rattle.cmd_report.specs.Replied.{IsFound, IsReply}
 use Rattle.disk_io.specs.Disk.{Files, Honestly}
 use Rattle.disk_io.proofs.Moments.{then_run, weaker_run}
@@ -12,21 +12,21 @@ use Rattle.echo_filed.specs.Filed.{Filed}
 use Rattle.echo_links.specs.Links.{LinkFile}
 use Rattle.cmd_status.specs.Devices.{Output}
 use Rattle.model_steps.specs.SystemState.{SystemState}
-use Rattle.base_store.specs.Store.{LooksOn, StandsBeside, StoreState}
+use Rattle.base_store.specs.Store.{LooksOn, LeavesCommitted, StoreState}
 use Rattle.base_store.proofs.Runs.{goes_on_twice, looks_commit, looks_go_on, looks_then_commits, same_twice}
-use Rattle.cmd_store.specs.declared.stop.Stop.{Stop}
-use Rattle.cmd_store.specs.declared.stop.Stop.TheVariants.{Met, Store}
+use Rattle.cmd_store.specs.declared.command_error.CommandError.{CommandError}
+use Rattle.cmd_store.specs.declared.command_error.CommandError.TheVariants.{Met, Store}
 use Rattle.cmd_store.specs.Answered.{CommitsNoneWhereMet, MayMake, StandsForMade}
 use Rattle.cmd_store.specs.Replied.{FindsOn, PostsAs, Replies, RepliesOn}
 use Rattle.cmd_store.proofs.Commits.{kept_twice}
 
 -- the message whose words were found
-pub found_message : (o : Option Filed) (found : Found) → FindsOn o (Ok found) → (m : Filed) × (o ≡ Some m) × IsFound m found
+pub found_message : (o : Option Filed) (found : ReplyFields) → FindsOn o (Ok found) → (m : Filed) × (o ≡ Some m) × IsFound m found
 found_message None found is = absurd is
 found_message (Some m) found is = (m, refl, is)
 
 -- where no words were found the command stops
-pub reply_stopped : (o : Option Filed) (answer : Answer) (system : SystemState) (body : List ℕ) (old : Output) (why : Stop) → FindsOn o (Err why) → RepliesOn {A = Unit {0}} o answer system body old old (Err why)
+pub reply_stopped : (o : Option Filed) (answer : Answer) (system : SystemState) (body : List ℕ) (old : Output) (why : CommandError) → FindsOn o (Err why) → RepliesOn {A = Unit {0}} o answer system body old old (Err why)
 reply_stopped None answer system body old (Met fault) is = (is, refl)
 reply_stopped None answer system body old (Store cause) is = absurd is
 reply_stopped (Some m) answer system body old (Met fault) is = inl (is, refl)
@@ -38,7 +38,7 @@ pub replies : (file : LinkFile) (index : ℕ) (answer : Answer) (body : List ℕ
 replies file index answer body base next m words found of_message made = record { message = m; found = found; words = words; of_message = of_message; made = made }
 
 -- what stopped a command after a look
-pub met_looked : {A : Type 0} (old mid new : StoreState) (result : Result A Stop) → old.is_ready → LooksOn old mid → IfErr result (CommitsNoneWhereMet mid new) → IfErr result (CommitsNoneWhereMet old new)
+pub met_looked : {A : Type 0} (old mid new : StoreState) (result : Result A CommandError) → old.is_ready → LooksOn old mid → IfErr result (CommitsNoneWhereMet mid new) → IfErr result (CommitsNoneWhereMet old new)
 met_looked old mid new (Ok value) ready looks none = tt
 met_looked old mid new (Err (Met fault)) ready looks none =
     (looks_then_commits old mid new ready looks none.0, goes_on_twice old mid new (looks_go_on old mid looks) none.1)
@@ -63,14 +63,14 @@ makes_looked Makes Other old mid new ready looks gives may =
       any_moment = λ honest first base is h.
           let before = may.beside.honest honest in
           then_run old.disk mid.disk new.disk (StandsForMade old (Other base) first) (StandsForMade mid (Makes base) first)
-          (weaker_run old.disk mid.disk (StandsBeside old first) (StandsForMade old (Other base) first) (none.any_moment before first is) (λ c s. record { beside = s.beside; stands = inl s.stands }))
+          (weaker_run old.disk mid.disk (LeavesCommitted old first) (StandsForMade old (Other base) first) (none.any_moment before first is) (λ c s. record { beside = s.beside; stands = inl s.stands }))
           (may.any_moment honest first base (looks.committed first is) (looks.keeps base h)) (λ c s. stood_looked (Makes base) (Other base) old mid first c ready looks (gives before base h) s);
       beside = kept_twice old mid new none.same none.beside may.beside;
       same = same_twice old mid new none.same may.same;
     }
 
 -- what a crash leaves of an answer
-pub reply_crash : (file : LinkFile) (index : ℕ) (answer : Answer) (body : List ℕ) (old mid new : StoreState) (words : NewMessage) (found : Found) → old.is_ready → LooksOn old mid
+pub reply_crash : (file : LinkFile) (index : ℕ) (answer : Answer) (body : List ℕ) (old mid new : StoreState) (words : NewMessage) (found : ReplyFields) → old.is_ready → LooksOn old mid
     → Honestly mid.disk ((base : Base) → old.keeps base → FindsOn (slice_get base.messages index) (Ok found)) → MayMake (PostsAs answer.free file words body) mid new
     → ((m : Filed) → IsFound m found → IsReply m answer words) → MayMake (Replies file index answer body) old new
 reply_crash file index answer body old mid new words found ready looks finds may is =

@@ -9,7 +9,7 @@ use Rattle.cmd_status.specs.declared.fault.Fault.{Fault}
 use Rattle.cmd_status.specs.Devices.{Device, Output}
 use Rattle.base_store.specs.Store.{StoreState}
 use Rattle.base_store.specs.declared.store_error.StoreError.{StoreError}
-use Rattle.cmd_store.specs.declared.stop.Stop.{Stop}
+use Rattle.cmd_store.specs.declared.command_error.CommandError.{CommandError}
 use Rattle.cmd_store.specs.Answered.{HasCommitted}
 use Rattle.cmd_store.specs.Tossed.{Tosses, TossesFiles, TossesOn, TossesTo}
 
@@ -25,7 +25,7 @@ tosses noting limits device file base files left more stopped mid t =
     (t.next, record { stopped = stopped; left = left; run = t.run; each = t.each; state = t.state }, t.keeps)
 
 -- the lines of a run and the base that is committed are of one run
-pub tosses_to : {R : Type 0} (noting : Bool) (limits : Limits) (device : R → Device) (file : LinkFile) (base : Base) (files left : List Coming) (old new : Output) (store : StoreState) (result : Result (Option Fault) Stop)
+pub tosses_to : {R : Type 0} (noting : Bool) (limits : Limits) (device : R → Device) (file : LinkFile) (base : Base) (files left : List Coming) (old new : Output) (store : StoreState) (result : Result (Option Fault) CommandError)
     → TossesOn noting limits device file base files left old new result store → OnOk result (HasCommitted (TossesTo noting limits device file base files left old new result) store)
 tosses_to noting limits device file base files left old new store (Ok fault) t = record {
   next = t.next;

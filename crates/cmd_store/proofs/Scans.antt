@@ -11,19 +11,19 @@ use Rattle.model_steps.specs.Scanning.{scanned}
 use Rattle.model_steps.specs.Stamps.{is_stamp}
 use Rattle.model_steps.specs.SystemState.{SystemState}
 use Rattle.base_store.specs.Store.{HasStoreCause, StoreState}
-use Rattle.echo_toss.specs.declared.stop.ScanStop.{ScanStop}
-use Rattle.echo_toss.specs.declared.stop.ScanStop.TheVariants as scan
+use Rattle.echo_toss.specs.declared.step_error.ScanStepError.{ScanStepError}
+use Rattle.echo_toss.specs.declared.step_error.ScanStepError.TheVariants as scan
 use Rattle.echo_toss.specs.Stores.{IsScanStop, scan_answer}
 use Rattle.cmd_store.specs.Scanned.{IsScannedAt, ScansOn}
 use Rattle.cmd_store.specs.Stops.{scan_stop, store_answer}
 
 -- a scan that stopped
-pub scan_stopped : (stamp : Stamp) (system : SystemState) (before after : StoreState) (old : Output) (why : ScanStop) → IsScanStop stamp before after why → ScansOn stamp system old old (Err (scan_stop why))
+pub scan_stopped : (stamp : Stamp) (system : SystemState) (before after : StoreState) (old : Output) (why : ScanStepError) → IsScanStop stamp before after why → ScansOn stamp system old old (Err (scan_stop why))
 scan_stopped stamp system before after old scan.BadStamp is = inr (inr (refl, is.0), refl)
 scan_stopped stamp system before after old (scan.Store cause) is = refl
 
 -- why the store failed in a scan
-pub scan_caused : (A B : Type 0) (old new : StoreState) (before now : ℕ) (why : ScanStop) → HasStoreCause old new before now (scan_answer {T = A} (Err why))
+pub scan_caused : (A B : Type 0) (old new : StoreState) (before now : ℕ) (why : ScanStepError) → HasStoreCause old new before now (scan_answer {T = A} (Err why))
     → HasStoreCause old new before now (store_answer {A = B} (Err (scan_stop why)))
 scan_caused A B old new before now scan.BadStamp cause = cause
 scan_caused A B old new before now (scan.Store why) cause = cause

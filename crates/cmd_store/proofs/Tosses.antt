@@ -13,9 +13,9 @@ use Rattle.model_steps.specs.SystemState.{SystemState}
 use Rattle.base_store.specs.Store.{StoreState}
 use Rattle.base_store.specs.declared.store_error.StoreError.{StoreError}
 use Rattle.echo_toss.specs.declared.fault.TossFault.{TossFault}
-use Rattle.echo_toss.specs.declared.stop.StoppedToss.{StoppedToss}
-use Rattle.echo_toss.specs.declared.stop.TossStop.{TossStop}
-use Rattle.echo_toss.specs.declared.stop.TossStop.TheVariants as toss
+use Rattle.echo_toss.specs.declared.step_error.StoppedToss.{StoppedToss}
+use Rattle.echo_toss.specs.declared.step_error.TossStepError.{TossStepError}
+use Rattle.echo_toss.specs.declared.step_error.TossStepError.TheVariants as toss
 use Rattle.echo_toss.specs.declared.tally.Tally.{Tally}
 use Rattle.echo_toss.specs.PacketSteps.{CountsToss, PacketStep}
 use Rattle.echo_toss.specs.PacketsIn.{HoldsUnlessFailed, cause_in, packet_answer, state_in, stop_in}
@@ -41,7 +41,7 @@ packet_by false old new reader left stopped answer noted same step device notes 
     inr (record { answer = answer; same = same; step = step; device = device; line = subst (λ (t : List ℕ). ReportsPacket t new.lines answer stopped) notes line })
 
 -- a packet that stopped
-next_stopped : (noting : Bool) (limits : Limits) (file : LinkFile) (base next : Base) (reader left : Device) (lines noted more : List ℕ) (old new : StoreState) (tally : Tally) (why : TossStop) (result : Result (Option Fault) StoreError)
+next_stopped : (noting : Bool) (limits : Limits) (file : LinkFile) (base next : Base) (reader left : Device) (lines noted more : List ℕ) (old new : StoreState) (tally : Tally) (why : TossStepError) (result : Result (Option Fault) StoreError)
     → PacketStep limits (state_in file base) reader.contents left.contents (Err (record { tally = tally; cause = cause_in why })) (state_in file next)
     → NotesIf noting limits (state_in file base) reader.contents (Err (record { tally = tally; cause = cause_in why })) (state_in file next) lines noted
     → HoldsUnlessFailed {A = Unit {0}} old (Err why) new next → CountsToss (Err (record { tally = tally; cause = cause_in why })) reader.failures left.failures → ReportsStop noted more tally why result

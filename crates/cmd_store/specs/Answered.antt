@@ -7,17 +7,17 @@ use Rattle.cmd_status.specs.declared.fault.Fault.{Fault}
 use Rattle.cmd_status.specs.Devices.{Output}
 use Rattle.cmd_status.specs.Ended.{Answers, IsDone, IsOutOfMemory}
 use Rattle.base_store.specs.Store.{CommitsNothing, GoesOn, IsSameStore, KeepsBeside, KeepsOrCommits, LooksOn, MayCommit, SameBesideStore, StoreState}
-use Rattle.cmd_store.specs.declared.stop.Stop.{Stop}
-use Rattle.cmd_store.specs.declared.stop.Stop.TheVariants.{Met, Store}
+use Rattle.cmd_store.specs.declared.command_error.CommandError.{CommandError}
+use Rattle.cmd_store.specs.declared.command_error.CommandError.TheVariants.{Met, Store}
 
 -- The answer of a command that has all its lines before it prints. Where the store failed, nothing was printed.
-abbrev pub AnswersOn : {A : Type 0} → (List ℕ → A → Type 0) → (Fault → Type 0) → Output → Output → Result A Stop → Type 0
+abbrev pub AnswersOn : {A : Type 0} → (List ℕ → A → Type 0) → (Fault → Type 0) → Output → Output → Result A CommandError → Type 0
 AnswersOn IsRight IsRefused old new (Ok right) = Answers IsRight IsRefused old new (Ok right)
 AnswersOn IsRight IsRefused old new (Err (Met fault)) = Answers IsRight IsRefused old new (Err fault)
 AnswersOn IsRight IsRefused old new (Err (Store cause)) = new ≡ old
 
 -- The same of one that commits then: where the store failed, all lines may have been printed, too.
-abbrev pub AnswersAndCommits : {A : Type 0} → (List ℕ → A → Type 0) → (Fault → Type 0) → Output → Output → Result A Stop → Type 0
+abbrev pub AnswersAndCommits : {A : Type 0} → (List ℕ → A → Type 0) → (Fault → Type 0) → Output → Output → Result A CommandError → Type 0
 AnswersAndCommits IsRight IsRefused old new (Ok right) = Answers IsRight IsRefused old new (Ok right)
 AnswersAndCommits IsRight IsRefused old new (Err (Met fault)) = Answers IsRight IsRefused old new (Err fault)
 AnswersAndCommits {A} IsRight IsRefused old new (Err (Store cause)) = (new ≡ old) ⊎ ((right : A) × IsDone IsRight old new right)
@@ -31,17 +31,17 @@ abbrev pub RefusesNone : Fault → Type 0
 RefusesNone fault = ⊥
 
 -- these lines are printed, but for standard output or the store
-abbrev pub PrintsAll : {A : Type 0} → List ℕ → Output → Output → Result A Stop → Type 0
+abbrev pub PrintsAll : {A : Type 0} → List ℕ → Output → Output → Result A CommandError → Type 0
 PrintsAll lines old new result = AnswersAndCommits (AreLines lines) RefusesNone old new result
 
 -- there was no memory or the store failed, and nothing was printed
-abbrev pub StopsFirst : {A : Type 0} → Output → Output → Result A Stop → Type 0
+abbrev pub StopsFirst : {A : Type 0} → Output → Output → Result A CommandError → Type 0
 StopsFirst old new (Ok right) = ⊥
 StopsFirst old new (Err (Met fault)) = IsOutOfMemory fault × (new ≡ old)
 StopsFirst old new (Err (Store cause)) = new ≡ old
 
 -- where the store did not fail, nothing of it has changed
-abbrev pub LooksWhereMet : StoreState → StoreState → Stop → Type 0
+abbrev pub LooksWhereMet : StoreState → StoreState → CommandError → Type 0
 LooksWhereMet old new (Met fault) = LooksOn old new
 LooksWhereMet old new (Store cause) = Unit {0}
 
@@ -51,17 +51,17 @@ pub record GoesOnFromEither (old new : StoreState) : Type 0 where
   pub committed : Honestly new.disk (KeepsOrCommits old new)
 
 -- where the store did not fail, nothing was committed, and it goes on
-abbrev pub CommitsNoneWhereMet : StoreState → StoreState → Stop → Type 0
+abbrev pub CommitsNoneWhereMet : StoreState → StoreState → CommandError → Type 0
 CommitsNoneWhereMet old new (Met fault) = CommitsNothing old new × GoesOn old new
 CommitsNoneWhereMet old new (Store cause) = Unit {0}
 
 -- where the store did not fail, at most what it held before was committed, and it goes on
-abbrev pub MayCommitWhereMet : StoreState → StoreState → Stop → Type 0
+abbrev pub MayCommitWhereMet : StoreState → StoreState → CommandError → Type 0
 MayCommitWhereMet old new (Met fault) = MayCommit old new × GoesOnFromEither old new
 MayCommitWhereMet old new (Store cause) = Unit {0}
 
 -- the one or the other, by whether the command may commit what was held before
-abbrev pub StaysWhereMet : Bool → StoreState → StoreState → Stop → Type 0
+abbrev pub StaysWhereMet : Bool → StoreState → StoreState → CommandError → Type 0
 StaysWhereMet false old new why = CommitsNoneWhereMet old new why
 StaysWhereMet true old new why = MayCommitWhereMet old new why
 

@@ -10,9 +10,9 @@ use Rattle.model_steps.specs.declared.draft.Draft.{Draft}
 use Rattle.model_steps.specs.Posting.{post_refusal, posted}
 use Rattle.model_steps.specs.SystemState.{SystemState}
 use Rattle.base_store.specs.Store.{StoreState, with_message}
-use Rattle.echo_toss.specs.declared.stop.PostStop.{PostStop}
-use Rattle.echo_toss.specs.declared.stop.PostStop.TheVariants as post
-use Rattle.cmd_store.specs.declared.stop.Stop.{Stop}
+use Rattle.echo_toss.specs.declared.step_error.PostStepError.{PostStepError}
+use Rattle.echo_toss.specs.declared.step_error.PostStepError.TheVariants as post
+use Rattle.cmd_store.specs.declared.command_error.CommandError.{CommandError}
 use Rattle.cmd_store.specs.Posted.{Posts, PostsOn}
 
 -- the serial with which words are posted: theirs, or the first from that on that is free
@@ -27,14 +27,14 @@ pub record FiledAs (free : Bool) (file : LinkFile) (base : Base) (words : NewMes
   pub keeps : new.keeps (with_message base (posted file words.tag.now draft serial words.stamp))
 
 -- a message is filed with that serial, or it is refused with that one; or the store failed
-abbrev pub FilesAs : Bool → LinkFile → Base → NewMessage → Draft → Result ℕ PostStop → StoreState → Type 0
+abbrev pub FilesAs : Bool → LinkFile → Base → NewMessage → Draft → Result ℕ PostStepError → StoreState → Type 0
 FilesAs free file base words draft (Ok serial) new = FiledAs free file base words draft serial new
 FilesAs free file base words draft (Err (post.Refused why)) new =
     (serial : ℕ) × IsSerial free file base.messages words.serial serial × (post_refusal file base.messages words.tag.now draft serial words.stamp ≡ Some why)
 FilesAs free file base words draft (Err (post.Store cause)) new = Unit {0}
 
 -- a message is posted as with the first serial, from that of the words on, that is free at a system
-pub record PostsFreeOn {A : Type 0} (words : NewMessage) (system : SystemState) (body : List ℕ) (old new : Output) (result : Result A Stop) : Type 0 where
+pub record PostsFreeOn {A : Type 0} (words : NewMessage) (system : SystemState) (body : List ℕ) (old new : Output) (result : Result A CommandError) : Type 0 where
   pub serial : ℕ
   pub first : IsFirstFree system.file system.base words.serial serial
   pub posted : PostsOn (with_serial words serial) system body old new result
@@ -46,7 +46,7 @@ pub record PostsFree (file : LinkFile) (words : NewMessage) (body : List ℕ) (b
   pub made : Posts file (with_serial words serial) body base next
 
 -- words are posted at a system with their serial, or with the first from that on that is free
-abbrev pub PostsAsOn : {A : Type 0} → Bool → NewMessage → SystemState → List ℕ → Output → Output → Result A Stop → Type 0
+abbrev pub PostsAsOn : {A : Type 0} → Bool → NewMessage → SystemState → List ℕ → Output → Output → Result A CommandError → Type 0
 PostsAsOn false words system body old new result = PostsOn words system body old new result
 PostsAsOn true words system body old new result = PostsFreeOn words system body old new result
 

@@ -11,7 +11,7 @@ use Rattle.echo_text.specs.Ids.{is_id}
 use Rattle.cmd_store.specs.declared.fault.LetterFault.{LetterFault}
 use Rattle.cmd_store.specs.declared.fault.LetterFault.TheVariants.{Memory, NoArea, NoFrom, NoSubject, NoTo}
 use Rattle.cmd_store.specs.declared.letter.Letter.{Letter}
-use Rattle.cmd_store.specs.declared.letter.Spare.{Spare}
+use Rattle.cmd_store.specs.declared.letter.MailDefaults.{MailDefaults}
 use Rattle.cmd_store.specs.CharsetLine.{is_wide, with_line}
 use Rattle.cmd_store.specs.Fault.{letter_fault}
 use Rattle.cmd_store.specs.Written.{IsRefused, IsSaid, IsWritten, name_or, words_or}
@@ -22,16 +22,16 @@ field mail name = value_in mail.fields name
 
 -- What the mail says, or else a word: its area, to whom and from whom it is, and its subject. An article of a newsgroup
 -- has no To, and perhaps X-Comment-To.
-abbrev pub area_said : Mail → Spare → Option (List ℕ)
+abbrev pub area_said : Mail → MailDefaults → Option (List ℕ)
 area_said mail spare = option_or (area_in mail.fields) (option_copied spare.area)
 
-abbrev pub to_said : Mail → Spare → Option (List ℕ)
+abbrev pub to_said : Mail → MailDefaults → Option (List ℕ)
 to_said mail spare = name_or (option_or (field mail (codes "To")) (field mail (codes "X-Comment-To"))) (option_copied spare.to)
 
-abbrev pub from_said : Mail → Spare → Option (List ℕ)
+abbrev pub from_said : Mail → MailDefaults → Option (List ℕ)
 from_said mail spare = name_or (field mail (codes "From")) (option_copied spare.from)
 
-abbrev pub subject_said : Mail → Spare → Option (List ℕ)
+abbrev pub subject_said : Mail → MailDefaults → Option (List ℕ)
 subject_said mail spare = words_or (field mail (codes "Subject")) (option_copied spare.subject)
 
 -- an id, where it is one
@@ -45,7 +45,7 @@ answered_id None = None
 answered_id (Some value) = true_id (exported_id value)
 
 -- the id of the message that the mail answers, or else a word, or no bytes
-abbrev pub reply_said : Mail → Spare → List ℕ
+abbrev pub reply_said : Mail → MailDefaults → List ℕ
 reply_said mail spare = unwrap_or (option_or (answered_id (field mail (codes "In-Reply-To"))) (option_copied spare.reply)) []
 
 -- a text that there is, or its fault, in the bytes of a charset
@@ -64,7 +64,7 @@ abbrev pub are_wide : List ℕ → List ℕ → List ℕ → List ℕ → Bool
 are_wide to from subject said = is_wide to || (is_wide from || (is_wide subject || is_wide said))
 
 -- the words and the body of a mail: the body is its text, behind the line of the charset where a byte is above 7F
-pub record IsLetter (charset : Charset) (spare : Spare) (mail : Mail) (letter : Letter) : Type 0 where
+pub record IsLetter (charset : Charset) (spare : MailDefaults) (mail : Mail) (letter : Letter) : Type 0 where
   pub said : List ℕ
   pub tag : IsArea (area_said mail spare) (Ok letter.tag)
   pub to_name : IsWritten charset (to_said mail spare) NoTo (Ok letter.to_name)
@@ -75,7 +75,7 @@ pub record IsLetter (charset : Charset) (spare : Spare) (mail : Mail) (letter : 
   pub body : letter.body ≡ with_line charset (are_wide letter.to_name letter.from_name letter.subject said) said
 
 -- the fault of one of these
-abbrev pub IsLetterFault : Charset → Spare → Mail → LetterFault → Type 0
+abbrev pub IsLetterFault : Charset → MailDefaults → Mail → LetterFault → Type 0
 IsLetterFault charset spare mail fault =
     (fault ≡ Memory)
     ⊎ (IsArea (area_said mail spare) (Err fault)
@@ -85,11 +85,11 @@ IsLetterFault charset spare mail fault =
     ⊎ IsBody charset (text_of mail) (Err fault)))))
 
 -- what is answered for a mail
-abbrev pub LetterOf : Charset → Spare → Mail → Result Letter LetterFault → Type 0
+abbrev pub LetterOf : Charset → MailDefaults → Mail → Result Letter LetterFault → Type 0
 LetterOf charset spare mail (Ok letter) = IsLetter charset spare mail letter
 LetterOf charset spare mail (Err fault) = IsLetterFault charset spare mail fault
 
 -- the same for what is read as one, or its fault
-abbrev pub LetterAnswers : Charset → Spare → Result Mail MailFault → Result Letter LetterFault → Type 0
+abbrev pub LetterAnswers : Charset → MailDefaults → Result Mail MailFault → Result Letter LetterFault → Type 0
 LetterAnswers charset spare (Ok mail) answer = LetterOf charset spare mail answer
 LetterAnswers charset spare (Err why) answer = IsRefused (letter_fault why) answer

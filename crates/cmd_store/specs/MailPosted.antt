@@ -7,7 +7,7 @@ use Rattle.echo_mail.specs.Mail.{mail_in}
 use Rattle.cmd_status.specs.Devices.{Output}
 use Rattle.model_steps.specs.SystemState.{SystemState}
 use Rattle.cmd_store.specs.FreeSerial.{PostsAs, PostsAsOn}
-use Rattle.cmd_store.specs.declared.stop.Stop.{Stop}
+use Rattle.cmd_store.specs.declared.command_error.CommandError.{CommandError}
 use Rattle.cmd_store.specs.declared.fault.LetterFault.{LetterFault}
 use Rattle.cmd_store.specs.declared.letter.Letter.{Letter}
 use Rattle.cmd_store.specs.declared.mailed.MailWords.{MailWords}
@@ -21,7 +21,7 @@ ReadsMail asked bytes (Ok mail) = LetterAnswers asked.charset asked.spare (mail_
 ReadsMail asked bytes (Err fault) = LetterAnswers asked.charset asked.spare (mail_in bytes) (Err fault)
 
 -- what is answered where the letter is to be posted at a system
-pub record MailsOn {A : Type 0} (letter : Letter) (asked : MailWords) (system : SystemState) (old new : Output) (result : Result A Stop) : Type 0 where
+pub record MailsOn {A : Type 0} (letter : Letter) (asked : MailWords) (system : SystemState) (old new : Output) (result : Result A CommandError) : Type 0 where
   pub words : NewMessage
   pub posting : IsPosting letter asked words
   pub posted : PostsAsOn asked.free words system letter.body old new result

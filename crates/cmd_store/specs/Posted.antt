@@ -14,7 +14,7 @@ use Rattle.model_steps.specs.SystemState.{SystemState}
 use Rattle.base_store.specs.Store.{with_message}
 use Rattle.echo_text.specs.Ids.{id_of}
 use Rattle.echo_toss.specs.PacketsIn.{state_in}
-use Rattle.cmd_store.specs.declared.stop.Stop.{Stop}
+use Rattle.cmd_store.specs.declared.command_error.CommandError.{CommandError}
 use Rattle.cmd_store.specs.Answered.{AnswersAndCommits}
 
 -- the posting at a system, which nothing refuses: the line of its tag and id
@@ -27,7 +27,7 @@ abbrev pub IsRefusedAt : NewMessage → SystemState → List ℕ → Fault → T
 IsRefusedAt words system body fault = (why : PostFault) × (fault ≡ Post why) × (refusal_given system words body ≡ Some why)
 
 -- what is answered where a message is to be posted at a system
-abbrev pub PostsOn : {A : Type 0} → NewMessage → SystemState → List ℕ → Output → Output → Result A Stop → Type 0
+abbrev pub PostsOn : {A : Type 0} → NewMessage → SystemState → List ℕ → Output → Output → Result A CommandError → Type 0
 PostsOn words system body old new result = AnswersAndCommits (IsPostedAt words system body) (IsRefusedAt words system body) old new result
 
 -- the posting makes this base of one: the message is put at its end

@@ -5,7 +5,7 @@ use Rattle.cmd_report.specs.Lines.{purged_line}
 use Rattle.cmd_status.specs.Devices.{Output}
 use Rattle.model_steps.specs.Purging.{changed}
 use Rattle.base_store.specs.Store.{purged}
-use Rattle.cmd_store.specs.declared.stop.Stop.{Stop}
+use Rattle.cmd_store.specs.declared.command_error.CommandError.{CommandError}
 use Rattle.cmd_store.specs.Answered.{AnswersAndCommits, RefusesNone}
 
 -- the purge of a base: the line of how many messages it changes
@@ -13,7 +13,7 @@ abbrev pub IsPurgedAt : {A : Type 0} → Base → List ℕ → A → Type 0
 IsPurgedAt base lines done = lines ≡ purged_line (changed base.messages base.cursor)
 
 -- what is answered where a base is to be purged
-abbrev pub PurgesOn : {A : Type 0} → Base → Output → Output → Result A Stop → Type 0
+abbrev pub PurgesOn : {A : Type 0} → Base → Output → Output → Result A CommandError → Type 0
 PurgesOn base old new result = AnswersAndCommits (IsPurgedAt base) RefusesNone old new result
 
 -- the purge makes this base of one

@@ -5,19 +5,19 @@ use Rattle.echo_filed.specs.Filed.{Filed}
 use Rattle.echo_links.specs.Links.{LinkFile}
 use Rattle.cmd_report.specs.declared.posting.NewMessage.{NewMessage}
 use Rattle.cmd_report.specs.declared.replying.Answer.{Answer}
-use Rattle.cmd_report.specs.declared.replying.Found.{Found}
+use Rattle.cmd_report.specs.declared.replying.ReplyFields.{ReplyFields}
 use Rattle.cmd_report.specs.Replied.{IsFound, IsReply}
 use Rattle.cmd_status.specs.declared.fault.Fault.TheVariants.{BadNumber}
 use Rattle.cmd_status.specs.Devices.{Output}
 use Rattle.cmd_status.specs.Ended.{IsOutOfMemory}
 use Rattle.model_steps.specs.SystemState.{SystemState}
-use Rattle.cmd_store.specs.declared.stop.Stop.{Stop}
-use Rattle.cmd_store.specs.declared.stop.Stop.TheVariants.{Met, Store}
+use Rattle.cmd_store.specs.declared.command_error.CommandError.{CommandError}
+use Rattle.cmd_store.specs.declared.command_error.CommandError.TheVariants.{Met, Store}
 use Rattle.cmd_store.specs.Answered.{StopsFirst}
 pub use Rattle.cmd_store.specs.FreeSerial.{PostsAs, PostsAsOn}
 
 -- the words that the message gives, which is found or not, or why there are none; or the store failed
-abbrev pub FindsOn : Option Filed → Result Found Stop → Type 0
+abbrev pub FindsOn : Option Filed → Result ReplyFields CommandError → Type 0
 FindsOn None (Err (Met fault)) = fault ≡ BadNumber
 FindsOn None other = ⊥
 FindsOn (Some m) (Ok found) = IsFound m found
@@ -25,18 +25,18 @@ FindsOn (Some m) (Err (Met fault)) = IsOutOfMemory fault
 FindsOn (Some m) (Err (Store cause)) = Unit {0}
 
 -- the words of an answer are posted
-pub record PostsReplyOn {A : Type 0} (m : Filed) (answer : Answer) (system : SystemState) (body : List ℕ) (old new : Output) (result : Result A Stop) : Type 0 where
+pub record PostsReplyOn {A : Type 0} (m : Filed) (answer : Answer) (system : SystemState) (body : List ℕ) (old new : Output) (result : Result A CommandError) : Type 0 where
   pub words : NewMessage
   pub of_message : IsReply m answer words
   pub posted : PostsAsOn answer.free words system body old new result
 
 -- there is no such message, and nothing is printed
-abbrev pub HasNoneOn : {A : Type 0} → Output → Output → Result A Stop → Type 0
+abbrev pub HasNoneOn : {A : Type 0} → Output → Output → Result A CommandError → Type 0
 HasNoneOn old new (Err (Met fault)) = (fault ≡ BadNumber) × (new ≡ old)
 HasNoneOn old new other = ⊥
 
 -- what becomes of an answer to the message that is found, or not
-abbrev pub RepliesOn : {A : Type 0} → Option Filed → Answer → SystemState → List ℕ → Output → Output → Result A Stop → Type 0
+abbrev pub RepliesOn : {A : Type 0} → Option Filed → Answer → SystemState → List ℕ → Output → Output → Result A CommandError → Type 0
 RepliesOn None answer system body old new result = HasNoneOn old new result
 RepliesOn (Some m) answer system body old new result = StopsFirst old new result ⊎ PostsReplyOn m answer system body old new result
 

@@ -11,7 +11,7 @@ use Rattle.model_steps.specs.declared.stamp.Stamp.{Stamp}
 use Rattle.model_steps.specs.Scanning.{scanned}
 use Rattle.model_steps.specs.Stamps.{is_stamp}
 use Rattle.model_steps.specs.SystemState.{SystemState}
-use Rattle.cmd_store.specs.declared.stop.Stop.{Stop}
+use Rattle.cmd_store.specs.declared.command_error.CommandError.{CommandError}
 use Rattle.cmd_store.specs.Answered.{AnswersOn}
 
 -- the scan of a system: a line for each of its packets, and their files
@@ -25,5 +25,5 @@ abbrev pub IsUnscannedAt : Stamp → Fault → Type 0
 IsUnscannedAt stamp fault = (fault ≡ Scan BadStamp) × (is_stamp stamp ≡ false)
 
 -- what is answered where a system is to be scanned
-abbrev pub ScansOn : Stamp → SystemState → Output → Output → Result (List PacketFile) Stop → Type 0
+abbrev pub ScansOn : Stamp → SystemState → Output → Output → Result (List PacketFile) CommandError → Type 0
 ScansOn stamp system old new result = AnswersOn (IsScannedAt stamp system) (IsUnscannedAt stamp) old new result

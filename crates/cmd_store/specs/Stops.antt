@@ -6,31 +6,31 @@ use Rattle.cmd_status.specs.declared.fault.Fault.TheVariants.{Base, CannotUse, O
 use Rattle.model_steps.specs.declared.fault.ScanFault.TheVariants as scan_fault
 use Rattle.base_store.specs.declared.store_error.StoreError.{StoreError}
 use Rattle.base_store.specs.declared.store_error.StoreError.TheVariants as error
-use Rattle.echo_toss.specs.declared.stop.PostStop.{PostStop}
-use Rattle.echo_toss.specs.declared.stop.PostStop.TheVariants as post
-use Rattle.echo_toss.specs.declared.stop.ScanStop.{ScanStop}
-use Rattle.echo_toss.specs.declared.stop.ScanStop.TheVariants as scan
-use Rattle.cmd_store.specs.declared.stop.Stop.{Stop}
-use Rattle.cmd_store.specs.declared.stop.Stop.TheVariants as stop
+use Rattle.echo_toss.specs.declared.step_error.PostStepError.{PostStepError}
+use Rattle.echo_toss.specs.declared.step_error.PostStepError.TheVariants as post
+use Rattle.echo_toss.specs.declared.step_error.ScanStepError.{ScanStepError}
+use Rattle.echo_toss.specs.declared.step_error.ScanStepError.TheVariants as scan
+use Rattle.cmd_store.specs.declared.command_error.CommandError.{CommandError}
+use Rattle.cmd_store.specs.declared.command_error.CommandError.TheVariants as stop
 
 -- why a posting stopped a command
-abbrev pub post_stop : PostStop → Stop
+abbrev pub post_stop : PostStepError → CommandError
 post_stop (post.Refused why) = stop.Met (Post why)
 post_stop (post.Store cause) = stop.Store cause
 
 -- why a scan stopped a command
-abbrev pub scan_stop : ScanStop → Stop
+abbrev pub scan_stop : ScanStepError → CommandError
 scan_stop scan.BadStamp = stop.Met (Scan scan_fault.BadStamp)
 scan_stop (scan.Store cause) = stop.Store cause
 
 -- what the store answered
-abbrev pub store_answer : {A : Type 0} → Result A Stop → Result (Unit {0}) StoreError
+abbrev pub store_answer : {A : Type 0} → Result A CommandError → Result (Unit {0}) StoreError
 store_answer (Ok done) = Ok tt
 store_answer (Err (stop.Met fault)) = Ok tt
 store_answer (Err (stop.Store cause)) = Err cause
 
 -- the store failed
-abbrev pub IsOfStore : Stop → Type 0
+abbrev pub IsOfStore : CommandError → Type 0
 IsOfStore (stop.Met fault) = ⊥
 IsOfStore (stop.Store cause) = Unit {0}
 
@@ -40,7 +40,7 @@ CannotUseAt path (CannotUse other) = other.now ≡ path
 CannotUseAt path _ = ⊥
 
 -- what is reported of why a command stopped, where the store is at the path
-abbrev pub IsToldAs : List ℕ → Stop → Fault → Type 0
+abbrev pub IsToldAs : List ℕ → CommandError → Fault → Type 0
 IsToldAs path (stop.Met fault) told = told ≡ fault
 IsToldAs path (stop.Store error.Memory) told = told ≡ OutOfMemory
 IsToldAs path (stop.Store error.TooMany) told = told ≡ Base TooMany

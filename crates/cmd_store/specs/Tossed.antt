@@ -14,14 +14,14 @@ use Rattle.cmd_status.specs.Ended.{CannotPrint, PassesAll}
 use Rattle.cmd_status.specs.Lines.{WritesFront}
 use Rattle.base_store.specs.Store.{StoreState}
 use Rattle.base_store.specs.declared.store_error.StoreError.{StoreError}
-use Rattle.echo_toss.specs.declared.stop.StoppedToss.{StoppedToss}
-use Rattle.echo_toss.specs.declared.stop.TossStop.{TossStop}
-use Rattle.echo_toss.specs.declared.stop.TossStop.TheVariants as toss
+use Rattle.echo_toss.specs.declared.step_error.StoppedToss.{StoppedToss}
+use Rattle.echo_toss.specs.declared.step_error.TossStepError.{TossStepError}
+use Rattle.echo_toss.specs.declared.step_error.TossStepError.TheVariants as toss
 use Rattle.echo_toss.specs.declared.tally.Tally.{Tally}
 use Rattle.echo_toss.specs.PacketsIn.{state_in}
 use Rattle.cmd_report.specs.Lines.{tally_line}
-use Rattle.cmd_store.specs.declared.stop.Stop.{Stop}
-use Rattle.cmd_store.specs.declared.stop.Stop.TheVariants.{Met, Store}
+use Rattle.cmd_store.specs.declared.command_error.CommandError.{CommandError}
+use Rattle.cmd_store.specs.declared.command_error.CommandError.TheVariants.{Met, Store}
 
 -- the packet files, of which so much is taken, are tossed at a system with this base, up to the first fault, and then it has the other
 pub record Tosses {R : Type 0} (noting : Bool) (limits : Limits) (device : R → Device) (file : LinkFile) (files : List Coming) (base next : Base) : Type 0 where
@@ -38,7 +38,7 @@ AreOut run (Some fault) old new = IsRunPrinted run old new
 
 -- How a run ends that a fault stopped, or none: with that fault, its lines out; or standard output failed; or the store did,
 -- in the run, as out of memory, and nothing is printed, or at its end.
-abbrev pub EndsOn : TossRun → Option Fault → Output → Output → Result (Option Fault) Stop → Type 0
+abbrev pub EndsOn : TossRun → Option Fault → Output → Output → Result (Option Fault) CommandError → Type 0
 EndsOn run stopped old new (Ok fault) = (fault ≡ stopped) × AreOut run stopped old new
 EndsOn run stopped old new (Err (Met fault)) =
     (stopped ≡ None) × CannotPrint old.failures new.failures fault × WritesFront run.lines old.contents new.contents
@@ -56,7 +56,7 @@ stopped_in (Ok stopped) = stopped
 stopped_in (Err cause) = Some TossMemory
 
 -- the line of a packet is added, and why it was not tossed whole is answered; where the store failed no line is
-abbrev pub ReportsStop : List ℕ → List ℕ → Tally → TossStop → Result (Option Fault) StoreError → Type 0
+abbrev pub ReportsStop : List ℕ → List ℕ → Tally → TossStepError → Result (Option Fault) StoreError → Type 0
 ReportsStop old new tally (toss.Packet why) result = (result ≡ Ok (Some (fault_of why))) × (new ≡ old ++ tally_line tally)
 ReportsStop old new tally (toss.Store cause) result = result ≡ Err cause
 
@@ -93,7 +93,7 @@ HoldsCommitted s base = s.keeps base × s.committed base
 
 -- The packet files are tossed at a system with this base, some are left, and the lines of the packets are printed; the base after
 -- them is committed.
-pub record TossesOn {R : Type 0} (noting : Bool) (limits : Limits) (device : R → Device) (file : LinkFile) (base : Base) (files left : List Coming) (old new : Output) (result : Result (Option Fault) Stop) (store : StoreState) : Type 0 where
+pub record TossesOn {R : Type 0} (noting : Bool) (limits : Limits) (device : R → Device) (file : LinkFile) (base : Base) (files left : List Coming) (old new : Output) (result : Result (Option Fault) CommandError) (store : StoreState) : Type 0 where
   pub next : Base
   pub run : TossRun
   pub stopped : Option Fault
@@ -103,13 +103,13 @@ pub record TossesOn {R : Type 0} (noting : Bool) (limits : Limits) (device : R �
   pub committed : OnOk result (HoldsCommitted store next)
 
 -- The packet files are tossed at a system with this base, some are left, and the lines of the packets are printed.
-pub record TossesIn {R : Type 0} (noting : Bool) (limits : Limits) (device : R → Device) (file : LinkFile) (base : Base) (files left : List Coming) (old new : Output) (result : Result (Option Fault) Stop) : Type 0 where
+pub record TossesIn {R : Type 0} (noting : Bool) (limits : Limits) (device : R → Device) (file : LinkFile) (base : Base) (files left : List Coming) (old new : Output) (result : Result (Option Fault) CommandError) : Type 0 where
   pub run : TossRun
   pub stopped : Option Fault
   pub each : TossesEachBy (TossesPacketBy noting) device files (run_begun limits (state_in file base)) stopped left run
   pub ends : EndsOn run stopped old new result
 
 -- The same, and then the system has the other base.
-pub record TossesTo {R : Type 0} (noting : Bool) (limits : Limits) (device : R → Device) (file : LinkFile) (base : Base) (files left : List Coming) (old new : Output) (result : Result (Option Fault) Stop) (next : Base) : Type 0 where
+pub record TossesTo {R : Type 0} (noting : Bool) (limits : Limits) (device : R → Device) (file : LinkFile) (base : Base) (files left : List Coming) (old new : Output) (result : Result (Option Fault) CommandError) (next : Base) : Type 0 where
   pub tossed : TossesIn noting limits device file base files left old new result
   pub state : tossed.run.system ≡ state_in file next

@@ -7,9 +7,9 @@ ghost use Rattle.cmd_status.specs.Devices.{Output, output_of};
 ghost use Rattle.base_store.specs.Store.{HasStoreCause};
 ghost use Rattle.cmd_store.specs.Answered.{HasCommitted, MayMake, StaysWhereMet};
 ghost use Rattle.cmd_store.specs.Stops.{store_answer};
-ghost use Rattle.cmd_store.specs.declared.stop.Stop.{Stop as TheStop};
+ghost use Rattle.cmd_store.specs.declared.command_error.CommandError.{CommandError as TheStop};
 
-use crate::stop::Stop;
+use crate::command_error::CommandError;
 use base_store::PurgedStore;
 use disk_io::Sink;
 use echo_links::LinkFile;
@@ -40,7 +40,7 @@ pub trait StoreCommand<'a> {
         links: &LinkFile,
         store: &mut T,
         out: &mut W,
-    ) -> Result<Self::Answer, Stop<'a>>
+    ) -> Result<Self::Answer, CommandError<'a>>
         requires { (T.state store.old).is_ready }
         ensures answers { Honestly (T.state store.new).disk ((base : Base) → (T.state store.old).keeps base
             → answers self.old self.new links.now base (output_of W.contents W.failures W.holds out.old) (output_of W.contents W.failures W.holds out.new) result) }

@@ -5,13 +5,13 @@ ghost use Rattle.base_store.specs.Store.{Commits, HasStoreCause, MayCommit};
 ghost use Rattle.cmd_store.specs.Answered.{LooksWhereMet, PrintsAll};
 ghost use Rattle.cmd_store.specs.Stops.{IsOfStore, store_answer};
 
-use crate::stop::Stop;
+use crate::command_error::CommandError;
 use base_store::Store;
 use cmd_status::print_rest;
 use disk_io::Sink;
 
 /// Commits what the store holds.
-pub fn commit_on<'a, T: Store>(store: &mut T) -> Result<(), Stop<'a>>
+pub fn commit_on<'a, T: Store>(store: &mut T) -> Result<(), CommandError<'a>>
     requires { (T.state store.old).is_ready }
     ensures committed { OnOk result (Commits (T.state store.old) (T.state store.new)) }
     ensures either { MayCommit (T.state store.old) (T.state store.new) }
@@ -27,7 +27,7 @@ pub(crate) fn leave<'a, T: Store, W: Sink>(
     lines: &mut Vec<u8>,
     store: &mut T,
     out: &mut W,
-) -> Result<(), Stop<'a>>
+) -> Result<(), CommandError<'a>>
     requires { (T.state store.old).is_ready }
     ensures printed { PrintsAll lines.old.items (output_of W.contents W.failures W.holds out.old) (output_of W.contents W.failures W.holds out.new) result }
     ensures committed { OnOk result (Commits (T.state store.old) (T.state store.new)) }

@@ -17,7 +17,7 @@ use std::alloc::{AllocError, Global};
 
 /// Words for what a mail lacks.
 #[derive(Clone, Copy, Debug)]
-pub struct Spare<'a> {
+pub struct MailDefaults<'a> {
     pub area: Option<&'a str>,
     pub to: Option<&'a str>,
     pub from: Option<&'a str>,
@@ -40,7 +40,7 @@ pub struct Letter {
 pub fn letter_in(
     alloc: Global,
     bytes: &[u8],
-    spare: Spare<'_>,
+    spare: MailDefaults<'_>,
     charset: Charset,
 ) -> Result<Letter, LetterFault>
     ensures { LetterAnswers charset spare.entry (mail_in bytes.now) result }
@@ -53,7 +53,7 @@ pub fn letter_in(
 fn letter_of(
     alloc: Global,
     mail: &Mail,
-    spare: Spare<'_>,
+    spare: MailDefaults<'_>,
     charset: Charset,
 ) -> Result<Letter, LetterFault>
     ensures { LetterOf charset spare.entry mail.now result }

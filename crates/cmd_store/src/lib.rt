@@ -9,7 +9,7 @@
 //!
 //! Each is a type that implements `StoreCommand`, except `scan`, which needs the disk for its packets.
 //!
-//! Modules in reading order: `stop` (why a command stopped), `command` (what a command owes), `leaving` (lines are printed,
+//! Modules in reading order: `command_error` (why a command stopped), `command` (what a command owes), `leaving` (lines are printed,
 //! and the store committed), `serials` (the serial of a posting), `posting`, `replying`, `scanning`, `purging` and `tossing`.
 //! For mail: `fault` (why a mail is not posted), `writing` (what a mail says, in a charset), `charset_line` (the line of
 //! that charset), `letter` (the words of a mail), `mailed` (the words of the posting), `mail_posting` (the command) and `laws`.
@@ -17,6 +17,7 @@
 
 mod charset_line;
 mod command;
+mod command_error;
 mod fault;
 mod laws;
 mod leaving;
@@ -28,20 +29,19 @@ mod purging;
 mod replying;
 mod scanning;
 mod serials;
-mod stop;
 mod tossing;
 mod writing;
 
 pub use command::StoreCommand;
+pub use command_error::CommandError;
 pub use fault::LetterFault;
 pub use laws::exported_ids_are_answered;
 pub use leaving::commit_on;
-pub use letter::{Letter, Spare, letter_in};
+pub use letter::{Letter, MailDefaults, letter_in};
 pub use mail_posting::PostMail;
 pub use mailed::MailWords;
 pub use posting::Post;
 pub use purging::Purge;
 pub use replying::Reply;
 pub use scanning::scan_on;
-pub use stop::Stop;
 pub use tossing::Toss;

@@ -6,7 +6,7 @@ ghost use Rattle.cmd_store.specs.MailPosted.{Mails, MailsOn, ReadsMail};
 use crate::fault::LetterFault;
 use crate::letter::{Letter, letter_in};
 use crate::mailed::{MailWords, words_of};
-use crate::{Post, Stop, StoreCommand};
+use crate::{CommandError, Post, StoreCommand};
 use base_store::PurgedStore;
 use disk_io::Sink;
 use echo_links::LinkFile;
@@ -50,7 +50,7 @@ impl<'a> StoreCommand<'a> for PostMail<'_> {
         links: &LinkFile,
         store: &mut T,
         out: &mut W,
-    ) -> Result<(), Stop<'a>> {
+    ) -> Result<(), CommandError<'a>> {
         let mut post = Post {
             words: words_of(&self.letter, self.asked),
             free: self.asked.free,

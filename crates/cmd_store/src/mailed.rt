@@ -1,7 +1,7 @@
 //! The words with which a mail is posted.
 ghost use Rattle.cmd_store.specs.Mailed.{IsPosting};
 
-use crate::letter::{Letter, Spare};
+use crate::letter::{Letter, MailDefaults};
 use cmd_report::NewMessage;
 use echo_charset::Charset;
 use model_steps::Stamp;
@@ -10,7 +10,7 @@ use model_steps::Stamp;
 /// free one will do, and the timestamp.
 #[derive(Clone, Copy, Debug)]
 pub struct MailWords<'a> {
-    pub spare: Spare<'a>,
+    pub spare: MailDefaults<'a>,
     pub charset: Charset,
     pub serial: u32,
     pub free: bool,

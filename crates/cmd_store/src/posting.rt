@@ -12,9 +12,9 @@ ghost use Rattle.cmd_store.specs.FreeSerial.{PostsAs, PostsAsOn};
 ghost use Rattle.cmd_store.specs.Stops.{store_answer};
 
 use crate::command::StoreCommand;
+use crate::command_error::CommandError;
 use crate::leaving::leave;
 use crate::serials::file_as;
-use crate::stop::Stop;
 use base_store::{PurgedStore, Store};
 use cmd_report::{NewMessage, draft_of, push_posted};
 use disk_io::Sink;
@@ -47,7 +47,7 @@ impl<'a> StoreCommand<'a> for Post<'_> {
         links: &LinkFile,
         store: &mut T,
         out: &mut W,
-    ) -> Result<(), Stop<'a>> {
+    ) -> Result<(), CommandError<'a>> {
         post_as(alloc, self.free, self.words, links, store, self.body, out)
     }
 }
@@ -62,7 +62,7 @@ pub(crate) fn post_as<'a, T: Store, W: Sink>(
     store: &mut T,
     body: &[u8],
     out: &mut W,
-) -> Result<(), Stop<'a>>
+) -> Result<(), CommandError<'a>>
     requires { (T.state store.old).is_ready }
     ensures answers { Honestly (T.state store.new).disk ((base : Base) → (T.state store.old).keeps base
         → PostsAsOn free words.entry (state_in links.now base) body.now (output_of W.contents W.failures W.holds out.old) (output_of W.contents W.failures W.holds out.new) result) }
@@ -86,7 +86,7 @@ fn leave_posted<'a, T: Store, W: Sink>(
     links: &LinkFile,
     store: &mut T,
     out: &mut W,
-) -> Result<(), Stop<'a>>
+) -> Result<(), CommandError<'a>>
     requires { (T.state store.old).is_ready }
     ensures printed { PrintsAll (posted_line tag.now (id_of links.now.system serial)) (output_of W.contents W.failures W.holds out.old) (output_of W.contents W.failures W.holds out.new) result }
     ensures committed { OnOk result (Commits (T.state store.old) (T.state store.new)) }

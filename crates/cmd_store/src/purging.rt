@@ -9,8 +9,8 @@ ghost use Rattle.cmd_store.specs.Purged.{HoldsOrPurges, Purges, PurgesOn};
 ghost use Rattle.cmd_store.specs.Stops.{store_answer};
 
 use crate::command::StoreCommand;
+use crate::command_error::CommandError;
 use crate::leaving::leave;
-use crate::stop::Stop;
 use base_store::PurgedStore;
 use cmd_report::push_purged;
 use disk_io::Sink;
@@ -38,7 +38,7 @@ impl<'a> StoreCommand<'a> for Purge {
         _links: &LinkFile,
         store: &mut T,
         out: &mut W,
-    ) -> Result<(), Stop<'a>> {
+    ) -> Result<(), CommandError<'a>> {
         purge_on(alloc, store, out)
     }
 }
@@ -49,7 +49,7 @@ fn purge_on<'a, T: PurgedStore, W: Sink>(
     alloc: Global,
     store: &mut T,
     out: &mut W,
-) -> Result<(), Stop<'a>>
+) -> Result<(), CommandError<'a>>
     requires { (T.state store.old).is_ready }
     ensures answers { Honestly (T.state store.new).disk ((base : Base) → (T.state store.old).keeps base
         → PurgesOn base (output_of W.contents W.failures W.holds out.old) (output_of W.contents W.failures W.holds out.new) result) }

@@ -10,10 +10,10 @@ ghost use Rattle.cmd_store.specs.Replied.{FindsOn, Replies, RepliesOn};
 ghost use Rattle.cmd_store.specs.Stops.{store_answer};
 
 use crate::command::StoreCommand;
+use crate::command_error::CommandError;
 use crate::posting::post_as;
-use crate::stop::Stop;
 use base_store::{PurgedStore, Store, StoreError};
-use cmd_report::{Answer, Found, NewMessage, found_in};
+use cmd_report::{Answer, NewMessage, ReplyFields, found_in};
 use cmd_status::Fault;
 use disk_io::Sink;
 use echo_links::LinkFile;
@@ -44,7 +44,7 @@ impl<'a> StoreCommand<'a> for Reply<'_> {
         links: &LinkFile,
         store: &mut T,
         out: &mut W,
-    ) -> Result<(), Stop<'a>> {
+    ) -> Result<(), CommandError<'a>> {
         reply_on(alloc, self.index, self.answer, links, store, self.body, out)
     }
 }
@@ -59,7 +59,7 @@ fn reply_on<'a, T: Store, W: Sink>(
     store: &mut T,
     body: &[u8],
     out: &mut W,
-) -> Result<(), Stop<'a>>
+) -> Result<(), CommandError<'a>>
     requires { (T.state store.old).is_ready }
     ensures answers { Honestly (T.state store.new).disk ((base : Base) → (T.state store.old).keeps base
         → RepliesOn (slice_get base.messages index) answer.entry (state_in links.now base) body.now (output_of W.contents W.failures W.holds out.old) (output_of W.contents W.failures W.holds out.new) result) }
@@ -84,18 +84,22 @@ fn reply_on<'a, T: Store, W: Sink>(
 }
 
 // The words that the message of this number gives.
-fn found_on<'a, T: Store>(alloc: Global, index: u64, store: &mut T) -> Result<Found, Stop<'a>>
+fn found_on<'a, T: Store>(
+    alloc: Global,
+    index: u64,
+    store: &mut T,
+) -> Result<ReplyFields, CommandError<'a>>
     requires { (T.state store.old).is_ready }
     ensures found { Honestly (T.state store.new).disk ((base : Base) → (T.state store.old).keeps base → FindsOn (slice_get base.messages index) result) }
     ensures looks { LooksOn (T.state store.old) (T.state store.new) }
     ensures cause { HasStoreCause (T.state store.old) (T.state store.new) (T.failures store.old) (T.failures store.new) (store_answer result) }
 {
     if index >= store.len() as u64 {
-        return Err(Stop::Met(Fault::BadNumber));
+        return Err(CommandError::Met(Fault::BadNumber));
     }
     store.fetch(index as usize)?;
     match store.at_hand() {
         Some(message) => Ok(found_in(alloc, message)?),
-        None => Err(Stop::Store(StoreError::Damaged)),
+        None => Err(CommandError::Store(StoreError::Damaged)),
     }
 }

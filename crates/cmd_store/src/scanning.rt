@@ -9,14 +9,14 @@ ghost use Rattle.echo_toss.specs.PacketsIn.{state_in};
 ghost use Rattle.cmd_store.specs.Scanned.{ScansOn};
 ghost use Rattle.cmd_store.specs.Stops.{store_answer};
 
-use crate::stop::Stop;
+use crate::command_error::CommandError;
 use base_store::Store;
 use cmd_report::packet_files;
 use cmd_status::print_rest;
 use disk_io::Sink;
 use echo_addr::Items;
 use echo_links::LinkFile;
-use echo_toss::scan_in;
+use echo_toss::scan_step;
 use model_steps::{PacketFile, Stamp};
 use std::alloc::Global;
 
@@ -28,7 +28,7 @@ pub fn scan_on<'a, T: Store, W: Sink>(
     links: &LinkFile,
     store: &mut T,
     out: &mut W,
-) -> Result<Items<PacketFile>, Stop<'a>>
+) -> Result<Items<PacketFile>, CommandError<'a>>
     requires { (T.state store.old).is_ready }
     ensures answers { Honestly (T.state store.new).disk ((base : Base) → (T.state store.old).keeps base
         → ScansOn stamp (state_in links.now base) (output_of W.contents W.failures W.holds out.old) (output_of W.contents W.failures W.holds out.new) result) }
@@ -39,7 +39,7 @@ pub fn scan_on<'a, T: Store, W: Sink>(
     ensures cause { HasStoreCause (T.state store.old) (T.state store.new) (T.failures store.old) (T.failures store.new) (store_answer result) }
 {
     let before = store.cursor();
-    let packets = scan_in(alloc, links, store, stamp)?;
+    let packets = scan_step(alloc, links, store, stamp)?;
     let mut lines = Vec::new(alloc);
     let files = packet_files(alloc, packets, before, &mut lines)?;
     print_rest(&mut lines, out)?;

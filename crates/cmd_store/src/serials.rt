@@ -4,14 +4,14 @@ ghost use Rattle.disk_io.specs.Disk.{Honestly};
 ghost use Rattle.base_file.specs.Base.{Base};
 ghost use Rattle.model_steps.specs.declared.fault.PostFault.TheVariants.{KnownSerial};
 ghost use Rattle.base_store.specs.Store.{CommitsNothing, GoesOn, HasStoreCause};
-ghost use Rattle.echo_toss.specs.declared.stop.PostStop.TheVariants.{Refused};
+ghost use Rattle.echo_toss.specs.declared.step_error.PostStepError.TheVariants.{Refused};
 ghost use Rattle.echo_toss.specs.Stores.{LooksWhereRefused, post_answer};
 ghost use Rattle.cmd_store.specs.FreeSerial.{FilesAs};
 
 use base_store::Store;
 use cmd_report::NewMessage;
 use echo_links::LinkFile;
-use echo_toss::{PostStop, post_in};
+use echo_toss::{PostStepError, post_step};
 use model_steps::{Draft, PostFault};
 use std::alloc::Global;
 
@@ -24,7 +24,7 @@ pub(crate) fn file_as<T: Store>(
     links: &LinkFile,
     store: &mut T,
     draft: &Draft,
-) -> Result<u32, PostStop>
+) -> Result<u32, PostStepError>
     requires { (T.state store.old).is_ready }
     ensures filed { Honestly (T.state store.new).disk ((base : Base) → (T.state store.old).keeps base
         → FilesAs free links.now base words.entry draft.now result (T.state store.new)) }
@@ -37,7 +37,7 @@ pub(crate) fn file_as<T: Store>(
         return file_free(alloc, words, links, store, draft);
     }
     let (tag, serial, stamp) = (words.tag, words.serial, words.stamp);
-    post_in(alloc, links, store, tag, draft, serial, stamp)?;
+    post_step(alloc, links, store, tag, draft, serial, stamp)?;
     Ok(serial)
 }
 
@@ -48,7 +48,7 @@ fn file_free<T: Store>(
     links: &LinkFile,
     store: &mut T,
     draft: &Draft,
-) -> Result<u32, PostStop>
+) -> Result<u32, PostStepError>
     requires { (T.state store.old).is_ready }
     ensures filed { Honestly (T.state store.new).disk ((base : Base) → (T.state store.old).keeps base
         → FilesAs true links.now base words.entry draft.now result (T.state store.new)) }
@@ -60,19 +60,19 @@ fn file_free<T: Store>(
     let (tag, start, stamp) = (words.tag, words.serial, words.stamp);
     let mut serial = start;
     'serials: for _steps in 0..u32::MAX {
-        match post_in(alloc, links, store, tag, draft, serial, stamp) {
+        match post_step(alloc, links, store, tag, draft, serial, stamp) {
             Ok(()) => return Ok(serial),
             Err(stop) if !is_of_serial(stop) => return Err(stop),
             Err(_) => serial = serial.wrapping_add(1),
         }
     }
-    post_in(alloc, links, store, tag, draft, serial, stamp)?;
+    post_step(alloc, links, store, tag, draft, serial, stamp)?;
     Ok(serial)
 }
 
 // Whether the serial is known.
-fn is_of_serial(stop: PostStop) -> bool
+fn is_of_serial(stop: PostStepError) -> bool
     ensures { IsTrue result ↔ (stop ≡ Refused KnownSerial) }
 {
-    matches!(stop, PostStop::Refused(PostFault::KnownSerial))
+    matches!(stop, PostStepError::Refused(PostFault::KnownSerial))
 }

@@ -10,14 +10,14 @@ ghost use Rattle.cmd_store.specs.Stops.{store_answer};
 ghost use Rattle.cmd_store.specs.Tossed.{PrintsRun, ReportsIn, Tosses, TossesFiles, TossesIn, TossesNext, TossesOn, TossesTo};
 
 use crate::command::StoreCommand;
-use crate::stop::Stop;
+use crate::command_error::CommandError;
 use base_store::{PurgedStore, Store, StoreError};
 use cmd_report::{MOST_TALLY, PacketFiles, fault_of, push_tally, toss_noting_in};
 use cmd_status::{Fault, print_rest};
 use disk_io::{Sink, Source};
 use echo_links::LinkFile;
 use echo_packet::Limits;
-use echo_toss::{StoppedToss, Tally, TossStop, toss_packet_in};
+use echo_toss::{StoppedToss, Tally, TossStepError, toss_packet_in};
 use std::alloc::Global;
 use std::marker::PhantomData;
 
@@ -64,7 +64,7 @@ impl<'a, P: PacketFiles<'a>> StoreCommand<'a> for Toss<'a, P> {
         links: &LinkFile,
         store: &mut T,
         out: &mut W,
-    ) -> Result<Option<Fault<'a>>, Stop<'a>> {
+    ) -> Result<Option<Fault<'a>>, CommandError<'a>> {
         toss_on(
             alloc,
             self.limits,
@@ -89,7 +89,7 @@ fn toss_on<'a, T: Store, P: PacketFiles<'a>, W: Sink>(
     store: &mut T,
     packets: &mut P,
     out: &mut W,
-) -> Result<Option<Fault<'a>>, Stop<'a>>
+) -> Result<Option<Fault<'a>>, CommandError<'a>>
     requires { (T.state store.old).is_ready }
     ensures answers { Honestly (T.state store.new).disk ((base : Base) → (T.state store.old).keeps base
         → TossesOn noting limits (device_of P.Reader.remaining P.Reader.failures) links.now base (P.coming packets.old) (P.coming packets.new)
@@ -196,11 +196,11 @@ fn push_answer<'a>(
             Ok(None)
         }
         Err(stopped) => match stopped.stop {
-            TossStop::Packet(cause) => {
+            TossStepError::Packet(cause) => {
                 push_tally(lines, stopped.tally);
                 Ok(Some(fault_of(cause)))
             }
-            TossStop::Store(error) => Err(error),
+            TossStepError::Store(error) => Err(error),
         },
     }
 }

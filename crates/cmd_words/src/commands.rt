@@ -1,8 +1,5 @@
 //! The commands, as a table: what each takes, and its help.
 
-use clap::{Arg, ArgAction, Command};
-use std::alloc::{AllocError, Global};
-
 // How the help of a command ends: with an example, and with its statuses, of which 1 has this line.
 macro_rules! ending_with {
     ($example:literal, $differs:literal) => {
@@ -26,7 +23,7 @@ macro_rules! judging {
 
 /// How a word is given.
 #[derive(Clone, Copy)]
-enum Form {
+pub(crate) enum Form {
     /// `--NAME`
     Flag,
     /// the same, where this option does not stand
@@ -57,15 +54,20 @@ enum Form {
 
 /// A word that a command takes: its name, how it is given, and its help.
 #[derive(Clone, Copy)]
-struct Word(&'static str, Form, &'static str);
+pub(crate) struct Word(
+    pub(crate) &'static str,
+    pub(crate) Form,
+    pub(crate) &'static str,
+);
 
 /// A command: its name, what it does, how its help ends, and its words.
 #[derive(Clone, Copy)]
-pub(crate) struct Entry(&'static str, &'static str, &'static str, &'static [Word]);
-
-// The usage lines of `check`, of which the second has no TAG.
-const CHECK_USAGE: &str =
-    "echonet check [OPTIONS] <TAG> <LINKS>...\n       echonet check [OPTIONS] --all <LINKS>...";
+pub(crate) struct Entry(
+    pub(crate) &'static str,
+    pub(crate) &'static str,
+    pub(crate) &'static str,
+    pub(crate) &'static [Word],
+);
 
 /// How the help of the program ends.
 pub(crate) const PROGRAM_ENDING: &str = ending_with!(
@@ -446,83 +448,3 @@ pub(crate) const READING: &[Entry] = &[
         ],
     ),
 ];
-
-// The word, as the parser has it.
-fn argument<'a>(alloc: Global, word: Word) -> Result<Arg<'a>, AllocError> {
-    let Word(name, form, help) = word;
-    let arg = Arg::new(alloc, name).help(help);
-    match form {
-        Form::Flag => Ok(flag(arg, name)),
-        Form::FlagUnless(other) => flag(arg, name).conflicts_with(other),
-        Form::FlagUnlessAny(others) => flag(arg, name).conflicts_with_all(others),
-        Form::Option(value) => Ok(arg.long(name).value_name(value)),
-        Form::OptionWith(value, needed, others) => {
-            option_with(arg.long(name).value_name(value), needed, others)
-        }
-        Form::Repeated(value) => Ok(repeated(arg, name, value)),
-        Form::RepeatedUnless(value, other) => repeated(arg, name, value).conflicts_with(other),
-        Form::Needed(value) => Ok(arg.long(name).value_name(value).required(true)),
-        Form::NeededUnless(value, others) => {
-            let option = arg.long(name).value_name(value);
-            option.required_unless_present_any(others)
-        }
-        Form::One => Ok(arg.required(true)),
-        Form::OneUnless(one, other) => arg.required_unless_present_all(&[one, other]),
-        Form::ManyUnless(option) => many_unless(arg.num_args(1..), option),
-        Form::RestUnless(list, option) => rest_unless(arg.num_args(1..), list, option),
-    }
-}
-
-fn flag<'a>(arg: Arg<'a>, name: &'static str) -> Arg<'a> {
-    arg.long(name).action(ArgAction::SetTrue)
-}
-
-fn option_with<'a>(
-    option: Arg<'a>,
-    needed: &'static str,
-    others: &'static [&'static str],
-) -> Result<Arg<'a>, AllocError> {
-    option.requires_arg(needed)?.conflicts_with_all(others)
-}
-
-fn repeated<'a>(arg: Arg<'a>, name: &'static str, value: &'static str) -> Arg<'a> {
-    arg.long(name).value_name(value).action(ArgAction::Append)
-}
-
-fn many_unless<'a>(many: Arg<'a>, option: &'static str) -> Result<Arg<'a>, AllocError> {
-    many.required_unless_present(option)?.conflicts_with(option)
-}
-
-fn rest_unless<'a>(
-    rest: Arg<'a>,
-    list: &'static str,
-    option: &'static str,
-) -> Result<Arg<'a>, AllocError> {
-    let rest = rest.required_unless_present(list)?;
-    rest.required_unless_present(option)?.conflicts_with(list)
-}
-
-/// The command, as the parser has it.
-pub(crate) fn subcommand<'a>(alloc: Global, entry: Entry) -> Result<Command<'a>, AllocError> {
-    let Entry(name, about, ending, words) = entry;
-    let mut command = described(alloc, name, about, ending);
-    for word in words {
-        command = command.arg(argument(alloc, *word)?)?;
-    }
-    Ok(command)
-}
-
-// It without its words.
-fn described<'a>(
-    alloc: Global,
-    name: &'static str,
-    about: &'static str,
-    ending: &'static str,
-) -> Command<'a> {
-    let command = Command::new(alloc, name).about(about).after_help(ending);
-    if name == "check" {
-        command.override_usage(CHECK_USAGE)
-    } else {
-        command
-    }
-}

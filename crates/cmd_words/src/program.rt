@@ -1,6 +1,7 @@
 //! The command line of the program: all commands, and the word that any of them takes.
 
-use crate::commands::{CHANGING, Entry, LOOKING, PROGRAM_ENDING, READING, subcommand};
+use crate::commands::{CHANGING, Entry, LOOKING, PROGRAM_ENDING, READING};
+use crate::forms::subcommand;
 use clap::{Arg, ArgAction, Command};
 use std::alloc::{AllocError, Global};
 

@@ -10,7 +10,7 @@ use Rattle.disk_atomic.proofs.Packets.{AtBoth}
 
 -- whatever a crash leaves, the packet stands whole at one of its two paths
 abbrev pub IsAnchored : DiskState → Outgoing → Type 0
-IsAnchored disk p = HasOnDisk disk p.path.now p.file.now.bytes ⊎ HasOnDisk disk p.beside.now p.file.now.bytes
+IsAnchored disk p = HasOnDisk disk p.path.now p.file.now.bytes ⊎ HasOnDisk disk p.staging.now p.file.now.bytes
 
 -- its path has what it had
 abbrev pub IsSameAt : DiskState → DiskState → Outgoing → Type 0
@@ -18,52 +18,52 @@ IsSameAt old new p = new.seen p.path.now ≡ old.seen p.path.now
 
 module _ (x y : Outgoing) (apart : AreApart x y) where
   pub not_path : AtBoth x y.path.now → ⊥
-  not_path at = ⊎_elim (λ e. apart.beside_path (sym e)) (λ e. apart.paths (sym e)) at
+  not_path at = ⊎_elim (λ e. apart.staging_path (sym e)) (λ e. apart.paths (sym e)) at
 
-  pub not_beside : AtBoth x y.beside.now → ⊥
-  not_beside at = ⊎_elim (λ e. apart.besides (sym e)) (λ e. apart.path_beside (sym e)) at
+  pub not_staging : AtBoth x y.staging.now → ⊥
+  not_staging at = ⊎_elim (λ e. apart.stagings (sym e)) (λ e. apart.path_staging (sym e)) at
 
   -- a run at the paths of x
   module _ (d e : DiskState) (run : ChangesOnly (AtBoth x) d e) where
     pub anchor_stays : IsAnchored d y → IsAnchored e y
     anchor_stays was =
-        ⊎_elim (λ on. inl (stays_on_disk (AtBoth x) d e y.path.now y.file.now.bytes run not_path on)) (λ on. inr (stays_on_disk (AtBoth x) d e y.beside.now y.file.now.bytes run not_beside on)) was
+        ⊎_elim (λ on. inl (stays_on_disk (AtBoth x) d e y.path.now y.file.now.bytes run not_path on)) (λ on. inr (stays_on_disk (AtBoth x) d e y.staging.now y.file.now.bytes run not_staging on)) was
 
     pub staged_stays : IsStaged d y → IsStaged e y
     staged_stays was = record {
-      file = stays_on_disk (AtBoth x) d e y.beside.now y.file.now.bytes run not_beside was.file;
+      file = stays_on_disk (AtBoth x) d e y.staging.now y.file.now.bytes run not_staging was.file;
       named = run.named y.path.now not_path was.named;
     }
 
     pub has_path_stays : HasItsPath d y → HasItsPath e y
     has_path_stays was = record {
       file = stays_on_disk (AtBoth x) d e y.path.now y.file.now.bytes run not_path was.file;
-      gone = run.seen y.beside.now not_beside ∙ was.gone;
+      gone = run.seen y.staging.now not_staging ∙ was.gone;
     }
 
     pub same_stays : (d0 : DiskState) → IsSameAt d0 d y → IsSameAt d0 e y
     same_stays d0 was = run.seen y.path.now not_path ∙ was
 
   -- and what a crash leaves of it
-  pub whole_stays : (d : DiskState) (b c : Files) → d.may_leave b → Names x.path.now x.beside.now b c → IsAnchored d y → StandsWhole c y
+  pub whole_stays : (d : DiskState) (b c : Files) → d.may_leave b → Names x.path.now x.staging.now b c → IsAnchored d y → StandsWhole c y
   whole_stays d b c left names on =
       ⊎_elim
       (λ at. inl (names.others y.path.now not_path ∙ left_there d y.path.now y.file.now.bytes at b left))
-      (λ at. inr (names.others y.beside.now not_beside ∙ left_there d y.beside.now y.file.now.bytes at b left))
+      (λ at. inr (names.others y.staging.now not_staging ∙ left_there d y.staging.now y.file.now.bytes at b left))
       on
 
 -- the packet that is named
-module _ (x : Outgoing) (d e : DiskState) (staged : HasOnDisk d x.beside.now x.file.now.bytes) where
-  pub has_path : HasMoved d e x.path.now x.beside.now → HasItsPath e x
+module _ (x : Outgoing) (d e : DiskState) (staged : HasOnDisk d x.staging.now x.file.now.bytes) where
+  pub has_path : HasMoved d e x.path.now x.staging.now → HasItsPath e x
   has_path moved = record { file = record { seen = moved.seen ∙ staged.seen; named = moved.named; flushed = moved.flushed }; gone = moved.gone }
 
-  pub anchored_now : (named : Bool) → (named ≡ true → HasMoved d e x.path.now x.beside.now) → (named ≡ false → StaysThere d e x.beside.now) → IsAnchored e x
+  pub anchored_now : (named : Bool) → (named ≡ true → HasMoved d e x.path.now x.staging.now) → (named ≡ false → StaysThere d e x.staging.now) → IsAnchored e x
   anchored_now true moved stays = inl (has_path (moved refl)).file
   anchored_now false moved stays =
-      let still : StaysThere d e x.beside.now = stays refl in
+      let still : StaysThere d e x.staging.now = stays refl in
       inr (record { seen = still.seen ∙ staged.seen; named = still.named staged.named; flushed = still.flushed staged.flushed })
 
-  pub whole_now : (b c : Files) → d.may_leave b → Names x.path.now x.beside.now b c → StandsWhole c x
+  pub whole_now : (b c : Files) → d.may_leave b → Names x.path.now x.staging.now b c → StandsWhole c x
   whole_now b c left names =
-      let was : b x.beside.now ≡ Some x.file.now.bytes = left_there d x.beside.now x.file.now.bytes staged b left in
+      let was : b x.staging.now ≡ Some x.file.now.bytes = left_there d x.staging.now x.file.now.bytes staged b left in
       ⊎_elim (λ is. inl (is ∙ was)) (λ is. inr (is ∙ was)) names.stands

@@ -48,16 +48,16 @@ module _ (paths : List ℕ → Type 0) where
   pub only_call : (old new : DiskState) (x : List ℕ) (step : Option (List ℕ) → Option (List ℕ) → Type 0) → paths x → old.is_named x
       → SameBeside x old.seen new.seen → LeavesOneStepOn (ChangesFile old x step) old new → KeepsNamed paths old new → KeepsFlushed paths old new → KeepsAlone paths old new
       → Elapses old new → ChangesOnly paths old new
-  only_call old new x step is on beside crash named flushed alone time =
+  only_call old new x step is on staging crash named flushed alone time =
       let not : (m : List ℕ) → (paths m → ⊥) → m ≡ x → ⊥ = λ m other e. other (subst paths (sym e) is) in
       record {
-        seen = λ m other. beside m (not m other);
+        seen = λ m other. staging m (not m other);
         named = named;
         flushed = flushed;
         alone = alone;
         honest = time.honest;
         any_moment = one_call old new (DifferAt paths) (λ c m other. refl) time (λ c left.
-            let from = crash c left in (from.0, from.1, λ m other. from.2.beside m (not m other) (inl on)));
+            let from = crash c left in (from.0, from.1, λ m other. from.2.staging m (not m other) (inl on)));
       }
 
   pub then_only : (d0 d1 d2 : DiskState) → ChangesOnly paths d0 d1 → ChangesOnly paths d1 d2 → ChangesOnly paths d0 d2

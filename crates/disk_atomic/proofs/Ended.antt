@@ -18,25 +18,25 @@ use Rattle.disk_atomic.proofs.Each.{ahead, among, behind, here}
 pub away_back : (l k : Left) → AreAway l k → AreAway k l
 away_back l k a = record {
   paths = λ e. a.paths (sym e);
-  besides = λ e. a.besides (sym e);
-  path_beside = λ e. a.beside_path (sym e);
-  beside_path = λ e. a.path_beside (sym e);
+  stagings = λ e. a.stagings (sym e);
+  path_staging = λ e. a.staging_path (sym e);
+  staging_path = λ e. a.path_staging (sym e);
 }
 
 -- what a loop reads past the end
 abbrev pub nothing_left : Left
-nothing_left = record { path = record { ref_ptr = (0, 0); now = [] }; beside = record { ref_ptr = (0, 0); now = [] }; before = 0 }
+nothing_left = record { path = record { ref_ptr = (0, 0); now = [] }; staging = record { ref_ptr = (0, 0); now = [] }; before = 0 }
 
 -- both paths of one
 abbrev pub AtLeft : Left → List ℕ → Type 0
-AtLeft l m = (m ≡ l.beside.now) ⊎ (m ≡ l.path.now)
+AtLeft l m = (m ≡ l.staging.now) ⊎ (m ≡ l.path.now)
 
 -- a step that changes nothing, of a packet that is not reached
-pub ends_same : (cursor : ℕ) (a b : Files) (l : Left) → b l.beside.now ≡ a l.beside.now → b l.path.now ≡ a l.path.now → EndsAs cursor a b l
-ends_same cursor a b l beside path = record { committed = λ lt. inr beside; untouched = λ le. path; either = inl path }
+pub ends_same : (cursor : ℕ) (a b : Files) (l : Left) → b l.staging.now ≡ a l.staging.now → b l.path.now ≡ a l.path.now → EndsAs cursor a b l
+ends_same cursor a b l staging path = record { committed = λ lt. inr staging; untouched = λ le. path; either = inl path }
 
 -- where the cursor was moved, a naming is the end
-pub named_finishes : (cursor : ℕ) (l : Left) → l.before < cursor → (a c : Files) → Names l.path.now l.beside.now a c → Finishes cursor l a c
+pub named_finishes : (cursor : ℕ) (l : Left) → l.before < cursor → (a c : Files) → Names l.path.now l.staging.now a c → Finishes cursor l a c
 named_finishes cursor l lt a c n = record { others = n.others; ends = record { committed = λ is. n.stands; untouched = λ le. absurd (omega arith); either = n.either } }
 
 -- calls that change nothing, and then a run
@@ -50,22 +50,22 @@ quiet_then d0 d1 d2 Q P quiet none run gives =
 -- what is seen at both paths is what was seen
 pub record IsSameLeft (old new : DiskState) (l : Left) : Type 0 where
   pub path : new.seen l.path.now ≡ old.seen l.path.now
-  pub beside : new.seen l.beside.now ≡ old.seen l.beside.now
+  pub staging : new.seen l.staging.now ≡ old.seen l.staging.now
 
 module _ (x y : Left) (away : AreAway x y) where
   left_not_path : AtLeft x y.path.now → ⊥
-  left_not_path at = ⊎_elim (λ e. away.beside_path (sym e)) (λ e. away.paths (sym e)) at
+  left_not_path at = ⊎_elim (λ e. away.staging_path (sym e)) (λ e. away.paths (sym e)) at
 
-  left_not_beside : AtLeft x y.beside.now → ⊥
-  left_not_beside at = ⊎_elim (λ e. away.besides (sym e)) (λ e. away.path_beside (sym e)) at
+  left_not_staging : AtLeft x y.staging.now → ⊥
+  left_not_staging at = ⊎_elim (λ e. away.stagings (sym e)) (λ e. away.path_staging (sym e)) at
 
   module _ (d e : DiskState) (run : ChangesOnly (AtLeft x) d e) where
     pub still_named : AreNamed d y → AreNamed e y
-    still_named was = record { path = run.named y.path.now left_not_path was.path; beside = run.named y.beside.now left_not_beside was.beside }
+    still_named was = record { path = run.named y.path.now left_not_path was.path; staging = run.named y.staging.now left_not_staging was.staging }
 
     module _ (d0 : DiskState) where
       pub still_same : IsSameLeft d0 d y → IsSameLeft d0 e y
-      still_same was = record { path = run.seen y.path.now left_not_path ∙ was.path; beside = run.seen y.beside.now left_not_beside ∙ was.beside }
+      still_same was = record { path = run.seen y.path.now left_not_path ∙ was.path; staging = run.seen y.staging.now left_not_staging ∙ was.staging }
 
       pub still_keeps : KeepsFile d0 d y → KeepsFile d0 e y
       still_keeps was some = run.seen y.path.now left_not_path ∙ was some
@@ -73,14 +73,14 @@ module _ (x y : Left) (away : AreAway x y) where
       pub still_over : (cursor : ℕ) → IsOver cursor d0 d y → IsOver cursor d0 e y
       still_over cursor was = record {
         committed = λ lt.
-            let moved : HasMoved d0 d y.path.now y.beside.now = was.committed lt in
+            let moved : HasMoved d0 d y.path.now y.staging.now = was.committed lt in
             record {
               seen = run.seen y.path.now left_not_path ∙ moved.seen;
-              gone = run.seen y.beside.now left_not_beside ∙ moved.gone;
+              gone = run.seen y.staging.now left_not_staging ∙ moved.gone;
               named = run.named y.path.now left_not_path moved.named;
               flushed = run.flushed y.path.now left_not_path moved.flushed;
             };
-        gone = λ le. run.seen y.beside.now left_not_beside ∙ was.gone le;
+        gone = λ le. run.seen y.staging.now left_not_staging ∙ was.gone le;
         untouched = λ le. run.seen y.path.now left_not_path ∙ was.untouched le;
       }
 
@@ -88,28 +88,28 @@ module _ (x y : Left) (away : AreAway x y) where
   pub still_ends : (cursor : ℕ) (a b c : Files) → DifferAt (AtLeft x) b c → EndsAs cursor a b y → EndsAs cursor a c y
   still_ends cursor a b c r was =
       let path : c y.path.now ≡ b y.path.now = r y.path.now left_not_path in
-      let beside : c y.beside.now ≡ b y.beside.now = r y.beside.now left_not_beside in
+      let staging : c y.staging.now ≡ b y.staging.now = r y.staging.now left_not_staging in
       record {
-        committed = λ lt. ⊎_elim (λ e. inl (path ∙ e)) (λ e. inr (beside ∙ e)) (was.committed lt);
+        committed = λ lt. ⊎_elim (λ e. inl (path ∙ e)) (λ e. inr (staging ∙ e)) (was.committed lt);
         untouched = λ le. path ∙ was.untouched le;
         either = ⊎_elim (λ e. inl (path ∙ e)) (λ e. inr (path ∙ e)) was.either;
       }
 
 -- the packet at hand, which was as it was first
 module _ (cursor : ℕ) (x : Left) where
-  pub ends_now : (a b c : Files) → b x.beside.now ≡ a x.beside.now → b x.path.now ≡ a x.path.now → EndsAs cursor b c x → EndsAs cursor a c x
-  ends_now a b c beside path ends = record {
-    committed = λ lt. ⊎_elim (λ e. inl (e ∙ beside)) (λ e. inr (e ∙ beside)) (ends.committed lt);
+  pub ends_now : (a b c : Files) → b x.staging.now ≡ a x.staging.now → b x.path.now ≡ a x.path.now → EndsAs cursor b c x → EndsAs cursor a c x
+  ends_now a b c staging path ends = record {
+    committed = λ lt. ⊎_elim (λ e. inl (e ∙ staging)) (λ e. inr (e ∙ staging)) (ends.committed lt);
     untouched = λ le. ends.untouched le ∙ path;
-    either = ⊎_elim (λ e. inl (e ∙ path)) (λ e. inr (e ∙ beside)) ends.either;
+    either = ⊎_elim (λ e. inl (e ∙ path)) (λ e. inr (e ∙ staging)) ends.either;
   }
 
   module _ (d0 d e : DiskState) (same : IsSameLeft d0 d x) where
     pub over_now : IsOver cursor d e x → IsOver cursor d0 e x
     over_now over = record {
       committed = λ lt.
-          let moved : HasMoved d e x.path.now x.beside.now = over.committed lt in
-          record { seen = moved.seen ∙ same.beside; gone = moved.gone; named = moved.named; flushed = moved.flushed };
+          let moved : HasMoved d e x.path.now x.staging.now = over.committed lt in
+          record { seen = moved.seen ∙ same.staging; gone = moved.gone; named = moved.named; flushed = moved.flushed };
       gone = over.gone;
       untouched = λ le. over.untouched le ∙ same.path;
     }
@@ -121,7 +121,7 @@ module _ (cursor : ℕ) (x : Left) where
 pub record FinishesSome (cursor : ℕ) (found : List Left) (i : ℕ) (before after : Files) : Type 0 where
   pub others : DifferAt (IsOfLeft found) before after
   pub ends : AllWithin (EndsAs cursor before after) found 0 i
-  pub same : AllWithin (λ l. (after l.path.now ≡ before l.path.now) × (after l.beside.now ≡ before l.beside.now)) found i (length found)
+  pub same : AllWithin (λ l. (after l.path.now ≡ before l.path.now) × (after l.staging.now ≡ before l.staging.now)) found i (length found)
 
 -- and the others are as they were
 pub some_finishes : (cursor : ℕ) (found : List Left) (i : ℕ) (a b : Files) → FinishesSome cursor found i a b → FinishesEach cursor found a b
@@ -140,12 +140,12 @@ module _ (cursor : ℕ) (found : List Left) (away : AllPairs AreAway found) (i :
   -- one packet more
   pub then_finishes : (a b c : Files) → FinishesSome cursor found i a b → Finishes cursor x b c → FinishesSome cursor found (i + 1) a c
   then_finishes a b c r q =
-      let at = here (λ (l : Left). (b l.path.now ≡ a l.path.now) × (b l.beside.now ≡ a l.beside.now)) found i nothing_left lt r.same in
+      let at = here (λ (l : Left). (b l.path.now ≡ a l.path.now) × (b l.staging.now ≡ a l.staging.now)) found i nothing_left lt r.same in
       record {
         others = λ m out. q.others m (λ o. out (x, among found i nothing_left lt, o)) ∙ r.others m out;
         ends = behind AreAway away_back found away i nothing_left lt (EndsAs cursor a b) (EndsAs cursor a c) (λ y far. still_ends x y far cursor a b c q.others) (ends_now cursor x a b c at.1 at.0 q.ends) r.ends;
-        same = ahead AreAway away_back found away i nothing_left lt (λ l. (b l.path.now ≡ a l.path.now) × (b l.beside.now ≡ a l.beside.now)) (λ l. (c l.path.now ≡ a l.path.now) × (c l.beside.now ≡ a l.beside.now))
-            (λ y far was. (q.others y.path.now (left_not_path x y far) ∙ was.0, q.others y.beside.now (left_not_beside x y far) ∙ was.1)) r.same;
+        same = ahead AreAway away_back found away i nothing_left lt (λ l. (b l.path.now ≡ a l.path.now) × (b l.staging.now ≡ a l.staging.now)) (λ l. (c l.path.now ≡ a l.path.now) × (c l.staging.now ≡ a l.staging.now))
+            (λ y far was. (q.others y.path.now (left_not_path x y far) ∙ was.0, q.others y.staging.now (left_not_staging x y far) ∙ was.1)) r.same;
       }
 
   pub finished_more : (d0 d e : DiskState) → LeavesOnly d0 d (OneStepOn (FinishesSome cursor found i) d0) → LeavesOnly d e (OneStepOn (Finishes cursor x) d) → LeavesOnly d0 e (OneStepOn (FinishesSome cursor found (i + 1)) d0)
@@ -160,17 +160,17 @@ none_finished cursor found d0 d1 quiet =
     (λ c left. (c, left, record { others = λ m out. refl; ends = AllWithin-none (EndsAs cursor c c) found 0; same = λ k z low high. (refl, refl) }))
 
 -- where it was not, the removal is
-pub removed_finishes : (cursor : ℕ) (l : Left) → cursor ≤ l.before → l.beside.now ≢ l.path.now → (old new : DiskState) → old.is_named l.beside.now → Elapses old new
-    → LeavesOneStepOn (ChangesFile old l.beside.now TornRemoval) old new → LeavesOnly old new (OneStepOn (Finishes cursor l) old)
+pub removed_finishes : (cursor : ℕ) (l : Left) → cursor ≤ l.before → l.staging.now ≢ l.path.now → (old new : DiskState) → old.is_named l.staging.now → Elapses old new
+    → LeavesOneStepOn (ChangesFile old l.staging.now TornRemoval) old new → LeavesOnly old new (OneStepOn (Finishes cursor l) old)
 removed_finishes cursor l le other old new named time crash =
     one_call old new (Finishes cursor l) (λ c. record { others = λ m out. refl; ends = ends_same cursor c c l refl refl }) time
     (λ c left.
     let from = crash c left in
-    let path : c l.path.now ≡ from.0 l.path.now = from.2.beside l.path.now (λ e. other (sym e)) (inl named) in (
+    let path : c l.path.now ≡ from.0 l.path.now = from.2.staging l.path.now (λ e. other (sym e)) (inl named) in (
       from.0,
       from.1,
       record {
-        others = λ m out. from.2.beside m (λ e. out (inl e)) (inl named);
+        others = λ m out. from.2.staging m (λ e. out (inl e)) (inl named);
         ends = record { committed = λ lt. absurd (omega arith); untouched = λ is. path; either = inl path };
       },
     ))

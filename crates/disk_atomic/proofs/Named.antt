@@ -8,56 +8,56 @@ use Rattle.disk_io.proofs.Tearing.{ChangesFile-none}
 use Rattle.disk_atomic.specs.Naming.{Gives, Names}
 use Rattle.disk_atomic.proofs.Changes.{only_call, only_nothing, then_only, then_steps}
 
-module _ (path beside : List ℕ) (other : beside ≢ path) where
+module _ (path staging : List ℕ) (other : staging ≢ path) where
   -- the second path
-  pub linked_run : (old new : DiskState) → old.is_named beside → old.is_flushed beside → old.is_named path → Elapses old new
-      → LeavesOneStepOn (ChangesFile old path (TornNaming (old.seen beside))) old new → LeavesOnly old new (OneStepOn (Names path beside) old)
+  pub linked_run : (old new : DiskState) → old.is_named staging → old.is_flushed staging → old.is_named path → Elapses old new
+      → LeavesOneStepOn (ChangesFile old path (TornNaming (old.seen staging))) old new → LeavesOnly old new (OneStepOn (Names path staging) old)
   linked_run old new named flushed free time crash =
-      one_call old new (Names path beside) (λ c. record { others = λ m out. refl; stands = inr refl; either = inl refl }) time
+      one_call old new (Names path staging) (λ c. record { others = λ m out. refl; stands = inr refl; either = inl refl }) time
       (λ c left.
       let from = crash c left in
-      let there : from.0 beside ≡ old.seen beside = old.on_disk beside named flushed from.0 from.1 in (
+      let there : from.0 staging ≡ old.seen staging = old.on_disk staging named flushed from.0 from.1 in (
         from.0,
         from.1,
         record {
-          others = λ m out. from.2.beside m (λ e. out (inr e)) (inl free);
-          stands = inr (from.2.beside beside other (inl free));
+          others = λ m out. from.2.staging m (λ e. out (inr e)) (inl free);
+          stands = inr (from.2.staging staging other (inl free));
           either = ⊎_elim (λ same. inl same) (λ new. inr (new ∙ sym there)) (from.2.within free);
         },
       ))
 
   -- it is on the disk, and the first goes
-  pub moved_run : (d0 d1 d2 : DiskState) → LeavesOnly d0 d1 (OneStepOn (Names path beside) d0) → d0.is_named beside → d0.is_flushed beside → d1.is_named beside
-      → d1.is_named path → d1.is_flushed path → d1.seen path ≡ d0.seen beside → Elapses d1 d2 → LeavesOneStepOn (ChangesFile d1 beside TornRemoval) d1 d2 → LeavesOnly d0 d2 (OneStepOn (Names path beside) d0)
+  pub moved_run : (d0 d1 d2 : DiskState) → LeavesOnly d0 d1 (OneStepOn (Names path staging) d0) → d0.is_named staging → d0.is_flushed staging → d1.is_named staging
+      → d1.is_named path → d1.is_flushed path → d1.seen path ≡ d0.seen staging → Elapses d1 d2 → LeavesOneStepOn (ChangesFile d1 staging TornRemoval) d1 d2 → LeavesOnly d0 d2 (OneStepOn (Names path staging) d0)
   moved_run d0 d1 d2 run named flushed still path_named path_flushed is time crash =
-      let R = Names path beside in
-      let step = ChangesFile d1 beside TornRemoval in
-      then_steps d0 d1 d2 R step R run (one_call d1 d2 step (ChangesFile-none d1 beside TornRemoval (λ f. inl refl)) time crash) (λ a b r. r)
+      let R = Names path staging in
+      let step = ChangesFile d1 staging TornRemoval in
+      then_steps d0 d1 d2 R step R run (one_call d1 d2 step (ChangesFile-none d1 staging TornRemoval (λ f. inl refl)) time crash) (λ a b r. r)
       (λ a b c at left r q.
-      let same : c path ≡ a beside = q.beside path (λ e. other (sym e)) (inl still) ∙ d1.on_disk path path_named path_flushed b left ∙ is ∙ sym (d0.on_disk beside named flushed a at) in
-      record { others = λ m out. q.beside m (λ e. out (inl e)) (inl still) ∙ r.others m out; stands = inl same; either = inr same })
+      let same : c path ≡ a staging = q.staging path (λ e. other (sym e)) (inl still) ∙ d1.on_disk path path_named path_flushed b left ∙ is ∙ sym (d0.on_disk staging named flushed a at) in
+      record { others = λ m out. q.staging m (λ e. out (inl e)) (inl still) ∙ r.others m out; stands = inl same; either = inr same })
 
 -- a link is such a call
-pub link_gives : (path beside : List ℕ) → beside ≢ path → (old new : DiskState) → old.is_named beside → old.is_flushed beside → old.is_named path → SameBeside path old.seen new.seen
-    → LeavesOneStepOn (ChangesFile old path (TornNaming (old.seen beside))) old new → KeepsNamed (λ m. m ≡ path) old new → KeepsFlushed (λ m. m ≡ path) old new
-    → KeepsAlone (λ m. (m ≡ beside) ⊎ (m ≡ path)) old new → Elapses old new → Gives old new path beside
-link_gives path beside other old new named flushed free same crash keeps_named keeps_flushed alone time = record {
-  any_moment = linked_run path beside other old new named flushed free time crash;
-  changes = only_call (λ m. (m ≡ beside) ⊎ (m ≡ path)) old new path (TornNaming (old.seen beside)) (inr refl) free same crash
+pub link_gives : (path staging : List ℕ) → staging ≢ path → (old new : DiskState) → old.is_named staging → old.is_flushed staging → old.is_named path → SameBeside path old.seen new.seen
+    → LeavesOneStepOn (ChangesFile old path (TornNaming (old.seen staging))) old new → KeepsNamed (λ m. m ≡ path) old new → KeepsFlushed (λ m. m ≡ path) old new
+    → KeepsAlone (λ m. (m ≡ staging) ⊎ (m ≡ path)) old new → Elapses old new → Gives old new path staging
+link_gives path staging other old new named flushed free same crash keeps_named keeps_flushed alone time = record {
+  any_moment = linked_run path staging other old new named flushed free time crash;
+  changes = only_call (λ m. (m ≡ staging) ⊎ (m ≡ path)) old new path (TornNaming (old.seen staging)) (inr refl) free same crash
       (λ m out. keeps_named m (λ e. out (inr e))) (λ m out. keeps_flushed m (λ e. out (inr e))) alone time;
-  stays = record { seen = same beside other; named = keeps_named beside other; flushed = keeps_flushed beside other };
+  stays = record { seen = same staging other; named = keeps_named staging other; flushed = keeps_flushed staging other };
 }
 
 -- the same with calls behind it that change nothing
-pub gives_quiet : (d0 d1 d2 : DiskState) (path beside : List ℕ) → Gives d0 d1 path beside → ChangesNothing d1 d2 → Gives d0 d2 path beside
-gives_quiet d0 d1 d2 path beside run quiet =
-    let both = λ (m : List ℕ). (m ≡ beside) ⊎ (m ≡ path) in
+pub gives_quiet : (d0 d1 d2 : DiskState) (path staging : List ℕ) → Gives d0 d1 path staging → ChangesNothing d1 d2 → Gives d0 d2 path staging
+gives_quiet d0 d1 d2 path staging run quiet =
+    let both = λ (m : List ℕ). (m ≡ staging) ⊎ (m ≡ path) in
     record {
-      any_moment = then_nothing d0 d1 d2 (OneStepOn (Names path beside) d0) run.any_moment quiet;
+      any_moment = then_nothing d0 d1 d2 (OneStepOn (Names path staging) d0) run.any_moment quiet;
       changes = then_only both d0 d1 d2 run.changes (only_nothing both d1 d2 quiet);
       stays = record {
-        seen = quiet.seen beside ∙ run.stays.seen;
-        named = λ is. quiet.named beside (λ h. h) (run.stays.named is);
-        flushed = λ is. quiet.flushed beside (λ h. h) (run.stays.flushed is);
+        seen = quiet.seen staging ∙ run.stays.seen;
+        named = λ is. quiet.named staging (λ h. h) (run.stays.named is);
+        flushed = λ is. quiet.flushed staging (λ h. h) (run.stays.flushed is);
       };
     }

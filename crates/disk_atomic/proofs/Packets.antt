@@ -5,33 +5,33 @@ use Rattle.std.proofs.lemmas.List.Elements.{at_read}
 use Rattle.std.specs.Prelude.{Contains}
 use Rattle.disk_io.specs.Disk.{DiskState}
 use Rattle.disk_atomic.specs.Changes.{ChangesOnly, HasOnDisk}
-use Rattle.disk_atomic.specs.Outgoing.{AreApart, ArePlaced, IsBesideOne, IsGoneBeside, IsMade, IsNamedBeside, IsOfOne}
+use Rattle.disk_atomic.specs.Outgoing.{AreApart, ArePlaced, IsStagingOne, IsStagingGone, IsMade, IsStagingNamed, IsOfOne}
 use Rattle.disk_atomic.specs.declared.outgoing.Outgoing.{Outgoing}
 use Rattle.disk_atomic.proofs.Changes.{stays_on_disk, wider}
 
 pub apart_back : (p q : Outgoing) → AreApart p q → AreApart q p
 apart_back p q a = record {
   paths = λ e. a.paths (sym e);
-  besides = λ e. a.besides (sym e);
-  path_beside = λ e. a.beside_path (sym e);
-  beside_path = λ e. a.path_beside (sym e);
+  stagings = λ e. a.stagings (sym e);
+  path_staging = λ e. a.staging_path (sym e);
+  staging_path = λ e. a.path_staging (sym e);
 }
 
 -- what a loop reads past the end
 abbrev pub nobody : Outgoing
-nobody = record { path = record { ref_ptr = (0, 0); now = [] }; beside = record { ref_ptr = (0, 0); now = [] }; file = record { ref_ptr = (0, 0); now = record { name = []; bytes = [] } } }
+nobody = record { path = record { ref_ptr = (0, 0); now = [] }; staging = record { ref_ptr = (0, 0); now = [] }; file = record { ref_ptr = (0, 0); now = record { name = []; bytes = [] } } }
 
 -- the path beside one of them
 abbrev pub At : Outgoing → List ℕ → Type 0
-At p m = m ≡ p.beside.now
+At p m = m ≡ p.staging.now
 
 -- both paths of one of them
 abbrev pub AtBoth : Outgoing → List ℕ → Type 0
-AtBoth p m = (m ≡ p.beside.now) ⊎ (m ≡ p.path.now)
+AtBoth p m = (m ≡ p.staging.now) ⊎ (m ≡ p.path.now)
 
 module _ (packets : List Outgoing) (x : Outgoing) (is : Contains packets x) (d e : DiskState) where
-  pub beside_one : ChangesOnly (At x) d e → ChangesOnly (IsBesideOne packets) d e
-  beside_one run = wider (At x) (IsBesideOne packets) d e (λ m at. (x, is, at)) run
+  pub staging_one : ChangesOnly (At x) d e → ChangesOnly (IsStagingOne packets) d e
+  staging_one run = wider (At x) (IsStagingOne packets) d e (λ m at. (x, is, at)) run
 
   pub of_one : ChangesOnly (AtBoth x) d e → ChangesOnly (IsOfOne packets) d e
   of_one run = wider (AtBoth x) (IsOfOne packets) d e (λ m at. (x, is, at)) run
@@ -40,25 +40,25 @@ module _ (packets : List Outgoing) (x : Outgoing) (is : Contains packets x) (d e
 module _ (d e : DiskState) (x : Outgoing) (run : ChangesOnly (At x) d e) (y : Outgoing) (apart : AreApart x y) where
   pub made_stays : IsMade d y → IsMade e y
   made_stays was = record {
-    empty = run.seen y.beside.now (λ at. apart.besides (sym at)) ∙ was.empty;
-    alone = run.alone y.beside.now (λ at. apart.besides (sym at)) was.alone;
+    empty = run.seen y.staging.now (λ at. apart.stagings (sym at)) ∙ was.empty;
+    alone = run.alone y.staging.now (λ at. apart.stagings (sym at)) was.alone;
   }
 
-  pub named_stays : IsNamedBeside d y → IsNamedBeside e y
-  named_stays was = run.named y.beside.now (λ at. apart.besides (sym at)) was
+  pub named_stays : IsStagingNamed d y → IsStagingNamed e y
+  named_stays was = run.named y.staging.now (λ at. apart.stagings (sym at)) was
 
-  pub gone_stays : IsGoneBeside d y → IsGoneBeside e y
-  gone_stays was = run.seen y.beside.now (λ at. apart.besides (sym at)) ∙ was
+  pub gone_stays : IsStagingGone d y → IsStagingGone e y
+  gone_stays was = run.seen y.staging.now (λ at. apart.stagings (sym at)) ∙ was
 
-  pub filled_stays : HasOnDisk d y.beside.now y.file.now.bytes → HasOnDisk e y.beside.now y.file.now.bytes
-  filled_stays was = stays_on_disk (At x) d e y.beside.now y.file.now.bytes run (λ at. apart.besides (sym at)) was
+  pub filled_stays : HasOnDisk d y.staging.now y.file.now.bytes → HasOnDisk e y.staging.now y.file.now.bytes
+  filled_stays was = stays_on_disk (At x) d e y.staging.now y.file.now.bytes run (λ at. apart.stagings (sym at)) was
 
 -- no packet's path is one that is beside another
-pub path_not_beside : (folder : List ℕ) (packets : List Outgoing) → ArePlaced folder packets → (k : ℕ) (z : Outgoing) → k < length packets → IsBesideOne packets (get_or packets k z).path.now → ⊥
-path_not_beside folder packets placed k z lt (p, (j, within, is), at) =
+pub path_not_staging : (folder : List ℕ) (packets : List Outgoing) → ArePlaced folder packets → (k : ℕ) (z : Outgoing) → k < length packets → IsStagingOne packets (get_or packets k z).path.now → ⊥
+path_not_staging folder packets placed k z lt (p, (j, within, is), at) =
     let here : get_or packets j z ≡ p = at_read packets (λ (q : Outgoing). q ≡ p) j p within (sym is) refl z in
-    let at_j : (get_or packets k z).path.now ≡ (get_or packets j z).beside.now = at ∙ ap (λ (q : Outgoing). q.beside.now) (sym here) in
+    let at_j : (get_or packets k z).path.now ≡ (get_or packets j z).staging.now = at ∙ ap (λ (q : Outgoing). q.staging.now) (sym here) in
     ⊎_elim
-    (λ (e : k ≡ j). (placed.each k z lt).other (ap (λ (n : ℕ). (get_or packets n z).beside.now) e ∙ sym at_j))
-    (λ o. ⊎_elim (λ (e : k < j). (placed.apart k j z e within).path_beside at_j) (λ (e : j < k). (placed.apart j k z e lt).beside_path (sym at_j)) o)
+    (λ (e : k ≡ j). (placed.each k z lt).other (ap (λ (n : ℕ). (get_or packets n z).staging.now) e ∙ sym at_j))
+    (λ o. ⊎_elim (λ (e : k < j). (placed.apart k j z e within).path_staging at_j) (λ (e : j < k). (placed.apart j k z e lt).staging_path (sym at_j)) o)
     (cases_order k j)

@@ -8,41 +8,41 @@ use Rattle.disk_atomic.specs.Changes.{ChangesOnly, DifferAt, HasOnDisk}
 use Rattle.disk_atomic.specs.Replacing.{Replaces}
 use Rattle.disk_atomic.proofs.Changes.{then_steps, weaker_steps}
 
-module _ (path beside bytes : List ℕ) where
+module _ (path staging bytes : List ℕ) where
   abbrev Both : List ℕ → Type 0
-  Both m = (m ≡ beside) ⊎ (m ≡ path)
+  Both m = (m ≡ staging) ⊎ (m ≡ path)
 
-  module _ (other : beside ≢ path) where
+  module _ (other : staging ≢ path) where
     -- files that differ beside the path alone
-    pub not_yet : (a c : Files) → DifferAt (λ m. m ≡ beside) a c → Replaces path beside bytes a c
+    pub not_yet : (a c : Files) → DifferAt (λ m. m ≡ staging) a c → Replaces path staging bytes a c
     not_yet a c r = record { others = λ m out. r m (λ e. out (inl e)); either = inl (r path (λ e. other (sym e))) }
 
     -- and then the path was given the new file, or was not
-    pub then_replaced : (a b c : Files) → DifferAt (λ m. m ≡ beside) a b → Replaces path beside bytes b c → Replaces path beside bytes a c
+    pub then_replaced : (a b c : Files) → DifferAt (λ m. m ≡ staging) a b → Replaces path staging bytes b c → Replaces path staging bytes a c
     then_replaced a b c r q = record {
       others = λ m out. q.others m out ∙ r m (λ e. out (inl e));
       either = ⊎_elim (λ was. inl (was ∙ r path (λ e. other (sym e)))) (λ new. inr new) q.either;
     }
 
-  module _ (old new : DiskState) (is : HasOnDisk old beside bytes) (named : old.is_named path) (time : Elapses old new) (crash : LeavesOneStepOn (RenamesFile old beside path) old new) where
+  module _ (old new : DiskState) (is : HasOnDisk old staging bytes) (named : old.is_named path) (time : Elapses old new) (crash : LeavesOneStepOn (RenamesFile old staging path) old new) where
     -- the renaming
-    pub renamed_run : LeavesOnly old new (OneStepOn (Replaces path beside bytes) old)
-    renamed_run = one_call old new (Replaces path beside bytes) (λ c. record { others = λ m out. refl; either = inl refl }) time (λ c left.
+    pub renamed_run : LeavesOnly old new (OneStepOn (Replaces path staging bytes) old)
+    renamed_run = one_call old new (Replaces path staging bytes) (λ c. record { others = λ m out. refl; either = inl refl }) time (λ c left.
         let from = crash c left in (
           from.0,
           from.1,
           record {
-            others = λ m out. from.2.beside m (λ e. out (inl e)) (λ e. out (inr e)) (inl (is.named, named));
+            others = λ m out. from.2.staging m (λ e. out (inl e)) (λ e. out (inr e)) (inl (is.named, named));
             either = ⊎_elim (λ same. inl same.1) (λ moved. inr (moved.1 ∙ is.seen)) (from.2.both is.named named);
           },
         ))
 
     pub renamed_differ : LeavesOnly old new (OneStepOn (DifferAt Both) old)
-    renamed_differ = weaker_steps old new (Replaces path beside bytes) (DifferAt Both) renamed_run (λ a c r. r.others)
+    renamed_differ = weaker_steps old new (Replaces path staging bytes) (DifferAt Both) renamed_run (λ a c r. r.others)
 
   -- the run up to the renaming, and that
-  pub replaced_run : (d0 d1 d2 : DiskState) → beside ≢ path → ChangesOnly (λ m. m ≡ beside) d0 d1 → HasOnDisk d1 beside bytes → d1.is_named path → Elapses d1 d2
-      → LeavesOneStepOn (RenamesFile d1 beside path) d1 d2 → LeavesOnly d0 d2 (OneStepOn (Replaces path beside bytes) d0)
+  pub replaced_run : (d0 d1 d2 : DiskState) → staging ≢ path → ChangesOnly (λ m. m ≡ staging) d0 d1 → HasOnDisk d1 staging bytes → d1.is_named path → Elapses d1 d2
+      → LeavesOneStepOn (RenamesFile d1 staging path) d1 d2 → LeavesOnly d0 d2 (OneStepOn (Replaces path staging bytes) d0)
   replaced_run d0 d1 d2 other run is named time crash =
-      let R = Replaces path beside bytes in
-      then_steps d0 d1 d2 (DifferAt (λ m. m ≡ beside)) R R run.any_moment (renamed_run d1 d2 is named time crash) (not_yet other) (λ a b c at left r q. then_replaced other a b c r q)
+      let R = Replaces path staging bytes in
+      then_steps d0 d1 d2 (DifferAt (λ m. m ≡ staging)) R R run.any_moment (renamed_run d1 d2 is named time crash) (not_yet other) (λ a b c at left r q. then_replaced other a b c r q)

@@ -7,20 +7,20 @@ use Rattle.disk_atomic.specs.declared.finishing.Left.{Left}
 
 -- one of the two paths of one of these packets
 abbrev pub IsOfLeft : List Left → List ℕ → Type 0
-IsOfLeft found m = (l : Left) × Contains found l × ((m ≡ l.beside.now) ⊎ (m ≡ l.path.now))
+IsOfLeft found m = (l : Left) × Contains found l × ((m ≡ l.staging.now) ⊎ (m ≡ l.path.now))
 
 -- two of them have no path in common
 pub record AreAway (one other : Left) : Type 0 where
   pub paths : one.path.now ≢ other.path.now
-  pub besides : one.beside.now ≢ other.beside.now
-  pub path_beside : one.path.now ≢ other.beside.now
-  pub beside_path : one.beside.now ≢ other.path.now
+  pub stagings : one.staging.now ≢ other.staging.now
+  pub path_staging : one.path.now ≢ other.staging.now
+  pub staging_path : one.staging.now ≢ other.path.now
 
 -- the two paths of one, in this folder
 pub record IsLeftIn (folder : List ℕ) (l : Left) : Type 0 where
   pub path_in : IsIn folder l.path.now
-  pub beside_in : IsIn folder l.beside.now
-  pub other : l.beside.now ≢ l.path.now
+  pub staging_in : IsIn folder l.staging.now
+  pub other : l.staging.now ≢ l.path.now
 
 -- packets of this folder, each with paths of its own
 pub record AreLeftIn (folder : List ℕ) (found : List Left) : Type 0 where
@@ -29,7 +29,7 @@ pub record AreLeftIn (folder : List ℕ) (found : List Left) : Type 0 where
 
 -- it stands beside its path
 abbrev pub IsThere : DiskState → Left → Type 0
-IsThere disk l = IsSome (disk.seen l.beside.now)
+IsThere disk l = IsSome (disk.seen l.staging.now)
 
 -- nothing has its path
 abbrev pub IsFreeOf : DiskState → Left → Type 0
@@ -38,12 +38,12 @@ IsFreeOf disk l = disk.seen l.path.now ≡ None
 -- to what its two paths lead is on the disk
 pub record AreNamed (disk : DiskState) (l : Left) : Type 0 where
   pub path : disk.is_named l.path.now
-  pub beside : disk.is_named l.beside.now
+  pub staging : disk.is_named l.staging.now
 
 -- Where the cursor was moved past it, it has its path alone; else it is gone, and its path has what it had.
 pub record IsOver (cursor : ℕ) (old new : DiskState) (l : Left) : Type 0 where
-  pub committed : l.before < cursor → HasMoved old new l.path.now l.beside.now
-  pub gone : cursor ≤ l.before → new.seen l.beside.now ≡ None
+  pub committed : l.before < cursor → HasMoved old new l.path.now l.staging.now
+  pub gone : cursor ≤ l.before → new.seen l.staging.now ≡ None
   pub untouched : cursor ≤ l.before → new.seen l.path.now ≡ old.seen l.path.now
 
 -- what had the path has it
@@ -52,13 +52,13 @@ KeepsFile old new l = IsSome (old.seen l.path.now) → new.seen l.path.now ≡ o
 
 -- Where the cursor was moved past it, what stood beside its path stands at one of the two; else the path has what it had.
 pub record EndsAs (cursor : ℕ) (before after : Files) (l : Left) : Type 0 where
-  pub committed : l.before < cursor → (after l.path.now ≡ before l.beside.now) ⊎ (after l.beside.now ≡ before l.beside.now)
+  pub committed : l.before < cursor → (after l.path.now ≡ before l.staging.now) ⊎ (after l.staging.now ≡ before l.staging.now)
   pub untouched : cursor ≤ l.before → after l.path.now ≡ before l.path.now
-  pub either : (after l.path.now ≡ before l.path.now) ⊎ (after l.path.now ≡ before l.beside.now)
+  pub either : (after l.path.now ≡ before l.path.now) ⊎ (after l.path.now ≡ before l.staging.now)
 
 -- this of one packet, and all else is as it was
 pub record Finishes (cursor : ℕ) (l : Left) (before after : Files) : Type 0 where
-  pub others : DifferAt (λ m. (m ≡ l.beside.now) ⊎ (m ≡ l.path.now)) before after
+  pub others : DifferAt (λ m. (m ≡ l.staging.now) ⊎ (m ≡ l.path.now)) before after
   pub ends : EndsAs cursor before after l
 
 -- this of each of them, and all else is as it was

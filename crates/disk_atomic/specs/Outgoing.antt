@@ -6,29 +6,29 @@ use Rattle.disk_atomic.specs.Changes.{HasOnDisk}
 use Rattle.disk_atomic.specs.declared.outgoing.Outgoing.{Outgoing}
 
 -- the path beside that of one of these packets
-abbrev pub IsBesideOne : List Outgoing → List ℕ → Type 0
-IsBesideOne packets m = (p : Outgoing) × Contains packets p × (m ≡ p.beside.now)
+abbrev pub IsStagingOne : List Outgoing → List ℕ → Type 0
+IsStagingOne packets m = (p : Outgoing) × Contains packets p × (m ≡ p.staging.now)
 
 -- that, or the path of one of them
 abbrev pub IsOfOne : List Outgoing → List ℕ → Type 0
-IsOfOne packets m = (p : Outgoing) × Contains packets p × ((m ≡ p.beside.now) ⊎ (m ≡ p.path.now))
+IsOfOne packets m = (p : Outgoing) × Contains packets p × ((m ≡ p.staging.now) ⊎ (m ≡ p.path.now))
 
 -- the path beside that of one of them, or the one at which a second path is tried
 abbrev pub IsAtStaging : List Outgoing → List ℕ → List ℕ → Type 0
-IsAtStaging packets trial m = IsBesideOne packets m ⊎ (m ≡ trial)
+IsAtStaging packets trial m = IsStagingOne packets m ⊎ (m ≡ trial)
 
 -- two packets have no path in common
 pub record AreApart (one other : Outgoing) : Type 0 where
   pub paths : one.path.now ≢ other.path.now
-  pub besides : one.beside.now ≢ other.beside.now
-  pub path_beside : one.path.now ≢ other.beside.now
-  pub beside_path : one.beside.now ≢ other.path.now
+  pub stagings : one.staging.now ≢ other.staging.now
+  pub path_staging : one.path.now ≢ other.staging.now
+  pub staging_path : one.staging.now ≢ other.path.now
 
 -- the two paths of a packet, in this folder
 pub record IsPlaced (folder : List ℕ) (p : Outgoing) : Type 0 where
   pub path_in : IsIn folder p.path.now
-  pub beside_in : IsIn folder p.beside.now
-  pub other : p.beside.now ≢ p.path.now
+  pub staging_in : IsIn folder p.staging.now
+  pub other : p.staging.now ≢ p.path.now
 
 -- packets of this folder, each with paths of its own
 pub record ArePlaced (folder : List ℕ) (packets : List Outgoing) : Type 0 where
@@ -44,23 +44,23 @@ abbrev pub IsFree : DiskState → Outgoing → Type 0
 IsFree disk p = disk.seen p.path.now ≡ None
 
 -- whether there is a file beside it or none is on the disk
-abbrev pub IsNamedBeside : DiskState → Outgoing → Type 0
-IsNamedBeside disk p = disk.is_named p.beside.now
+abbrev pub IsStagingNamed : DiskState → Outgoing → Type 0
+IsStagingNamed disk p = disk.is_named p.staging.now
 
 -- nothing stands beside it
-abbrev pub IsGoneBeside : DiskState → Outgoing → Type 0
-IsGoneBeside disk p = disk.seen p.beside.now ≡ None
+abbrev pub IsStagingGone : DiskState → Outgoing → Type 0
+IsStagingGone disk p = disk.seen p.staging.now ≡ None
 
 -- an empty file stands beside it
 pub record IsMade (disk : DiskState) (p : Outgoing) : Type 0 where
-  pub empty : disk.seen p.beside.now ≡ Some []
-  pub alone : disk.is_alone p.beside.now
+  pub empty : disk.seen p.staging.now ≡ Some []
+  pub alone : disk.is_alone p.staging.now
 
 -- the packet stands beside its path, on the disk
 abbrev pub IsFilled : DiskState → Outgoing → Type 0
-IsFilled disk p = HasOnDisk disk p.beside.now p.file.now.bytes
+IsFilled disk p = HasOnDisk disk p.staging.now p.file.now.bytes
 
 -- and whether the path has a file or none is on the disk too
 pub record IsStaged (disk : DiskState) (p : Outgoing) : Type 0 where
-  pub file : HasOnDisk disk p.beside.now p.file.now.bytes
+  pub file : HasOnDisk disk p.staging.now p.file.now.bytes
   pub named : disk.is_named p.path.now

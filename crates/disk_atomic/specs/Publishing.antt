@@ -10,7 +10,7 @@ use Rattle.disk_atomic.specs.declared.placing_error.PlacingError.TheVariants as 
 -- neither path of the packet is one of these
 pub record IsApartFrom (paths : List ℕ → Type 0) (p : Outgoing) : Type 0 where
   pub path : paths p.path.now → ⊥
-  pub beside : paths p.beside.now → ⊥
+  pub staging : paths p.staging.now → ⊥
 
 -- a disk's fault, as a fault of placing
 abbrev pub placing_cause : DiskError → PlacingError

@@ -2,7 +2,7 @@
 ghost use Rattle.std.specs.Prelude.{◌≡◌, ◌≤◌, All, AllPairs, None, OnOk};
 ghost use Rattle.disk_io.specs.Disk.{Honestly, IsIn};
 ghost use Rattle.disk_atomic.specs.Changes.{ChangesOnly};
-ghost use Rattle.disk_atomic.specs.Outgoing.{AreApart, ArePlaced, IsAtStaging, IsBesideOne, IsGoneBeside, IsNamedBeside, IsOfOne};
+ghost use Rattle.disk_atomic.specs.Outgoing.{AreApart, ArePlaced, IsAtStaging, IsStagingOne, IsStagingGone, IsStagingNamed, IsOfOne};
 
 use crate::outgoing::Outgoing;
 use disk_io::{Disk, DiskError, sync_folder_of};
@@ -23,19 +23,19 @@ fn drop_one<D: Disk>(disk: &mut D, path: &[u8]) -> Result<(), DiskError>
 // Removes the staging files of the packets. Each of them is synced, or is not.
 fn drop_each<D: Disk>(disk: &mut D, packets: &[Outgoing<'_>]) -> Result<(), DiskError>
     requires apart { AllPairs AreApart packets.now }
-    requires named { All (IsNamedBeside (D.state disk.old)) packets.now }
-    ensures gone { Honestly (D.state disk.new) (OnOk result (All (IsGoneBeside (D.state disk.new)) packets.now)) }
-    ensures changes { ChangesOnly (IsBesideOne packets.now) (D.state disk.old) (D.state disk.new) }
+    requires named { All (IsStagingNamed (D.state disk.old)) packets.now }
+    ensures gone { Honestly (D.state disk.new) (OnOk result (All (IsStagingGone (D.state disk.new)) packets.now)) }
+    ensures changes { ChangesOnly (IsStagingOne packets.now) (D.state disk.old) (D.state disk.new) }
     ensures later { D.failures disk.old ≤ D.failures disk.new }
 {
     'packets: for packet in packets {
-        drop_one(disk, packet.beside)?;
+        drop_one(disk, packet.staging)?;
     }
     Ok(())
 }
 
 /// Removes the staging files of the packets, all in this folder, and the file at the path that was tried.
-pub fn drop_beside<D: Disk>(
+pub fn drop_staging<D: Disk>(
     disk: &mut D,
     folder: &[u8],
     trial: &[u8],
@@ -44,7 +44,7 @@ pub fn drop_beside<D: Disk>(
     requires placed { ArePlaced folder.now packets.now }
     requires inside { IsIn folder.now trial.now }
     requires apart { IsOfOne packets.now trial.now → ⊥ }
-    ensures gone { Honestly (D.state disk.new) (OnOk result (All (IsGoneBeside (D.state disk.new)) packets.now)) }
+    ensures gone { Honestly (D.state disk.new) (OnOk result (All (IsStagingGone (D.state disk.new)) packets.now)) }
     ensures trial_gone { Honestly (D.state disk.new) (OnOk result ((D.state disk.new).seen trial.now ≡ None)) }
     ensures changes { ChangesOnly (IsAtStaging packets.now trial.now) (D.state disk.old) (D.state disk.new) }
     ensures later { D.failures disk.old ≤ D.failures disk.new }

@@ -32,15 +32,15 @@ fn finish_one<D: Disk>(
     ensures kept { Honestly (D.state disk.new) (OnOk result (KeepsFile (D.state disk.old) (D.state disk.new) left.now)) }
     ensures taken { Honestly (D.state disk.new) (IfOk result (λ over. over ≡ false → IsFreeOf (D.state disk.old) left.now → ⊥)) }
     ensures any_moment { Honestly (D.state disk.new) (LeavesOnly (D.state disk.old) (D.state disk.new) (OneStepOn (Finishes cursor left.now) (D.state disk.old))) }
-    ensures changes { ChangesOnly (λ m. (m ≡ left.now.beside.now) ⊎ (m ≡ left.now.path.now)) (D.state disk.old) (D.state disk.new) }
+    ensures changes { ChangesOnly (λ m. (m ≡ left.now.staging.now) ⊎ (m ≡ left.now.path.now)) (D.state disk.old) (D.state disk.new) }
     ensures cause { HasCause (D.failures disk.old) (D.failures disk.new) result }
 {
     if left.before >= cursor {
-        disk.remove(left.beside)?;
+        disk.remove(left.staging)?;
         return Ok(true);
     }
-    disk.sync(left.beside)?;
-    name_packet(alloc, disk, folder, left.beside, left.path)
+    disk.sync(left.staging)?;
+    name_packet(alloc, disk, folder, left.staging, left.path)
 }
 
 /// Names or removes packets in staging files. If the cursor is past the number that was scanned before a packet, its

@@ -35,14 +35,14 @@ fn has_both<D: Disk>(
     beside: &[u8],
     path: &[u8],
 ) -> Result<bool, DiskError>
-    requires beside_there { Honestly (D.state disk.old) (IsSome ((D.state disk.old).seen beside.now)) }
+    requires staging_there { Honestly (D.state disk.old) (IsSome ((D.state disk.old).seen staging.now)) }
     requires path_there { Honestly (D.state disk.old) (IsSome ((D.state disk.old).seen path.now)) }
-    ensures same { Honestly (D.state disk.new) (IfOk result (λ both. (both ≡ true) ↔ ((D.state disk.old).seen beside.now ≡ (D.state disk.old).seen path.now))) }
+    ensures same { Honestly (D.state disk.new) (IfOk result (λ both. (both ≡ true) ↔ ((D.state disk.old).seen staging.now ≡ (D.state disk.old).seen path.now))) }
     ensures durable { IfOk result (λ both. both ≡ true → (D.state disk.new).is_flushed path.now) }
     ensures quiet { ChangesNothing (D.state disk.old) (D.state disk.new) }
     ensures cause { HasCause (D.failures disk.old) (D.failures disk.new) result }
 {
-    if !are_same(alloc, disk, beside, path)? {
+    if !are_same(alloc, disk, staging, path)? {
         return Ok(false);
     }
     disk.sync(path)?;
@@ -55,19 +55,19 @@ pub(crate) fn link_path<D: Disk>(
     beside: &[u8],
     path: &[u8],
 ) -> Result<bool, DiskError>
-    requires other { beside.now ≢ path.now }
-    requires there { Honestly (D.state disk.old) (IsSome ((D.state disk.old).seen beside.now)) }
-    requires durable { (D.state disk.old).is_flushed beside.now }
-    requires beside_named { (D.state disk.old).is_named beside.now }
+    requires other { staging.now ≢ path.now }
+    requires there { Honestly (D.state disk.old) (IsSome ((D.state disk.old).seen staging.now)) }
+    requires durable { (D.state disk.old).is_flushed staging.now }
+    requires staging_named { (D.state disk.old).is_named staging.now }
     requires path_named { (D.state disk.old).is_named path.now }
-    ensures linked { IfOk result (λ linked. linked ≡ true → (D.state disk.new).seen path.now ≡ (D.state disk.old).seen beside.now) }
+    ensures linked { IfOk result (λ linked. linked ≡ true → (D.state disk.new).seen path.now ≡ (D.state disk.old).seen staging.now) }
     ensures kept { IfOk result (λ linked. linked ≡ true → (D.state disk.new).is_flushed path.now) }
     ensures free { Honestly (D.state disk.new) (IfOk result (λ linked. IsTrue linked ↔ ((D.state disk.old).seen path.now ≡ None))) }
     ensures taken { IfOk result (λ linked. linked ≡ false → (D.state disk.new).seen path.now ≡ (D.state disk.old).seen path.now) }
-    ensures gives { Gives (D.state disk.old) (D.state disk.new) path.now beside.now }
+    ensures gives { Gives (D.state disk.old) (D.state disk.new) path.now staging.now }
     ensures cause { HasCause (D.failures disk.old) (D.failures disk.new) result }
 {
-    disk.link(beside, path)
+    disk.link(staging, path)
 }
 
 // Gives the file at a staging path the packet's path too, unless another file has it. The file may have it already.
@@ -77,22 +77,22 @@ fn give_path<D: Disk>(
     beside: &[u8],
     path: &[u8],
 ) -> Result<bool, DiskError>
-    requires other { beside.now ≢ path.now }
-    requires there { Honestly (D.state disk.old) (IsSome ((D.state disk.old).seen beside.now)) }
-    requires durable { (D.state disk.old).is_flushed beside.now }
-    requires beside_named { (D.state disk.old).is_named beside.now }
+    requires other { staging.now ≢ path.now }
+    requires there { Honestly (D.state disk.old) (IsSome ((D.state disk.old).seen staging.now)) }
+    requires durable { (D.state disk.old).is_flushed staging.now }
+    requires staging_named { (D.state disk.old).is_named staging.now }
     requires path_named { (D.state disk.old).is_named path.now }
-    ensures given { Honestly (D.state disk.new) (IfOk result (λ given. given ≡ true → (D.state disk.new).seen path.now ≡ (D.state disk.old).seen beside.now)) }
+    ensures given { Honestly (D.state disk.new) (IfOk result (λ given. given ≡ true → (D.state disk.new).seen path.now ≡ (D.state disk.old).seen staging.now)) }
     ensures durable { IfOk result (λ given. given ≡ true → (D.state disk.new).is_flushed path.now) }
     ensures over_none { Honestly (D.state disk.new) (OnOk result (IsSome ((D.state disk.old).seen path.now) → (D.state disk.new).seen path.now ≡ (D.state disk.old).seen path.now)) }
-    ensures taken { Honestly (D.state disk.new) (IfOk result (λ given. given ≡ false → IsTaken (D.state disk.old) path.now beside.now)) }
-    ensures gives { Gives (D.state disk.old) (D.state disk.new) path.now beside.now }
+    ensures taken { Honestly (D.state disk.new) (IfOk result (λ given. given ≡ false → IsTaken (D.state disk.old) path.now staging.now)) }
+    ensures gives { Gives (D.state disk.old) (D.state disk.new) path.now staging.now }
     ensures cause { HasCause (D.failures disk.old) (D.failures disk.new) result }
 {
-    if link_path(disk, beside, path)? {
+    if link_path(disk, staging, path)? {
         return Ok(true);
     }
-    has_both(alloc, disk, beside, path)
+    has_both(alloc, disk, staging, path)
 }
 
 /// Gives the file at a staging path the packet's path, and removes the staging path. If another file has the path it
@@ -105,28 +105,28 @@ pub fn name_packet<D: Disk>(
     path: &[u8],
 ) -> Result<bool, DiskError>
     requires path_in { IsIn folder.now path.now }
-    requires beside_in { IsIn folder.now beside.now }
-    requires other { beside.now ≢ path.now }
-    requires there { Honestly (D.state disk.old) (IsSome ((D.state disk.old).seen beside.now)) }
-    requires durable { (D.state disk.old).is_flushed beside.now }
-    requires beside_named { (D.state disk.old).is_named beside.now }
+    requires staging_in { IsIn folder.now staging.now }
+    requires other { staging.now ≢ path.now }
+    requires there { Honestly (D.state disk.old) (IsSome ((D.state disk.old).seen staging.now)) }
+    requires durable { (D.state disk.old).is_flushed staging.now }
+    requires staging_named { (D.state disk.old).is_named staging.now }
     requires path_named { (D.state disk.old).is_named path.now }
-    ensures named { Honestly (D.state disk.new) (IfOk result (λ named. named ≡ true → HasMoved (D.state disk.old) (D.state disk.new) path.now beside.now)) }
+    ensures named { Honestly (D.state disk.new) (IfOk result (λ named. named ≡ true → HasMoved (D.state disk.old) (D.state disk.new) path.now staging.now)) }
     ensures over_none { Honestly (D.state disk.new) (OnOk result (IsSome ((D.state disk.old).seen path.now) → (D.state disk.new).seen path.now ≡ (D.state disk.old).seen path.now)) }
-    ensures taken { Honestly (D.state disk.new) (IfOk result (λ named. named ≡ false → IsTaken (D.state disk.old) path.now beside.now)) }
-    ensures stays { IfOk result (λ named. named ≡ false → StaysThere (D.state disk.old) (D.state disk.new) beside.now) }
+    ensures taken { Honestly (D.state disk.new) (IfOk result (λ named. named ≡ false → IsTaken (D.state disk.old) path.now staging.now)) }
+    ensures stays { IfOk result (λ named. named ≡ false → StaysThere (D.state disk.old) (D.state disk.new) staging.now) }
 
     // A crash at any time leaves the file at one of the two paths at least.
-    ensures any_moment { Honestly (D.state disk.new) (LeavesOnly (D.state disk.old) (D.state disk.new) (OneStepOn (Names path.now beside.now) (D.state disk.old))) }
-    ensures changes { ChangesOnly (λ m. (m ≡ beside.now) ⊎ (m ≡ path.now)) (D.state disk.old) (D.state disk.new) }
+    ensures any_moment { Honestly (D.state disk.new) (LeavesOnly (D.state disk.old) (D.state disk.new) (OneStepOn (Names path.now staging.now) (D.state disk.old))) }
+    ensures changes { ChangesOnly (λ m. (m ≡ staging.now) ⊎ (m ≡ path.now)) (D.state disk.old) (D.state disk.new) }
     ensures cause { HasCause (D.failures disk.old) (D.failures disk.new) result }
 {
-    let given = give_path(alloc, disk, beside, path)?;
+    let given = give_path(alloc, disk, staging, path)?;
     if !given {
         return Ok(false);
     }
     sync_folder_of(disk, folder)?;
-    disk.remove(beside)?;
+    disk.remove(staging)?;
     Ok(true)
 }
 
@@ -151,7 +151,7 @@ pub fn name_packets<D: Disk>(
 {
     let mut all = true;
     'packets: for packet in packets {
-        all &= name_packet(alloc, disk, folder, packet.beside, packet.path)?;
+        all &= name_packet(alloc, disk, folder, packet.staging, packet.path)?;
     }
     sync_folder_of::<D>(disk, folder)?;
     Ok(all)

@@ -18,18 +18,18 @@ pub fn replace_file<D: Disk>(
     bytes: &[u8],
 ) -> Result<(), DiskError>
     requires path_in { IsIn folder.now path.now }
-    requires beside_in { IsIn folder.now beside.now }
-    requires other { beside.now ≢ path.now }
+    requires staging_in { IsIn folder.now staging.now }
+    requires other { staging.now ≢ path.now }
     ensures replaced { OnOk result (HasOnDisk (D.state disk.new) path.now bytes.now) }
-    ensures moved { OnOk result ((D.state disk.new).seen beside.now ≡ None) }
+    ensures moved { OnOk result ((D.state disk.new).seen staging.now ≡ None) }
 
     // A crash at any time leaves what it might have left before, except at the staging path, and at the path the old
     // file or these bytes.
-    ensures any_moment { LeavesOnly (D.state disk.old) (D.state disk.new) (OneStepOn (Replaces path.now beside.now bytes.now) (D.state disk.old)) }
-    ensures changes { ChangesOnly (λ m. (m ≡ beside.now) ⊎ (m ≡ path.now)) (D.state disk.old) (D.state disk.new) }
+    ensures any_moment { LeavesOnly (D.state disk.old) (D.state disk.new) (OneStepOn (Replaces path.now staging.now bytes.now) (D.state disk.old)) }
+    ensures changes { ChangesOnly (λ m. (m ≡ staging.now) ⊎ (m ≡ path.now)) (D.state disk.old) (D.state disk.new) }
     ensures cause { HasCause (D.failures disk.old) (D.failures disk.new) result }
 {
-    stage_file(disk, folder, beside, bytes)?;
-    disk.rename(beside, path)?;
+    stage_file(disk, folder, staging, bytes)?;
+    disk.rename(staging, path)?;
     sync_folder_of(disk, folder)
 }

@@ -8,25 +8,25 @@
 //!
 //! Begin with `real_disk`. `system` makes the calls, `trace` notes them for clauses, `start` names the files before
 //! the first call, `kept` holds open files. For whole files, begin with `reading` (files) and `input` (any reader).
-//! `writing` makes new files by way of `beside`, the temporary file. `owned` gives a file an owner.
+//! `writing` makes new files by way of `staging`, the temporary file. `owned` gives a file an owner.
 #![tactic(auto)]
 
-mod beside;
 mod input;
 mod kept;
 mod owned;
 mod reading;
 mod real_disk;
+mod staging;
 mod start;
 mod system;
 mod trace;
 mod writing;
 
-pub use beside::{Access, access_of, check_left, give_access, make_new};
 pub use input::{InputFault, read_whole};
 pub use owned::Owned;
 pub use reading::{open_regular, read_file};
 pub use real_disk::RealDisk;
+pub use staging::{Access, access_of, check_left, give_access, make_new};
 pub use start::{NoFiles, Start, Unknown};
 pub use trace::{Call, Trace};
 pub use writing::{NewFile, OutputFault, create_file, flush_folder, flush_path, target_of};

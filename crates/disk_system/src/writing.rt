@@ -1,12 +1,12 @@
-//! Writes whole files. The bytes go to a temporary file (`beside`) and are flushed to the disk. Then the file
+//! Writes whole files. The bytes go to a staging file (`staging`) and are flushed to the disk. Then the file
 //! gets its name at once. If a step fails, the temporary file is removed, and the old file is unchanged.
 ghost use Rattle.std.specs.Prelude.{◌≡◌, take, IfErr, OnOk};
 ghost use Rattle.std.specs.Io.KnownBytes.{Appends};
 ghost use Rattle.disk_io.specs.Device.{Failed};
 ghost use Rattle.disk_system.specs.declared.writing.OutputFault.TheVariants.{Device, Memory};
 
-use crate::beside::{make_beside, name_beside};
 use crate::reading::is_missing;
+use crate::staging::{make_staging, staging_name};
 use disk_io::{Failure, Sink, Watched, send};
 use std::alloc::{AllocError, Global};
 use std::fs::OpenFile;
@@ -64,18 +64,18 @@ pub fn create_file<R: Files>(
     files: &R,
     new: NewFile<'_>,
 ) -> Result<(), OutputFault> {
-    let beside = name_beside(alloc, new.path, new.own)?;
-    let file = make_beside(
+    let staging = staging_name(alloc, new.path, new.own)?;
+    let file = make_staging(
         alloc,
         files,
-        beside.as_str(),
+        staging.as_str(),
         start_of(new.bytes, new.known_by),
     )?;
     let done = match write_flushed(file, new.bytes) {
-        Ok(()) => give_new_name(files, beside.as_str(), new.path),
+        Ok(()) => give_new_name(files, staging.as_str(), new.path),
         failed => failed,
     };
-    tidied(files, beside.as_str(), done)
+    tidied(files, staging.as_str(), done)
 }
 
 /// Flushes a folder to the disk, so that a power cut removes no name from it.
@@ -108,9 +108,9 @@ fn folder_of(path: &str) -> &str {
 }
 
 // Gives the temporary file a new name.
-fn give_new_name<R: Files>(files: &R, beside: &str, path: &str) -> Result<(), OutputFault> {
-    fs::hard_link(files, beside, path)?;
-    fs::remove_file(files, beside)?;
+fn give_new_name<R: Files>(files: &R, staging: &str, path: &str) -> Result<(), OutputFault> {
+    fs::hard_link(files, staging, path)?;
+    fs::remove_file(files, staging)?;
     Ok(())
 }
 
@@ -135,13 +135,13 @@ fn put_bytes<W: Sink>(device: &mut W, bytes: &[u8]) -> Result<(), OutputFault>
 // Removes the temporary file, unless it got the name.
 fn tidied<R: Files>(
     files: &R,
-    beside: &str,
+    staging: &str,
     done: Result<(), OutputFault>,
 ) -> Result<(), OutputFault>
     ensures { result ≡ done }
 {
     if done.is_err() {
-        let _ = fs::remove_file(files, beside);
+        let _ = fs::remove_file(files, staging);
     }
     done
 }

@@ -13,7 +13,7 @@ use Rattle.echo_nodelist.specs.declared.line.Line.{Line}
 use Rattle.echo_nodelist.specs.Back.{IsFirstAt, address_at}
 use Rattle.echo_net.specs.declared.presence.Absence.{Absence}
 use Rattle.echo_net.specs.declared.presence.Absence.TheVariants.{Missing, Down}
-use Rattle.echo_net.specs.Absent.{IsAbsent, IsWhy, absent_as, is_down_line}
+use Rattle.echo_net.specs.Absent.{IsAbsent, IsReasonOfAbsence, absent_as, is_down_line}
 use Rattle.model_graph.specs.Walk.{IsAt}
 use Rattle.echo_net.proofs.Ascending.{at_place, earlier_less}
 use Rattle.echo_net.proofs.Orders.{address_order, address_total, before_is}
@@ -25,7 +25,7 @@ pub record AreListed (lines : List Line) (carriers : List Address) (i : ℕ) (al
 
 module _ (lines : List Line) (carriers : List Address) (up : IsStrictlySortedBy address_order carriers) (i : ℕ) (d : Address) (inside : i < length carriers)
     (all : List (Address × Absence)) (before : AreListed lines carriers i all) where
-  pub one_held_more : IsWhy lines (get_or carriers i d) None → AreListed lines carriers (i + 1) all
+  pub one_held_more : IsReasonOfAbsence lines (get_or carriers i d) None → AreListed lines carriers (i + 1) all
   one_held_more held = record {
     ascending = before.ascending;
     members = λ a why. (
@@ -39,7 +39,7 @@ module _ (lines : List Line) (carriers : List Address) (up : IsStrictlySortedBy 
     );
   }
 
-  pub one_absent_more : (why : Absence) → IsWhy lines (get_or carriers i d) (Some why) → AreListed lines carriers (i + 1) (all ++ (get_or carriers i d, why) ∷ [])
+  pub one_absent_more : (why : Absence) → IsReasonOfAbsence lines (get_or carriers i d) (Some why) → AreListed lines carriers (i + 1) (all ++ (get_or carriers i d, why) ∷ [])
   one_absent_more why absent = record {
     ascending = all_pairs_push (λ (one later : Address × Absence). address_before one.0 later.0 ≡ true) all (get_or carriers i d, why) before.ascending
         (λ k e lt. (let item = get_or all k e in
@@ -62,7 +62,7 @@ module _ (lines : List Line) (carriers : List Address) (up : IsStrictlySortedBy 
     );
   }
 
-  pub one_more_judged : (found : Option Absence) → IsWhy lines (get_or carriers i d) found → AreListed lines carriers (i + 1) (all ++ absent_as (get_or carriers i d) found)
+  pub one_more_judged : (found : Option Absence) → IsReasonOfAbsence lines (get_or carriers i d) found → AreListed lines carriers (i + 1) (all ++ absent_as (get_or carriers i d) found)
   one_more_judged None held = subst (AreListed lines carriers (i + 1)) (sym (append-nil all)) (one_held_more held)
   one_more_judged (Some why) absent = one_absent_more why absent
 
@@ -75,14 +75,14 @@ all_listed lines carriers IsCarrier members all are a why = (
   λ (carrier, absent). (let (k, inside, is) = (members a).1 carrier in (are.members a why).1 (k, inside, (inside, is), absent)),
 )
 
-pub is_missing : (lines : List Line) (a : Address) → ((i : ℕ) → address_at lines i ≢ Some a) → IsWhy lines a (Some Missing)
+pub is_missing : (lines : List Line) (a : Address) → ((i : ℕ) → address_at lines i ≢ Some a) → IsReasonOfAbsence lines a (Some Missing)
 is_missing lines a none = (none, only)
   where
     only : (other : Absence) → IsAbsent lines a other → other ≡ Missing
     only Missing h = refl
     only Down h = absurd (none h.0 h.1.here)
 
-pub is_down : (lines : List Line) (a : Address) (i : ℕ) → IsFirstAt lines a i → ((d : Line) → is_down_line (get_or lines i d) ≡ true) → IsWhy lines a (Some Down)
+pub is_down : (lines : List Line) (a : Address) (i : ℕ) → IsFirstAt lines a i → ((d : Line) → is_down_line (get_or lines i d) ≡ true) → IsReasonOfAbsence lines a (Some Down)
 is_down lines a i first down = ((i, first, down), only)
   where
     only : (other : Absence) → IsAbsent lines a other → other ≡ Down

@@ -25,8 +25,8 @@ IsAbsent lines a Missing = (i : ℕ) → address_at lines i ≢ Some a
 IsAbsent lines a Down = (i : ℕ) × IsFirstAt lines a i × ((d : Line) → is_down_line (slice_index_or lines i d) ≡ true)
 
 -- why the nodelist does not hold the address, where it does not
-abbrev pub IsWhy : List Line → Address → Option Absence → Type 0
-IsWhy lines a found =
+abbrev pub IsReasonOfAbsence : List Line → Address → Option Absence → Type 0
+IsReasonOfAbsence lines a found =
     MatchOption found ((why : Absence) → ¬ IsAbsent lines a why) (λ why. IsAbsent lines a why × ((other : Absence) → IsAbsent lines a other → other ≡ why))
 
 -- the system with the reason of its absence; without a reason nothing

@@ -5,7 +5,7 @@ ghost use Rattle.echo_addr.specs.declared.address.Address.{Address};
 ghost use Rattle.echo_filed.specs.Sets.{address_before};
 ghost use Rattle.model_run.specs.Tidy.{Carries};
 ghost use Rattle.echo_net.specs.declared.presence.Absence.{Absence};
-ghost use Rattle.echo_net.specs.Absent.{IsAbsent, IsWhy, absent_as, is_down_line};
+ghost use Rattle.echo_net.specs.Absent.{IsAbsent, IsReasonOfAbsence, absent_as, is_down_line};
 
 use crate::carriers::carriers;
 use echo_addr::Address;
@@ -63,7 +63,7 @@ fn push_absent(
 
 /// Why the nodelist does not hold the system.
 fn why_absent(nodelist: &Nodelist, system: Address) -> Option<Absence>
-    ensures { IsWhy nodelist.now system result }
+    ensures { IsReasonOfAbsence nodelist.now system result }
 {
     let Some(line) = nodelist.find(system) else {
         return Some(Absence::Missing);

@@ -23,9 +23,9 @@ use Rattle.echo_toss.specs.declared.fault.TossCause.TheVariants as stop
 use Rattle.echo_toss.specs.Tallies.{all_counted, tally_of, tally_with}
 use Rattle.echo_toss.specs.PacketSteps.{cause_of, HasTossed, PacketStep, TossesAll, TossesPart}
 use Rattle.echo_toss.specs.Messages.{IsOpened, IsUnopened, TossesToEnd}
-use Rattle.echo_toss.specs.declared.stop.TossStop.{TossStop}
-use Rattle.echo_toss.specs.declared.stop.TossStop.TheVariants as toss
-use Rattle.echo_toss.specs.declared.stop.StoppedToss.{StoppedToss}
+use Rattle.echo_toss.specs.declared.step_error.TossStepError.{TossStepError}
+use Rattle.echo_toss.specs.declared.step_error.TossStepError.TheVariants as toss
+use Rattle.echo_toss.specs.declared.step_error.StoppedToss.{StoppedToss}
 use Rattle.echo_toss.specs.PacketsIn.{HoldsUnlessFailed, ReadsMessages, TossesPacketIn, packet_answer, state_in, stop_in}
 use Rattle.echo_toss.proofs.PacketTosses.{HasGone, all_given, some_taken}
 
@@ -162,7 +162,7 @@ tossed_none limits s before after tally (stop.Packet (fault.Write n)) none u = i
 tossed_none limits s before after tally (stop.Packet (fault.TooManyMessages n)) none u = inl (record { fault = u.fault; inside = u.inside; nothing = (refl, none) })
 tossed_none limits s before after tally (stop.Packet (fault.BadField n)) none u = inl (record { fault = u.fault; inside = u.inside; nothing = (refl, none) })
 
-held : {A : Type 0} (old new : StoreState) (r : Result A TossStop) (base : Base) → old.undoes → HoldsUnlessFailed old r new base → new.keeps base
+held : {A : Type 0} (old new : StoreState) (r : Result A TossStepError) (base : Base) → old.undoes → HoldsUnlessFailed old r new base → new.keeps base
 held old new (Ok done) base undoes is = is
 held old new (Err (toss.Packet why)) base undoes is = is
 held old new (Err (toss.Store error)) base undoes is = is undoes

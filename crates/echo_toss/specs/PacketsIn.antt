@@ -11,9 +11,9 @@ use Rattle.echo_toss.specs.declared.tally.Tally.{Tally}
 use Rattle.echo_toss.specs.declared.fault.TossCause.{TossCause}
 use Rattle.echo_toss.specs.declared.fault.TossCause.TheVariants as cause
 use Rattle.echo_toss.specs.declared.fault.TossFault.{TossFault}
-use Rattle.echo_toss.specs.declared.stop.TossStop.{TossStop}
-use Rattle.echo_toss.specs.declared.stop.TossStop.TheVariants as toss
-use Rattle.echo_toss.specs.declared.stop.StoppedToss.{StoppedToss}
+use Rattle.echo_toss.specs.declared.step_error.TossStepError.{TossStepError}
+use Rattle.echo_toss.specs.declared.step_error.TossStepError.TheVariants as toss
+use Rattle.echo_toss.specs.declared.step_error.StoppedToss.{StoppedToss}
 use Rattle.echo_toss.specs.Tallies.{all_counted}
 use Rattle.echo_toss.specs.PacketSteps.{PacketStep}
 use Rattle.echo_toss.specs.Messages.{TossesMessages}
@@ -23,12 +23,12 @@ abbrev pub state_in : LinkFile → Base → SystemState
 state_in file base = record { file = file; base = base.messages; cursor = base.cursor }
 
 -- the cause that stopped a toss, as the steps of a system state it: a failed store counts as out of memory
-abbrev pub cause_in : TossStop → TossCause
+abbrev pub cause_in : TossStepError → TossCause
 cause_in (toss.Packet why) = why
 cause_in (toss.Store error) = cause.Memory
 
 -- the same for the answer of a toss of messages
-abbrev pub messages_answer : {A : Type 0} → Result A TossStop → Result A TossCause
+abbrev pub messages_answer : {A : Type 0} → Result A TossStepError → Result A TossCause
 messages_answer (Ok done) = Ok done
 messages_answer (Err stop) = Err (cause_in stop)
 
@@ -38,24 +38,24 @@ packet_answer (Ok tally) = Ok tally
 packet_answer (Err stopped) = Err (record { tally = stopped.tally; cause = cause_in stopped.stop })
 
 -- the fault that stopped it, without its tally
-abbrev pub stop_in : Result Tally StoppedToss → Result (Unit {0}) TossStop
+abbrev pub stop_in : Result Tally StoppedToss → Result (Unit {0}) TossStepError
 stop_in (Ok tally) = Ok tt
 stop_in (Err stopped) = Err stopped.stop
 
 -- the answer of the store
-abbrev pub toss_answer : {A : Type 0} → Result A TossStop → Result (Unit {0}) StoreError
+abbrev pub toss_answer : {A : Type 0} → Result A TossStepError → Result (Unit {0}) StoreError
 toss_answer (Ok done) = Ok tt
 toss_answer (Err (toss.Packet why)) = Ok tt
 toss_answer (Err (toss.Store error)) = Err error
 
 -- the store holds this base; after a failure it does so if it undoes failed changes
-abbrev pub HoldsUnlessFailed : {A : Type 0} → StoreState → Result A TossStop → StoreState → Base → Type 0
+abbrev pub HoldsUnlessFailed : {A : Type 0} → StoreState → Result A TossStepError → StoreState → Base → Type 0
 HoldsUnlessFailed old (Ok done) new base = new.keeps base
 HoldsUnlessFailed old (Err (toss.Packet why)) new base = new.keeps base
 HoldsUnlessFailed old (Err (toss.Store error)) new base = old.undoes → new.keeps base
 
 -- if the store did not fail, it goes on
-abbrev pub GoesOnUnlessFailed : {A : Type 0} → StoreState → Result A TossStop → StoreState → Type 0
+abbrev pub GoesOnUnlessFailed : {A : Type 0} → StoreState → Result A TossStepError → StoreState → Type 0
 GoesOnUnlessFailed old (Ok done) new = GoesOn old new
 GoesOnUnlessFailed old (Err (toss.Packet why)) new = GoesOn old new
 GoesOnUnlessFailed old (Err (toss.Store error)) new = Unit {0}
@@ -67,7 +67,7 @@ pub record TossesPacketIn (limits : Limits) (file : LinkFile) (base : Base) (bef
   pub holds : HoldsUnlessFailed old (stop_in result) new next
 
 -- the same for the messages after a header
-pub record TossesMessagesIn {A : Type 0} (limits : Limits) (sender : Address) (file : LinkFile) (base : Base) (before after : Option (List ℕ)) (tally : Tally) (old : StoreState) (result : Result A TossStop) (new : StoreState) : Type 0 where
+pub record TossesMessagesIn {A : Type 0} (limits : Limits) (sender : Address) (file : LinkFile) (base : Base) (before after : Option (List ℕ)) (tally : Tally) (old : StoreState) (result : Result A TossStepError) (new : StoreState) : Type 0 where
   pub next : Base
   pub step : TossesMessages limits sender (state_in file base) before after tally (messages_answer result) (state_in file next)
   pub holds : HoldsUnlessFailed old result new next

@@ -12,10 +12,10 @@ use Rattle.model_steps.specs.declared.outcome.Outcome.{Outcome}
 use Rattle.model_steps.specs.declared.outcome.Outcome.TheVariants as outcome
 use Rattle.model_steps.specs.Posting.{IsPostFault, post_refusal}
 use Rattle.model_steps.specs.Stamps.{is_stamp}
-use Rattle.echo_toss.specs.declared.stop.PostStop.{PostStop}
-use Rattle.echo_toss.specs.declared.stop.PostStop.TheVariants as post
-use Rattle.echo_toss.specs.declared.stop.ScanStop.{ScanStop}
-use Rattle.echo_toss.specs.declared.stop.ScanStop.TheVariants as scan
+use Rattle.echo_toss.specs.declared.step_error.PostStepError.{PostStepError}
+use Rattle.echo_toss.specs.declared.step_error.PostStepError.TheVariants as post
+use Rattle.echo_toss.specs.declared.step_error.ScanStepError.{ScanStepError}
+use Rattle.echo_toss.specs.declared.step_error.ScanStepError.TheVariants as scan
 
 -- one message more at the end, if there is one
 abbrev pub and_filed : Base → Option Filed → Base
@@ -27,28 +27,28 @@ LooksUnlessFiled old new outcome.Filed = Unit {0}
 LooksUnlessFiled old new other = LooksOn old new
 
 -- why a posting was not filed: the refusal that applies, or the store for a draft without fault
-abbrev pub IsPostStop : LinkFile → List Filed → List ℕ → Draft → ℕ → Stamp → PostStop → Type 0
+abbrev pub IsPostStop : LinkFile → List Filed → List ℕ → Draft → ℕ → Stamp → PostStepError → Type 0
 IsPostStop file base tag draft serial stamp (post.Refused refusal) = post_refusal file base tag draft serial stamp ≡ Some refusal
 IsPostStop file base tag draft serial stamp (post.Store cause) = IsPostFault file base tag draft serial stamp fault.Memory
 
 -- a refusal has changed only the current message
-abbrev pub LooksWhereRefused : StoreState → StoreState → PostStop → Type 0
+abbrev pub LooksWhereRefused : StoreState → StoreState → PostStepError → Type 0
 LooksWhereRefused old new (post.Refused refusal) = LooksOn old new
 LooksWhereRefused old new (post.Store cause) = Unit {0}
 
 -- the answer of the store to a posting
-abbrev pub post_answer : {T : Type 0} → Result T PostStop → Result (Unit {0}) StoreError
+abbrev pub post_answer : {T : Type 0} → Result T PostStepError → Result (Unit {0}) StoreError
 post_answer (Ok done) = Ok tt
 post_answer (Err (post.Refused refusal)) = Ok tt
 post_answer (Err (post.Store cause)) = Err cause
 
 -- why nothing was scanned: the stamp, and nothing has changed, or the store, the stamp being in order
-abbrev pub IsScanStop : Stamp → StoreState → StoreState → ScanStop → Type 0
+abbrev pub IsScanStop : Stamp → StoreState → StoreState → ScanStepError → Type 0
 IsScanStop stamp old new scan.BadStamp = (is_stamp stamp ≡ false) × LooksOn old new
 IsScanStop stamp old new (scan.Store cause) = is_stamp stamp ≡ true
 
 -- the answer of the store to a scan
-abbrev pub scan_answer : {T : Type 0} → Result T ScanStop → Result (Unit {0}) StoreError
+abbrev pub scan_answer : {T : Type 0} → Result T ScanStepError → Result (Unit {0}) StoreError
 scan_answer (Ok done) = Ok tt
 scan_answer (Err scan.BadStamp) = Ok tt
 scan_answer (Err (scan.Store cause)) = Err cause

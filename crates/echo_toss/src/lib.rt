@@ -2,12 +2,12 @@
 //!
 //! Promise: `post`, `toss_message`, `scan` and `purge` are the steps of model_steps on the whole state of the
 //! system. `toss` makes the step of each message of a packet, in order. A refused call changes nothing.
-//! `post_in`, `toss_in`, `toss_packet_in` and `scan_in` are the same steps over any store, and commit nothing.
+//! `post_step`, `toss_step`, `toss_packet_in` and `scan_step` are the same steps over any store, and commit nothing.
 //! `resend_in` makes a packet of scanned messages again, and changes nothing.
 //!
 //! Begin with `tosser` (the type) and `tossing` (one received message; `receiving` reads it). `packets` tosses
 //! a whole packet, `tally` counts outcomes. `posting` files a draft; `refusing`, `drafting`, `moment` and
-//! `stop` are its parts. `scanning` exports by `outgoing`, `packing` and `sets`; so does `resending`. Then
+//! `step_error` are its parts. `scanning` exports by `outgoing`, `packing` and `sets`; so does `resending`. Then
 //! `purging`, `storing` (the base is written and read), `fault`, and `laws`.
 #![tactic(auto)]
 
@@ -25,7 +25,7 @@ mod refusing;
 mod resending;
 mod scanning;
 mod sets;
-mod stop;
+mod step_error;
 mod storing;
 mod tally;
 mod tosser;
@@ -37,11 +37,11 @@ pub use echo_links::{LinkFault, LinkFile};
 pub use fault::{TossCause, TossFault};
 pub use laws::packet_laws;
 pub use model_steps::{Draft, Outcome, Packet, PostFault, ScanFault, Stamp};
-pub use packets::{opened, toss_packet_in};
-pub use posting::post_in;
+pub use packets::{check_destination, toss_packet_in};
+pub use posting::post_step;
 pub use resending::{Resend, resend_in};
-pub use scanning::scan_in;
-pub use stop::{PostStop, ScanStop, StoppedToss, TossStop};
+pub use scanning::scan_step;
+pub use step_error::{PostStepError, ScanStepError, StoppedToss, TossStepError};
 pub use tally::Tally;
 pub use tosser::Tosser;
-pub use tossing::toss_in;
+pub use tossing::toss_step;

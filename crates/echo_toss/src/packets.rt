@@ -10,10 +10,10 @@ ghost use Rattle.echo_toss.specs.Messages.{CountsStop, IsOpened, IsUnopened};
 ghost use Rattle.echo_toss.specs.PacketsIn.{GoesOnUnlessFailed, ReadsMessages, ReadsPacket, TossesMessagesIn, TossesPacketIn, cause_in, messages_answer, packet_answer, stop_in, toss_answer};
 
 use crate::fault::{TossCause, TossFault};
-use crate::stop::{StoppedToss, TossStop};
+use crate::step_error::{StoppedToss, TossStepError};
 use crate::tally::Tally;
 use crate::tosser::Tosser;
-use crate::tossing::toss_in;
+use crate::tossing::toss_step;
 use base_store::Store;
 use disk_io::Source;
 use echo_addr::Address;
@@ -46,10 +46,10 @@ pub fn toss_packet_in<T: Store, R: Source>(
     ensures cause { HasStoreCause (T.state store.old) (T.state store.new) (T.failures store.old) (T.failures store.new) (toss_answer (stop_in result)) }
 {
     let mut tally = Tally::NONE;
-    let sender = match opened(links, reader) {
+    let sender = match check_destination(links, reader) {
         Ok(sender) => sender,
         Err(cause) => {
-            let stop = TossStop::Packet(cause);
+            let stop = TossStepError::Packet(cause);
             return Err(StoppedToss { tally, stop });
         }
     };
@@ -81,8 +81,8 @@ fn fault_in(stopped: StoppedToss) -> TossFault
     ensures { result ≡ record { tally = stopped.tally; cause = cause_in stopped.stop } }
 {
     let cause = match stopped.stop {
-        TossStop::Packet(cause) => cause,
-        TossStop::Store(_) => TossCause::Memory,
+        TossStepError::Packet(cause) => cause,
+        TossStepError::Store(_) => TossCause::Memory,
     };
     TossFault {
         tally: stopped.tally,
@@ -99,7 +99,7 @@ fn toss_messages<T: Store, R: Source>(
     reader: &mut R,
     limits: Limits,
     tally: &mut Tally,
-) -> Result<(), TossStop>
+) -> Result<(), TossStepError>
     requires ready { (T.state store.old).is_ready }
     requires none { tally.old ≡ tally_of [] }
     ensures tossed { Honestly (T.state store.new).disk ((base : Base) → (T.state store.old).keeps base
@@ -115,7 +115,7 @@ fn toss_messages<T: Store, R: Source>(
     'messages: loop {
         match read_next(alloc, reader, limits, given, &mut place)? {
             Some(message) => {
-                let outcome = toss_in(alloc, links, store, sender, &message)?;
+                let outcome = toss_step(alloc, links, store, sender, &message)?;
                 tally.count(outcome);
                 given += 1;
             }
@@ -124,8 +124,8 @@ fn toss_messages<T: Store, R: Source>(
     }
 }
 
-/// Reads the header of a packet. Answers who sent it, if it is for this system.
-pub fn opened<R: Source>(links: &LinkFile, reader: &mut R) -> Result<Address, TossCause>
+/// Reads the header of a packet. Returns who sent it, if it is for this system.
+pub fn check_destination<R: Source>(links: &LinkFile, reader: &mut R) -> Result<Address, TossCause>
     ensures front { MatchResult result
         (IsOpened links.now (R.remaining reader.old) (R.remaining reader.new))
         (IsUnopened links.now (R.remaining reader.old) (R.remaining reader.new)) }

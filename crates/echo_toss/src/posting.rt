@@ -11,7 +11,7 @@ ghost use Rattle.echo_toss.specs.Stores.{IsPostStop, LooksWhereRefused, post_ans
 
 use crate::drafting::posted;
 use crate::refusing::judge;
-use crate::stop::PostStop;
+use crate::step_error::PostStepError;
 use crate::tosser::Tosser;
 use base_store::{Store, StoreError};
 use echo_addr::Address;
@@ -24,7 +24,7 @@ use std::hash::BuildHasher;
 
 /// Files in the store a message of the area with this tag, whatever the case of its letters. Its id is the own address
 /// and the serial (FTS-0009), which no message of the store may have. Nothing is committed.
-pub fn post_in<T: Store>(
+pub fn post_step<T: Store>(
     alloc: Global,
     links: &LinkFile,
     store: &mut T,
@@ -32,7 +32,7 @@ pub fn post_in<T: Store>(
     draft: &Draft,
     serial: u32,
     stamp: Stamp,
-) -> Result<(), PostStop>
+) -> Result<(), PostStepError>
     requires { (T.state store.old).is_ready }
     ensures allowed { Honestly (T.state store.new).disk ((base : Base) → (T.state store.old).keeps base
         → OnOk result (post_refusal links.now base.messages tag.now draft.now serial stamp ≡ None)) }
@@ -64,7 +64,7 @@ impl<S: BuildHasher> Tosser<S> {
     ) -> Result<(), PostFault>
         ensures { PostStep self.old tag.now draft.now serial stamp result self.new }
     {
-        match post_in(
+        match post_step(
             self.alloc,
             &self.links,
             &mut self.store,
@@ -74,9 +74,9 @@ impl<S: BuildHasher> Tosser<S> {
             stamp,
         ) {
             Ok(()) => Ok(()),
-            Err(PostStop::Refused(refusal)) => Err(refusal),
+            Err(PostStepError::Refused(refusal)) => Err(refusal),
             // A base in memory fails only where a growth is refused.
-            Err(PostStop::Store(_)) => Err(PostFault::Memory),
+            Err(PostStepError::Store(_)) => Err(PostFault::Memory),
         }
     }
 }
@@ -90,7 +90,7 @@ fn prepared<T: Store>(
     draft: &Draft,
     serial: u32,
     stamp: Stamp,
-) -> Result<(Key, Filed), PostStop>
+) -> Result<(Key, Filed), PostStepError>
     requires { (T.state store.old).is_ready }
     ensures prepared { Honestly (T.state store.new).disk ((base : Base) → (T.state store.old).keeps base
         → MatchResult result (λ new. IsPrepared links.now base.messages tag.now draft.now serial stamp new.0 new.1) (IsPostStop links.now base.messages tag.now draft.now serial stamp)) }
@@ -100,7 +100,7 @@ fn prepared<T: Store>(
 {
     judge(links, tag, draft, stamp)?;
     if is_known(alloc, store, links.system(), serial)? {
-        return Err(PostStop::Refused(PostFault::KnownSerial));
+        return Err(PostStepError::Refused(PostFault::KnownSerial));
     }
     Ok(made(alloc, links, tag, draft, serial, stamp)?)
 }

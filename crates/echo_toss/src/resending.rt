@@ -12,7 +12,7 @@ ghost use Rattle.echo_toss.specs.Stores.{IsScanStop, scan_answer};
 use crate::moment::is_stamp;
 use crate::outgoing::{Outgoing, prepared};
 use crate::packing::header_to;
-use crate::stop::ScanStop;
+use crate::step_error::ScanStepError;
 use crate::tosser::Tosser;
 use base_store::{Store, StoreError};
 use echo_addr::{Address, Items};
@@ -40,7 +40,7 @@ pub fn resend_in<T: Store>(
     links: &LinkFile,
     store: &mut T,
     asked: Resend<'_>,
-) -> Result<Packet, ScanStop>
+) -> Result<Packet, ScanStepError>
     requires { (T.state store.old).is_ready }
     ensures stamp { OnOk result (is_stamp asked.entry.stamp ≡ true) }
     ensures packet { Honestly (T.state store.new).disk ((base : Base) → (T.state store.old).keeps base
@@ -50,7 +50,7 @@ pub fn resend_in<T: Store>(
     ensures cause { HasStoreCause (T.state store.old) (T.state store.new) (T.failures store.old) (T.failures store.new) (scan_answer result) }
 {
     if !is_stamp(asked.stamp) {
-        return Err(ScanStop::BadStamp);
+        return Err(ScanStepError::BadStamp);
     }
     let messages = copies(alloc, links, store, asked)?;
     Ok(Packet {
@@ -68,9 +68,9 @@ impl<S: BuildHasher> Tosser<S> {
     {
         match resend_in(self.alloc, &self.links, &mut self.store, asked) {
             Ok(packet) => Ok(packet),
-            Err(ScanStop::BadStamp) => Err(ScanFault::BadStamp),
+            Err(ScanStepError::BadStamp) => Err(ScanFault::BadStamp),
             // A base in memory fails only where a growth is refused.
-            Err(ScanStop::Store(_)) => Err(ScanFault::Memory),
+            Err(ScanStepError::Store(_)) => Err(ScanFault::Memory),
         }
     }
 }

@@ -11,7 +11,7 @@ ghost use Rattle.echo_toss.specs.Stores.{IsScanStop, scan_answer};
 use crate::moment::is_stamp;
 use crate::outgoing::waiting;
 use crate::packing::packets;
-use crate::stop::ScanStop;
+use crate::step_error::ScanStepError;
 use crate::tosser::Tosser;
 use base_store::{Store, StoreError};
 use echo_links::LinkFile;
@@ -21,12 +21,12 @@ use std::hash::BuildHasher;
 
 /// Makes the packets of the store's waiting messages: one for each address that gets some of them, ascending,
 /// with its messages in order of filing. Then no message waits. Nothing is committed.
-pub fn scan_in<T: Store>(
+pub fn scan_step<T: Store>(
     alloc: Global,
     links: &LinkFile,
     store: &mut T,
     stamp: Stamp,
-) -> Result<Vec<Packet>, ScanStop>
+) -> Result<Vec<Packet>, ScanStepError>
     requires { (T.state store.old).is_ready }
     ensures stamp { OnOk result (is_stamp stamp ≡ true) }
     ensures packets { Honestly (T.state store.new).disk ((base : Base) → (T.state store.old).keeps base
@@ -40,7 +40,7 @@ pub fn scan_in<T: Store>(
     ensures cause { HasStoreCause (T.state store.old) (T.state store.new) (T.failures store.old) (T.failures store.new) (scan_answer result) }
 {
     if !is_stamp(stamp) {
-        return Err(ScanStop::BadStamp);
+        return Err(ScanStepError::BadStamp);
     }
     let packets = scanned(alloc, links, store, stamp)?;
     store.move_to_end()?;
@@ -53,11 +53,11 @@ impl<S: BuildHasher> Tosser<S> {
     pub fn scan(&mut self, stamp: Stamp) -> Result<Vec<Packet>, ScanFault>
         ensures { ScanStep self.old stamp (listed result) self.new }
     {
-        match scan_in(self.alloc, &self.links, &mut self.store, stamp) {
+        match scan_step(self.alloc, &self.links, &mut self.store, stamp) {
             Ok(packets) => Ok(packets),
-            Err(ScanStop::BadStamp) => Err(ScanFault::BadStamp),
+            Err(ScanStepError::BadStamp) => Err(ScanFault::BadStamp),
             // A base in memory fails only where a growth is refused.
-            Err(ScanStop::Store(_)) => Err(ScanFault::Memory),
+            Err(ScanStepError::Store(_)) => Err(ScanFault::Memory),
         }
     }
 }

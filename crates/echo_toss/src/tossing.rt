@@ -19,7 +19,7 @@ use std::hash::BuildHasher;
 
 /// Files a received message in the store, or answers why not. The first outcome that applies is answered. Nothing is
 /// committed.
-pub fn toss_in<T: Store>(
+pub fn toss_step<T: Store>(
     alloc: Global,
     links: &LinkFile,
     store: &mut T,
@@ -52,7 +52,7 @@ impl<S: BuildHasher> Tosser<S> {
     pub fn toss_message(&mut self, sender: Address, packed: &Packed) -> Result<Outcome, AllocError>
         ensures { TossStep self.old sender packed.now result self.new }
     {
-        match toss_in(self.alloc, &self.links, &mut self.store, sender, packed) {
+        match toss_step(self.alloc, &self.links, &mut self.store, sender, packed) {
             Ok(outcome) => Ok(outcome),
             // A base in memory fails only where a growth is refused.
             Err(_) => Err(AllocError),

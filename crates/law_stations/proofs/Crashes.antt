@@ -10,7 +10,7 @@ use Rattle.law_stations.specs.Nets.{Net, Paired, Station, with_base, with_left}
 use Rattle.law_stations.proofs.FileRuns.{IsPartly, TossedFiles, tossed-all, wholes}
 use Rattle.law_stations.specs.Disks.{cursor_of}
 use Rattle.law_stations.specs.OverCrashes.{IsLike}
-use Rattle.law_stations.specs.Stopping.{LeadsFar}
+use Rattle.law_stations.specs.Stopping.{PartialEffect}
 use Rattle.law_stations.proofs.EachCommand.{followed}
 use Rattle.law_stations.proofs.Tracking.{Tracks, still}
 use Rattle.law_stations.specs.LoneDisks.{LoneDisks, MayHappenAlone, MayHappenAllAlone, on_net, under_names}
@@ -38,7 +38,7 @@ record FollowedAlone (command : LoneCommand) (s new : LoneDisks) (net : Net) : T
   tracks : Tracks new.disks next
 
 -- a posting, a scan or a purge, by what it is on the disks; where that does nothing on the net, nothing came either
-by-event : (command : LoneCommand) (of : Command) (s new : LoneDisks) (net : Net) → Tracks s.disks net → LeadsFar of s.disks 0 new.disks → NothingCame (under_names s) (under_names new)
+by-event : (command : LoneCommand) (of : Command) (s new : LoneDisks) (net : Net) → Tracks s.disks net → PartialEffect of s.disks 0 new.disks → NothingCame (under_names s) (under_names new)
     → ((plain : Command) → IsLike of plain → plain ≡ of)
     → ((next : Net) → Happens (record { station = 0; command = of }) net next → (next ≡ net → HappensAlone command (on_net s net) (on_net new next)) → HappensAlone command (on_net s net) (on_net new next))
     → FollowedAlone command s new net
@@ -72,9 +72,9 @@ tossed-cursor (suc n) (Fails why ∷ files) old new any tossed = absurd tossed.1
 tossed-cursor (suc n) (Unknown ∷ files) old new any tossed = absurd any
 
 -- a toss of any files
-any-toss : (files : List Coming) (s new : LoneDisks) (net : Net) → Tracks s.disks net → TossesAny files (under_names s) (under_names new) → new.disks.beside ≡ s.disks.beside
+any-toss : (files : List Coming) (s new : LoneDisks) (net : Net) → Tracks s.disks net → TossesAny files (under_names s) (under_names new) → new.disks.staging ≡ s.disks.staging
     → (next : Net) × TossesAny files (on_net s net) (on_net new next) × Tracks new.disks next
-any-toss files s new net t p beside =
+any-toss files s new net t p staging =
     let next = with_left net 0 [] p.next in
     let S : List Station → Type 0 = λ ss. ss ≡ p.station ∷ [] in
     let there = subst S t.stations p.there in
@@ -96,7 +96,7 @@ any-toss files s new net t p beside =
       },
       still s.disks new.disks net next t (ap (λ (x : LoneStation). x.net.stations) p.becomes ∙ ap (change 0 (with_base p.next)) t.stations)
           (ap (λ (x : LoneStation). x.net.postings) p.becomes ∙ t.postings) (ap (λ (x : LoneStation). x.net.packets) p.becomes ∙ append-nil s.disks.net.packets)
-          (append-nil net.packets) beside (subst C (sym there) (λ j. cursor j ∷ []))
+          (append-nil net.packets) staging (subst C (sym there) (λ j. cursor j ∷ []))
           (λ j h. t.tossed j (subst (λ (x : LoneStation). D x.net.delivered j) p.becomes h)),
     )
 
@@ -119,8 +119,8 @@ followed-alone PurgeAlone s new net t (inr (leads, none)) =
       | inl same ↦ idle same
       | inr purges ↦ inr (purges, none)
     ])
-followed-alone (TossAny files) s new net t (inr (n, p, beside)) =
-    let (next, tosses, tracks) = any-toss (take n files) s new net t p beside in
+followed-alone (TossAny files) s new net t (inr (n, p, staging)) =
+    let (next, tosses, tracks) = any-toss (take n files) s new net t p staging in
     record { plain = TossAny (take n files); like = (take n files, refl); next = next; happens = inr tosses; tracks = tracks }
 
 -- so is one after another

@@ -6,9 +6,9 @@ use Rattle.model_run.specs.Run.{nth}
 use Rattle.model_run.proofs.Lists.{some_same}
 use Rattle.law_stations.specs.Commands.{Command, CommandEvent, Happen, Happens, Leads, Post, Purge, Scan, Toss}
 use Rattle.law_stations.specs.Nets.{Net, Paired, first_net}
-use Rattle.law_stations.specs.Disks.{Beside, Disks, cursors, first_disks}
+use Rattle.law_stations.specs.Disks.{StagingFile, Disks, cursors, first_disks}
 use Rattle.law_stations.specs.OverCrashes.{CrashesAreNone, HasNet, IsLike, IsLikeEvent, IsToBeNamed}
-use Rattle.law_stations.specs.Stopping.{EndsSome, LeadsFar, MayHappen, MayHappenAll, Moves, ScansFar, Writes}
+use Rattle.law_stations.specs.Stopping.{EndsSome, PartialEffect, MayHappen, MayHappenAll, Moves, ScansFar, Writes}
 use Rattle.law_stations.proofs.Counting.{among-times, below-most, below-there, same-is, same_as, times, times-different, waits}
 use Rattle.law_stations.proofs.Ending.{some-ended}
 use Rattle.law_stations.proofs.Moving.{moved, scans, then, written}
@@ -74,13 +74,13 @@ followed event d new net t (inr leads) = by event.command refl leads
     like : (c : Command) → event.command ≡ c → IsLike event.command c
     like c is = subst (IsLike event.command) is (itself-like event.command)
 
-    by : (c : Command) → event.command ≡ c → LeadsFar c d event.station new → Followed event net new
-    by (Post words body) is (posts, beside) =
-        led event (Post words body) net new (like (Post words body) is) (posted-too words body event.station d new net t posts beside)
+    by : (c : Command) → event.command ≡ c → PartialEffect c d event.station new → Followed event net new
+    by (Post words body) is (posts, staging) =
+        led event (Post words body) net new (like (Post words body) is) (posted-too words body event.station d new net t posts staging)
     by (Scan stamp) is scan = far event stamp d new net t is scan
-    by Purge is (purges, beside) = led event Purge net new (like Purge is) (purged-too event.station d new net t purges beside)
-    by (Toss indexes) is (n, tosses, beside) =
-        let (others, l) = tossed-too (take n indexes) event.station d new net t tosses beside in
+    by Purge is (purges, staging) = led event Purge net new (like Purge is) (purged-too event.station d new net t purges staging)
+    by (Toss indexes) is (n, tosses, staging) =
+        let (others, l) = tossed-too (take n indexes) event.station d new net t tosses staging in
         led event (Toss others) net new (subst (λ (c : Command). IsLike c (Toss others)) (sym is) (others, refl)) l
 
 -- so is one after another
@@ -112,14 +112,14 @@ first-tracks links = record {
   places = [];
   named = tt;
   tags = [];
-  beside = tt;
+  staging = tt;
   each = λ k. omega arith;
   tossed = λ j h. absurd h;
 }
 
 -- the file in which a packet waits
-waiting : (k : ℕ) (packets : List (List ℕ)) (at : List ℕ) (files : List Beside) (tags : List (Option ℕ)) → Paired (IsTagged packets at) files tags → 1 ≤ waits k tags
-    → (file : Beside) × Among file files × IsTagged packets at file (Some k)
+waiting : (k : ℕ) (packets : List (List ℕ)) (at : List ℕ) (files : List StagingFile) (tags : List (Option ℕ)) → Paired (IsTagged packets at) files tags → 1 ≤ waits k tags
+    → (file : StagingFile) × Among file files × IsTagged packets at file (Some k)
 waiting k packets at [] [] are some = absurd (omega (arith, some))
 waiting k packets at [] (tag ∷ tags) are some = absurd are
 waiting k packets at (file ∷ files) [] are some = absurd are
@@ -128,8 +128,8 @@ waiting k packets at (file ∷ files) (None ∷ tags) are some =
     (x, inr there, is)
 waiting k packets at (file ∷ files) (Some n ∷ tags) are some = by (same_as k n) refl (waiting k packets at files tags are.1)
   where
-    by : (m : ℕ) → same_as k n ≡ m → (1 ≤ waits k tags → (x : Beside) × Among x files × IsTagged packets at x (Some k))
-        → (x : Beside) × Among x (file ∷ files) × IsTagged packets at x (Some k)
+    by : (m : ℕ) → same_as k n ≡ m → (1 ≤ waits k tags → (x : StagingFile) × Among x files × IsTagged packets at x (Some k))
+        → (x : StagingFile) × Among x (file ∷ files) × IsTagged packets at x (Some k)
     by zero e later = let (x, there, is) = later (omega (arith, some, e)) in (x, inr there, is)
     by (suc m) e later =
         let one = same-is k n (omega (arith, e)) in
@@ -151,11 +151,11 @@ has-net d net t = record {
 }
   where
     by : (k : ℕ) (bytes : List ℕ) → nth k net.packets ≡ Some bytes → (n : ℕ) → times k t.places ≡ n
-        → Among k t.places ⊎ ((file : Beside) × IsToBeNamed d file × (file.bytes ≡ bytes))
+        → Among k t.places ⊎ ((file : StagingFile) × IsToBeNamed d file × (file.bytes ≡ bytes))
     by k bytes at zero e =
         let is = t.each k in
         let one = below-there k bytes net.packets at in
-        let (file, there, tagged) = waiting k net.packets (cursors net) d.beside t.tags t.beside (omega (arith, is, one, e)) in
+        let (file, there, tagged) = waiting k net.packets (cursors net) d.staging t.tags t.staging (omega (arith, is, one, e)) in
         let (same, unnamed, (c, is_cursor, less)) = tagged in
         inr (
           file,

@@ -7,7 +7,7 @@ use Rattle.base_store.specs.Store.{all_scanned, purged}
 use Rattle.law_stations.specs.Commands.{Command, CommandEvent, Post, Purge, Scan, Toss}
 use Rattle.law_stations.specs.Nets.{Net, with_base}
 use Rattle.law_stations.specs.Disks.{Disks, naming}
-use Rattle.law_stations.specs.Stopping.{Ends, EndsOne, EndsSome, LeadsFar, MayHappen, Moves, ScansFar, Writes}
+use Rattle.law_stations.specs.Stopping.{Ends, EndsOne, EndsSome, PartialEffect, MayHappen, Moves, ScansFar, Writes}
 
 -- an item of another index
 pub change-other : {X : Type 0} (f : X → X) (i j : ℕ) (xs : List X) → j ≢ i → nth j (change i f xs) ≡ nth j xs
@@ -50,13 +50,13 @@ far-elsewhere stamp i j d new other (n, ended, ends, rest) = by rest ∙ ap (nth
         ap (nth j) (some-stations m i moved new names)
         ∙ left-elsewhere ended.net moved.net i j (all_scanned moves.scans.station.base) (ap (λ (x : Disks). x.net.stations) moves.becomes) other
 
-led-elsewhere : (command : Command) (i j : ℕ) (d new : Disks) → j ≢ i → LeadsFar command d i new → nth j new.net.stations ≡ nth j d.net.stations
-led-elsewhere (Post words body) i j d new other (posts, beside) =
+led-elsewhere : (command : Command) (i j : ℕ) (d new : Disks) → j ≢ i → PartialEffect command d i new → nth j new.net.stations ≡ nth j d.net.stations
+led-elsewhere (Post words body) i j d new other (posts, staging) =
     left-elsewhere d.net new.net i j posts.next (ap (λ (n : Net). n.stations) posts.becomes) other
 led-elsewhere (Scan stamp) i j d new other scan = far-elsewhere stamp i j d new other scan
-led-elsewhere Purge i j d new other (purges, beside) =
+led-elsewhere Purge i j d new other (purges, staging) =
     left-elsewhere d.net new.net i j (purged purges.station.base) (ap (λ (n : Net). n.stations) purges.becomes) other
-led-elsewhere (Toss indexes) i j d new other (n, tosses, beside) =
+led-elsewhere (Toss indexes) i j d new other (n, tosses, staging) =
     left-elsewhere d.net new.net i j tosses.next (ap (λ (x : Net). x.stations) tosses.becomes) other
 
 pub elsewhere : (event : CommandEvent) (j : ℕ) (d new : Disks) → j ≢ event.station → MayHappen event d new → nth j new.net.stations ≡ nth j d.net.stations

@@ -5,8 +5,8 @@ use Rattle.model_graph.specs.Walk.{Among}
 use Rattle.model_graph.proofs.Reached.{Among-push_cases}
 use Rattle.law_stations.specs.Nets.{Net}
 use Rattle.law_stations.specs.CanEnd.{CanEnd, LeftCanEnd}
-use Rattle.law_stations.specs.Disks.{Beside, HasCursor, naming}
-use Rattle.law_stations.specs.Stopping.{EndsOne, HasNoneBeside}
+use Rattle.law_stations.specs.Disks.{StagingFile, HasCursor, naming}
+use Rattle.law_stations.specs.Stopping.{EndsOne, HasNoneStaged}
 use Rattle.law_stations.proofs.Whole.{disks_with}
 
 -- a packet that got its name changed no cursor
@@ -15,12 +15,12 @@ cursor-stays net i cursor bytes true has = has
 cursor-stays net i cursor bytes false has = has
 
 -- one file of the station behind others is brought to its end
-record OneEnds (i cursor : ℕ) (net : Net) (before : List Beside) (file : Beside) (after : List Beside) : Type 0 where
+record OneEnds (i cursor : ℕ) (net : Net) (before : List StagingFile) (file : StagingFile) (after : List StagingFile) : Type 0 where
   next : Net
   has : HasCursor next i cursor
   one : EndsOne i (disks_with net (before ++ file ∷ after)) (disks_with next (before ++ after))
 
-one-ends : (i cursor : ℕ) (net : Net) (before : List Beside) (file : Beside) (after : List Beside) → file.station ≡ i → HasCursor net i cursor → OneEnds i cursor net before file after
+one-ends : (i cursor : ℕ) (net : Net) (before : List StagingFile) (file : StagingFile) (after : List StagingFile) → file.station ≡ i → HasCursor net i cursor → OneEnds i cursor net before file after
 one-ends i cursor net before file after own has = ⊎_elim
     (λ (less : file.number < cursor). record {
       next = naming net file.bytes file.named;
@@ -35,17 +35,17 @@ one-ends i cursor net before file after own has = ⊎_elim
     (cases_lt file.number cursor)
 
 -- one file more of another station
-none-more : (i : ℕ) (before : List Beside) (file : Beside) → HasNoneBeside i before → file.station ≢ i → HasNoneBeside i (before ++ file ∷ [])
+none-more : (i : ℕ) (before : List StagingFile) (file : StagingFile) → HasNoneStaged i before → file.station ≢ i → HasNoneStaged i (before ++ file ∷ [])
 none-more i before file none other f is =
-    ⊎_elim (λ (was : Among f before). none f was) (λ (same : f ≡ file) e. other (ap (λ (b : Beside). b.station) (sym same) ∙ e)) (Among-push_cases f file before is)
+    ⊎_elim (λ (was : Among f before). none f was) (λ (same : f ≡ file) e. other (ap (λ (b : StagingFile). b.station) (sym same) ∙ e)) (Among-push_cases f file before is)
 
 -- those behind files of other stations
-can-end : (i cursor : ℕ) (after before : List Beside) (net : Net) → HasNoneBeside i before → HasCursor net i cursor → CanEnd i (disks_with net (before ++ after))
+can-end : (i cursor : ℕ) (after before : List StagingFile) (net : Net) → HasNoneStaged i before → HasCursor net i cursor → CanEnd i (disks_with net (before ++ after))
 can-end i cursor [] before net none has = record {
   steps = zero;
   ended = disks_with net (before ++ []);
   ends = refl;
-  none = subst (HasNoneBeside i) (sym (append-nil before)) none;
+  none = subst (HasNoneStaged i) (sym (append-nil before)) none;
 }
 can-end i cursor (file ∷ rest) before net none has = ⊎_elim
     (λ (own : file.station ≡ i).
@@ -54,8 +54,8 @@ can-end i cursor (file ∷ rest) before net none has = ⊎_elim
     record { steps = suc later.steps; ended = later.ended; ends = (disks_with first.next (before ++ rest), first.one, later.ends); none = later.none })
     (λ (other : file.station ≢ i).
     let later = can-end i cursor rest (before ++ file ∷ []) net (none-more i before file none other) has in
-    subst (λ (l : List Beside). CanEnd i (disks_with net l)) (append_assoc before (file ∷ []) rest) later)
+    subst (λ (l : List StagingFile). CanEnd i (disks_with net l)) (append_assoc before (file ∷ []) rest) later)
     (cases_eq file.station i)
 
 pub left-can-end : LeftCanEnd
-left-can-end i d cursor has = can-end i cursor d.beside [] d.net (λ file is. absurd is) has
+left-can-end i d cursor has = can-end i cursor d.staging [] d.net (λ file is. absurd is) has

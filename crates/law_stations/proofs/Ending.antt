@@ -5,13 +5,13 @@ use Rattle.model_run.specs.Run.{nth}
 use Rattle.model_run.proofs.Lists.{not_both, nth-append, some_same}
 use Rattle.law_stations.specs.Nets.{Net, Paired}
 use Rattle.law_stations.proofs.Pairs.{paired-append}
-use Rattle.law_stations.specs.Disks.{Beside, Disks, cursors, naming, with_packet}
+use Rattle.law_stations.specs.Disks.{StagingFile, Disks, cursors, naming, with_packet}
 use Rattle.law_stations.specs.Stopping.{Ends, EndsOne, EndsSome, now_named}
 use Rattle.law_stations.proofs.Counting.{IsItem, nones, same_as, times-append, waits, waits-append, waits-nones}
 use Rattle.law_stations.proofs.Tracking.{IsTagged, IsTossedAt, PairedAround, Tracks, cursor-too, paired-around}
 
 -- as many wait without the file, or with what is left of it
-same-waits : (k : ℕ) (left : List Beside) (front behind : List (Option ℕ)) → waits k (front ++ (nones left ++ behind)) ≡ waits k front + waits k behind
+same-waits : (k : ℕ) (left : List StagingFile) (front behind : List (Option ℕ)) → waits k (front ++ (nones left ++ behind)) ≡ waits k front + waits k behind
 same-waits k left front behind =
     let a = waits-append k front (nones left ++ behind) in
     let b = waits-append k (nones left) behind in
@@ -23,26 +23,26 @@ less-waits : (k x : ℕ) (front behind : List (Option ℕ)) → waits k (front +
 less-waits k x front behind = waits-append k front (Some x ∷ behind)
 
 -- nothing is left of a file, or the file under its name
-abbrev IsLeft : Beside → List Beside → Type 0
+abbrev IsLeft : StagingFile → List StagingFile → Type 0
 IsLeft file left = (left ≡ []) ⊎ (left ≡ now_named file ∷ [])
 
-left-tagged : (packets : List (List ℕ)) (at : List ℕ) (file : Beside) (left : List Beside) → IsLeft file left → Paired (IsTagged packets at) left (nones left)
+left-tagged : (packets : List (List ℕ)) (at : List ℕ) (file : StagingFile) (left : List StagingFile) → IsLeft file left → Paired (IsTagged packets at) left (nones left)
 left-tagged packets at file left (inl none) =
-    let P : List Beside → Type 0 = λ fs. Paired (IsTagged packets at) fs (nones fs) in
+    let P : List StagingFile → Type 0 = λ fs. Paired (IsTagged packets at) fs (nones fs) in
     subst P (sym none) tt
 left-tagged packets at file left (inr one) =
-    let P : List Beside → Type 0 = λ fs. Paired (IsTagged packets at) fs (nones fs) in
+    let P : List StagingFile → Type 0 = λ fs. Paired (IsTagged packets at) fs (nones fs) in
     subst P (sym one) (inl refl, tt)
 
-module _ (d new : Disks) (net : Net) (t : Tracks d net) (before : List Beside) (file : Beside) (after left : List Beside)
-    (stands : new.beside ≡ before ++ (left ++ after)) (around : PairedAround (IsTagged net.packets (cursors net)) before file after t.tags) where
+module _ (d new : Disks) (net : Net) (t : Tracks d net) (before : List StagingFile) (file : StagingFile) (after left : List StagingFile)
+    (stands : new.staging ≡ before ++ (left ++ after)) (around : PairedAround (IsTagged net.packets (cursors net)) before file after t.tags) where
   abbrev tags : List (Option ℕ)
   tags = around.front ++ (nones left ++ around.behind)
 
-  tagged : Paired (IsTagged net.packets (cursors net)) left (nones left) → Paired (IsTagged net.packets (cursors net)) new.beside tags
+  tagged : Paired (IsTagged net.packets (cursors net)) left (nones left) → Paired (IsTagged net.packets (cursors net)) new.staging tags
   tagged is =
-      let R : Beside → Option ℕ → Type 0 = IsTagged net.packets (cursors net) in
-      let P : List Beside → Type 0 = λ fs. Paired R fs tags in
+      let R : StagingFile → Option ℕ → Type 0 = IsTagged net.packets (cursors net) in
+      let P : List StagingFile → Type 0 = λ fs. Paired R fs tags in
       subst P (sym stands) (paired-append R before (left ++ after) around.front (nones left ++ around.behind) around.before
       (paired-append R left after (nones left) around.behind is around.after))
 
@@ -54,7 +54,7 @@ module _ (d new : Disks) (net : Net) (t : Tracks d net) (before : List Beside) (
     places = t.places;
     named = subst (λ (n : Net). Paired (IsItem net.packets) n.packets t.places) (sym same) t.named;
     tags = tags;
-    beside = tagged is;
+    staging = tagged is;
     each = λ k.
         let whole = ap (waits k) (around.whole ∙ ap (λ (o : Option ℕ). around.front ++ o ∷ around.behind) none) in
         let split = waits-append k around.front (None ∷ around.behind) in
@@ -74,7 +74,7 @@ module _ (d new : Disks) (net : Net) (t : Tracks d net) (before : List Beside) (
     named = subst (λ (n : Net). Paired (IsItem net.packets) n.packets (t.places ++ k ∷ [])) (sym same)
         (paired-append (IsItem net.packets) d.net.packets (file.bytes ∷ []) t.places (k ∷ []) t.named (there, tt));
     tags = tags;
-    beside = tagged is;
+    staging = tagged is;
     each = λ x.
         let whole = ap (waits x) (around.whole ∙ ap (λ (o : Option ℕ). around.front ++ o ∷ around.behind) waited) in
         let split = less-waits x k around.front around.behind in
@@ -97,7 +97,7 @@ one-ended i d new net t e = by around.y refl e.ends
 
     around : PairedAround (IsTagged net.packets (cursors net)) e.before e.file e.after t.tags
     around = paired-around (IsTagged net.packets (cursors net)) e.before e.file e.after t.tags
-        (subst (λ (fs : List Beside). Paired (IsTagged net.packets (cursors net)) fs t.tags) e.stood t.beside)
+        (subst (λ (fs : List StagingFile). Paired (IsTagged net.packets (cursors net)) fs t.tags) e.stood t.staging)
 
     here : (o : Option ℕ) → around.y ≡ o → IsTagged net.packets (cursors net) e.file o
     here o is = subst (IsTagged net.packets (cursors net) e.file) is around.here

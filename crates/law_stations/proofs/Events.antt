@@ -30,7 +30,7 @@ module _ (station : Station) (file : LinkFile) (i : ℕ) (d : Disks) (there : nt
   -- a posting leads on, of words of which it is said so
   pub posting : (IsCommand : Command → Type 0) (words : NewMessage) (body : List ℕ) (next : Base) → IsCommand (Post words body) → Posts file words body station.base next → LeadsTo IsCommand i d next
   posting IsCommand words body next is posts = record {
-    after = record { net = with_posting d.net i next (posted file words.tag.now (draft_given words body) words.serial words.stamp); beside = d.beside };
+    after = record { net = with_posting d.net i next (posted file words.tag.now (draft_given words body) words.serial words.stamp); staging = d.staging };
     stations = refl;
     command = Post words body;
     is = is;
@@ -58,7 +58,7 @@ module _ (station : Station) (file : LinkFile) (i : ℕ) (d : Disks) (there : nt
   -- a purge
   pub purging : (next : Base) → Purges station.base next → LeadsTo IsPurge i d next
   purging next is = record {
-    after = record { net = with_left d.net i [] (purged station.base); beside = d.beside };
+    after = record { net = with_left d.net i [] (purged station.base); staging = d.staging };
     stations = ap (λ (b : Base). change i (with_base b) d.net.stations) (sym is);
     command = Purge;
     is = refl;
@@ -74,7 +74,7 @@ module _ (station : Station) (file : LinkFile) (i : ℕ) (d : Disks) (there : nt
   tossing files indexes next are tosses =
       let all : take (length indexes) indexes ≡ indexes = take_all (length indexes) indexes (omega arith) in
       record {
-        after = record { net = with_tossed d.net i next (whole_of (take (length indexes) indexes) tosses.stopped tosses.left); beside = d.beside };
+        after = record { net = with_tossed d.net i next (whole_of (take (length indexes) indexes) tosses.stopped tosses.left); staging = d.staging };
         stations = refl;
         command = Toss indexes;
         is = refl;

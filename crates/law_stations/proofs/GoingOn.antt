@@ -2,10 +2,10 @@
 use Rattle.std.proofs.Common.{inl, inr, ⊎_elim, refl, ℕ, List, Some, None, Result}
 use Rattle.base_file.specs.Base.{Base}
 use Rattle.disk_io.specs.Disk.{DiskState, Files}
-use Rattle.cmd_store.specs.declared.stop.Stop.{Stop}
+use Rattle.cmd_store.specs.declared.command_error.CommandError.{CommandError}
 use Rattle.station.specs.Place.{Place, SameElsewhere}
 use Rattle.law_stations.specs.Disks.{Disks}
-use Rattle.law_stations.specs.OnDisks.{DoesAsMay, LeavesElsewhere, MayLeadBy, ShowsStation}
+use Rattle.law_stations.specs.OnDisks.{RefinesEvent, LeavesElsewhere, MayLeadBy, ShowsStation}
 use Rattle.law_stations.specs.Asked.{Asked, AnswerOf, CommandGoesOn, CommandsGoOn, GoesOnCut, IsAsked}
 use Rattle.law_stations.specs.Seats.{Seat, reach}
 use Rattle.law_stations.specs.Steps.{IsAllOnDisk}
@@ -24,7 +24,7 @@ reaches-by place further old new more left = record {
 }
 
 module _ {D Kept : Type 0} (state : D → DiskState) (place : Kept → Place) (seats : List (Seat Kept)) (seat : Seat Kept) (i : ℕ) (asked : Asked) (base : Base) (d : Disks) (old whole : D)
-    (result : Result (AnswerOf asked) Stop) (does : DoesAsMay (IsAsked asked base) (place seat.kept) seat.links i d (state old) (state whole) result)
+    (result : Result (AnswerOf asked) CommandError) (does : RefinesEvent (IsAsked asked base) (place seat.kept) seat.links i d (state old) (state whole) result)
     (on_disk : (c : Files) → (state old).may_leave c → ShowsStation (place seat.kept) seat.links i c d) where
   elsewhere : LeavesElsewhere (reach place seat) (state old) (state whole)
   elsewhere = reaches-by (place seat.kept) (reach place seat) (state old) (state whole) (λ m own. inl own) does.elsewhere

@@ -5,7 +5,7 @@ use Rattle.law_stations.specs.Commands.{Command, Post, Purge, Scan, Toss}
 use Rattle.law_stations.specs.Nets.{Net}
 use Rattle.law_stations.specs.LoneStations.{LoneCommand, LoneStation, PostAlone, PurgeAlone, ScanAlone, TossAny}
 use Rattle.law_stations.specs.Disks.{Disks, naming}
-use Rattle.law_stations.specs.Stopping.{Ends, EndsOne, EndsSome, LeadsFar, Moves, ScansFar, Writes}
+use Rattle.law_stations.specs.Stopping.{Ends, EndsOne, EndsSome, PartialEffect, Moves, ScansFar, Writes}
 use Rattle.law_stations.specs.LoneDisks.{LoneDisks, MayHappenAlone, MayHappenAllAlone}
 
 -- the packet files are there, before some since
@@ -45,18 +45,18 @@ scan-grows stamp i d new (n, ended, ends, rest) = grows-on d.net.packets ended.n
         grows-on ended.net.packets moved.net.packets new.net.packets
         ([], ap (λ (x : Disks). x.net.packets) moves.becomes) (some-grow m i moved new names)
 
-led-grows : (command : Command) (i : ℕ) (d new : Disks) → LeadsFar command d i new → Grows d.net.packets new.net.packets
-led-grows (Post words body) i d new (posts, beside) = same-grows d.net.packets new.net.packets (ap (λ (n : Net). n.packets) posts.becomes)
+led-grows : (command : Command) (i : ℕ) (d new : Disks) → PartialEffect command d i new → Grows d.net.packets new.net.packets
+led-grows (Post words body) i d new (posts, staging) = same-grows d.net.packets new.net.packets (ap (λ (n : Net). n.packets) posts.becomes)
 led-grows (Scan stamp) i d new scan = scan-grows stamp i d new scan
-led-grows Purge i d new (purges, beside) = ([], ap (λ (n : Net). n.packets) purges.becomes)
-led-grows (Toss indexes) i d new (n, tosses, beside) = same-grows d.net.packets new.net.packets (ap (λ (x : Net). x.packets) tosses.becomes)
+led-grows Purge i d new (purges, staging) = ([], ap (λ (n : Net). n.packets) purges.becomes)
+led-grows (Toss indexes) i d new (n, tosses, staging) = same-grows d.net.packets new.net.packets (ap (λ (x : Net). x.packets) tosses.becomes)
 
 alone-grows : (command : LoneCommand) (s new : LoneDisks) → MayHappenAlone command s new → Grows s.disks.net.packets new.disks.net.packets
 alone-grows command s new (inl same) = same-grows s.disks.net.packets new.disks.net.packets (ap (λ (x : LoneDisks). x.disks.net.packets) same)
 alone-grows (PostAlone words body) s new (inr (leads, none)) = led-grows (Post words body) 0 s.disks new.disks leads
 alone-grows (ScanAlone stamp) s new (inr (leads, none)) = led-grows (Scan stamp) 0 s.disks new.disks leads
 alone-grows PurgeAlone s new (inr (leads, none)) = led-grows Purge 0 s.disks new.disks leads
-alone-grows (TossAny files) s new (inr (n, tosses, beside)) = ([], ap (λ (x : LoneStation). x.net.packets) tosses.becomes)
+alone-grows (TossAny files) s new (inr (n, tosses, staging)) = ([], ap (λ (x : LoneStation). x.net.packets) tosses.becomes)
 
 pub all-grow : (commands : List LoneCommand) (s new : LoneDisks) → MayHappenAllAlone commands s new → Grows s.disks.net.packets new.disks.net.packets
 all-grow [] s new same = same-grows s.disks.net.packets new.disks.net.packets (ap (λ (x : LoneDisks). x.disks.net.packets) same)

@@ -10,16 +10,16 @@ use Rattle.model_run.specs.Run.{change, nth}
 use Rattle.model_run.proofs.Lists.{some_same}
 use Rattle.cmd_status.specs.declared.fault.Fault.{Fault}
 use Rattle.cmd_status.specs.Devices.{Output}
-use Rattle.cmd_store.specs.declared.stop.Stop.{Stop}
-use Rattle.cmd_store.specs.declared.stop.Stop.TheVariants.{Met, Store}
+use Rattle.cmd_store.specs.declared.command_error.CommandError.{CommandError}
+use Rattle.cmd_store.specs.declared.command_error.CommandError.TheVariants.{Met, Store}
 use Rattle.station.specs.Place.{KeepsElsewhere, Place, SameElsewhere, StandsOrWasLeft}
 use Rattle.station.specs.Running.{IsKept, IsRun, IsRunOn, MadeOrWasLeft, RunsIn, StandsAsBefore, StandsWhereMet}
 use Rattle.law_stations.specs.Commands.{Command}
 use Rattle.law_stations.specs.Nets.{with_base}
 use Rattle.law_stations.proofs.Pairs.{changed-there}
 use Rattle.law_stations.specs.Disks.{Disks}
-use Rattle.law_stations.specs.Stopping.{LeadsFar}
-use Rattle.law_stations.specs.OnDisks.{AreAsMay, DoesAsMay, IsAfter, IsAsBefore, IsLinkedOn, IsStationAt, LeadsFarBy, ReadsLinks, ShowsStation}
+use Rattle.law_stations.specs.Stopping.{PartialEffect}
+use Rattle.law_stations.specs.OnDisks.{AreAsMay, RefinesEvent, IsAfter, IsAsBefore, IsLinkedOn, IsStationAt, LeadsFarBy, ReadsLinks, ShowsStation}
 
 -- disks to which a command of this kind leads, on which the station has this base
 pub record LeadsTo (IsCommand : Command → Type 0) (i : ℕ) (d : Disks) (next : Base) : Type 0 where
@@ -27,7 +27,7 @@ pub record LeadsTo (IsCommand : Command → Type 0) (i : ℕ) (d : Disks) (next 
   pub stations : after.net.stations ≡ change i (with_base next) d.net.stations
   pub command : Command
   pub is : IsCommand command
-  pub leads : LeadsFar command d i after
+  pub leads : PartialEffect command d i after
 
 -- what is made may be what was held
 abbrev pub MadeOrHeld : (Command → Type 0) → ℕ → Disks → Base → Base → Type 0
@@ -78,18 +78,18 @@ module _ (place : Place) (links : List ℕ) (i : ℕ) (d : Disks) (old new : Dis
   }
 
   -- where a command met a fault
-  module _ {A : Type 0} (IsAnswer : LinkFile → Base → Type 0) (Makes May : LinkFile → Base → Base → Type 0) (Reads : LinkFile → Type 0) (IsShut Stops : Fault → Type 0) (failed : Type 0) (result : Result A Stop) where
+  module _ {A : Type 0} (IsAnswer : LinkFile → Base → Type 0) (Makes May : LinkFile → Base → Base → Type 0) (Reads : LinkFile → Type 0) (IsShut Stops : Fault → Type 0) (failed : Type 0) (result : Result A CommandError) where
     stands-so : IsRun IsAnswer Makes May place Reads failed old new result → (fault : Fault) → result ≡ Err (Met fault) → StandsAsBefore place old new base
-    stands-so run fault is = subst (λ (r : Result A Stop). IfErr r (StandsWhereMet place old new base)) is (run.runs base at.shows.stands).met
+    stands-so run fault is = subst (λ (r : Result A CommandError). IfErr r (StandsWhereMet place old new base)) is (run.runs base at.shows.stands).met
 
-    abbrev is-shut-by : Stop → Type 0
+    abbrev is-shut-by : CommandError → Type 0
     is-shut-by (Met fault) = IsShut fault
     is-shut-by (Store cause) = Unit {0}
 
     pub stays : (out out_now : Output) → RunsIn IsAnswer Makes May place Reads IsShut Stops failed old new out out_now result → (fault : Fault) → result ≡ Err (Met fault)
         → IsAsBefore place links i d new ⊎ IsShut fault
     stays out out_now (inl run) fault is = inl (is-as-before (stands-so run fault is))
-    stays out out_now (inr (inl shut)) fault is = inr (subst (λ (r : Result A Stop). IfErr r is-shut-by) (sym shut.is ∙ is) shut.cause)
+    stays out out_now (inr (inl shut)) fault is = inr (subst (λ (r : Result A CommandError). IfErr r is-shut-by) (sym shut.is ∙ is) shut.cause)
     stays out out_now (inr (inr stopped)) fault is = inl (is-as-before (stopped.stands base at.shows.stands))
 
   module _ (IsCommand : Command → Type 0) where
@@ -119,18 +119,18 @@ module _ (place : Place) (links : List ℕ) (i : ℕ) (d : Disks) (old new : Dis
     may-be c (inl was) = inl was
     may-be c (inr shows) = inr (record { after = d; leads = inl refl; shows = shows })
 
-    module _ {A : Type 0} (IsAnswer : LinkFile → Base → Type 0) (Makes May : LinkFile → Base → Base → Type 0) (Reads : LinkFile → Type 0) (read : ReadsLinks Reads links old) (IsShut Stops : Fault → Type 0) (failed : Type 0) (result : Result A Stop)
+    module _ {A : Type 0} (IsAnswer : LinkFile → Base → Type 0) (Makes May : LinkFile → Base → Base → Type 0) (Reads : LinkFile → Type 0) (read : ReadsLinks Reads links old) (IsShut Stops : Fault → Type 0) (failed : Type 0) (result : Result A CommandError)
         (may : (file : LinkFile) (next : Base) → SaysIn file → May file base next → MadeOrHeld IsCommand i d base next)
         (makes : (file : LinkFile) (next : Base) → SaysIn file → Makes file base next → LeadsTo IsCommand i d next) where
       -- what a command does that ran
-      ran : IsRun IsAnswer Makes May place Reads failed old new result → DoesAsMay IsCommand place links i d old new result
+      ran : IsRun IsAnswer Makes May place Reads failed old new result → RefinesEvent IsCommand place links i d old new result
       ran run = record {
         crash = left;
         done = well;
         stopped = λ fault is c since. was-left c ((stands-so IsAnswer Makes May Reads IsShut Stops failed result run fault is).crash.each c since);
         same_links = same-links;
         linked = still-linked;
-        elsewhere = record { crash = beside; keeps = kept };
+        elsewhere = record { crash = staging; keeps = kept };
       }
         where
           on : IsRunOn (IsAnswer run.file base) (Makes run.file base) (May run.file base) place old new base result
@@ -159,14 +159,14 @@ module _ (place : Place) (links : List ℕ) (i : ℕ) (d : Disks) (old new : Dis
 
           well : (value : A) → result ≡ Ok value → IsAfter IsCommand place links i d new
           well value ok =
-              let it : IsKept place (Makes run.file base) new = subst (λ (r : Result A Stop). OnOk r (IsKept place (Makes run.file base) new)) ok on.kept in
+              let it : IsKept place (Makes run.file base) new = subst (λ (r : Result A CommandError). OnOk r (IsKept place (Makes run.file base) new)) ok on.kept in
               is-after it.next (makes run.file it.next says it.made) it.seen it.stands
 
-          beside : (c : Files) → new.left_since old.moment c → old.may_leave c ⊎ SameElsewhere place old c
-          beside c since = ⊎_elim (λ alone. inr alone.elsewhere) (λ was. inl was) (on.crash.each c since)
+          staging : (c : Files) → new.left_since old.moment c → old.may_leave c ⊎ SameElsewhere place old c
+          staging c since = ⊎_elim (λ alone. inr alone.elsewhere) (λ was. inl was) (on.crash.each c since)
 
       -- what one does that did not
-      not-run : (fault : Fault) → result ≡ Err (Met fault) → LeavesOnly old new (StandsOrWasLeft place old base) → DoesAsMay IsCommand place links i d old new result
+      not-run : (fault : Fault) → result ≡ Err (Met fault) → LeavesOnly old new (StandsOrWasLeft place old base) → RefinesEvent IsCommand place links i d old new result
       not-run fault is leaves = record {
         crash = λ c since. may-be c (was-left c (leaves.each c since));
         done = λ value ok. absurd (cc (sym ok ∙ is));
@@ -177,7 +177,7 @@ module _ (place : Place) (links : List ℕ) (i : ℕ) (d : Disks) (old new : Dis
       }
 
       -- what a command does
-      pub does : (out out_now : Output) → RunsIn IsAnswer Makes May place Reads IsShut Stops failed old new out out_now result → DoesAsMay IsCommand place links i d old new result
+      pub does : (out out_now : Output) → RunsIn IsAnswer Makes May place Reads IsShut Stops failed old new out out_now result → RefinesEvent IsCommand place links i d old new result
       does out out_now (inl run) = ran run
       does out out_now (inr (inl shut)) = not-run shut.fault shut.is (shut.crash base at.shows.stands)
       does out out_now (inr (inr stopped)) = not-run stopped.fault stopped.is (stopped.stands base at.shows.stands).crash

@@ -18,13 +18,13 @@ use Rattle.cmd_report.specs.Scanned.{file_sent}
 use Rattle.law_stations.specs.Commands.{Scans}
 use Rattle.law_stations.specs.Nets.{Net, Paired, Station, bytes_of, with_base, with_left}
 use Rattle.law_stations.proofs.Pairs.{changed-there, paired-append}
-use Rattle.law_stations.specs.Disks.{Beside, Disks, HasCursor, cursor_of, cursors}
-use Rattle.law_stations.specs.Stopping.{IsOfNext, Moves, Writes, beside_of}
+use Rattle.law_stations.specs.Disks.{StagingFile, Disks, HasCursor, cursor_of, cursors}
+use Rattle.law_stations.specs.Stopping.{IsOfNext, Moves, Writes, staging_of}
 use Rattle.law_stations.proofs.Counting.{IsItem, below, from, nones, waits-append, waits-from, waits-nones}
 use Rattle.law_stations.proofs.Tracking.{IsTagged, Tracks, cursor-too, has-cursor, paired-so}
 
 -- files that a stopped scan wrote have no packet that waits
-unfinished-tagged : (packets : List (List ℕ)) (at : List ℕ) (i c : ℕ) (files : List Beside) → nth i at ≡ Some c → AllByRecursion (IsOfNext i c) files
+unfinished-tagged : (packets : List (List ℕ)) (at : List ℕ) (i c : ℕ) (files : List StagingFile) → nth i at ≡ Some c → AllByRecursion (IsOfNext i c) files
     → Paired (IsTagged packets at) files (nones files)
 unfinished-tagged packets at i c [] there are = tt
 unfinished-tagged packets at i c (file ∷ files) there are = (
@@ -43,7 +43,7 @@ written i d new net t w = subst (λ (x : Disks). Tracks x net) (sym w.becomes) (
   places = t.places;
   named = t.named;
   tags = t.tags ++ nones w.files;
-  beside = paired-append (IsTagged net.packets (cursors net)) d.beside w.files t.tags (nones w.files) t.beside
+  staging = paired-append (IsTagged net.packets (cursors net)) d.staging w.files t.tags (nones w.files) t.staging
       (unfinished-tagged net.packets (cursors net) i w.cursor w.files (cursor-too d.net net i w.cursor t.stations w.is_cursor) w.are);
   each = λ k. let was = t.each k in let split = waits-append k t.tags (nones w.files) in let none = waits-nones k w.files in omega (arith, was, split, none);
   tossed = t.tossed;
@@ -55,22 +55,22 @@ nth-middle (y ∷ before) x after = nth-middle before x after
 
 -- the packets of a scan wait for their names, each under its own index
 waiting-tagged : (front : List (List ℕ)) (at : List ℕ) (i c : ℕ) (ps : List PacketFile) → ((q : PacketFile) → Among q ps → (n : ℕ) × (nth i at ≡ Some n) × (c < n))
-    → Paired (IsTagged (front ++ map bytes_of ps) at) (map (beside_of i c) ps) (from (length front) ps)
+    → Paired (IsTagged (front ++ map bytes_of ps) at) (map (staging_of i c) ps) (from (length front) ps)
 waiting-tagged front at i c [] less = tt
 waiting-tagged front at i c (p ∷ ps) less =
     let rest = waiting-tagged (front ++ p.bytes ∷ []) at i c ps (λ q h. less q (inr h)) in
     let long : length (front ++ p.bytes ∷ []) ≡ suc (length front) = let e = length-append front (p.bytes ∷ []) in omega (arith, e) in
-    let P : List (List ℕ) → Type 0 = λ all. Paired (IsTagged all at) (map (beside_of i c) ps) (from (suc (length front)) ps) in
-    let Q : ℕ → Type 0 = λ n. Paired (IsTagged ((front ++ p.bytes ∷ []) ++ map bytes_of ps) at) (map (beside_of i c) ps) (from n ps) in
+    let P : List (List ℕ) → Type 0 = λ all. Paired (IsTagged all at) (map (staging_of i c) ps) (from (suc (length front)) ps) in
+    let Q : ℕ → Type 0 = λ n. Paired (IsTagged ((front ++ p.bytes ∷ []) ++ map bytes_of ps) at) (map (staging_of i c) ps) (from n ps) in
     ((nth-middle front p.bytes (map bytes_of ps), refl, less p (inl refl)), subst P (append_assoc front (p.bytes ∷ []) (map bytes_of ps)) (subst Q long rest))
 
 -- a change of another station
-map-beside : {X Y : Type 0} (g : X → Y) (f : X → X) (i j : ℕ) (xs : List X) → j ≢ i → nth j (map g (change i f xs)) ≡ nth j (map g xs)
-map-beside g f i j [] other = refl
-map-beside g f zero zero (x ∷ xs) other = absurd (other refl)
-map-beside g f zero (suc j) (x ∷ xs) other = refl
-map-beside g f (suc i) zero (x ∷ xs) other = refl
-map-beside g f (suc i) (suc j) (x ∷ xs) other = map-beside g f i j xs (λ e. other (ap suc e))
+map-staging : {X Y : Type 0} (g : X → Y) (f : X → X) (i j : ℕ) (xs : List X) → j ≢ i → nth j (map g (change i f xs)) ≡ nth j (map g xs)
+map-staging g f i j [] other = refl
+map-staging g f zero zero (x ∷ xs) other = absurd (other refl)
+map-staging g f zero (suc j) (x ∷ xs) other = refl
+map-staging g f (suc i) zero (x ∷ xs) other = refl
+map-staging g f (suc i) (suc j) (x ∷ xs) other = map-staging g f i j xs (λ e. other (ap suc e))
 
 -- where nothing waits there are no packets
 none-scanned : (file : LinkFile) (base : List Filed) (cursor : ℕ) (stamp : Stamp) → length base ≤ cursor → scanned file base cursor stamp ≡ []
@@ -127,11 +127,11 @@ module _ (stamp : Stamp) (i : ℕ) (d new : Disks) (net : Net) (t : Tracks d net
   abbrev files : List (List ℕ)
   files = net.packets ++ map bytes_of packets
 
-  same : (x : Beside) → Among x d.beside → nth x.station (cursors then) ≡ nth x.station (cursors net)
-  same x h = map-beside cursor_of (with_base next) i x.station net.stations (m.none x h)
+  same : (x : StagingFile) → Among x d.staging → nth x.station (cursors then) ≡ nth x.station (cursors net)
+  same x h = map-staging cursor_of (with_base next) i x.station net.stations (m.none x h)
 
   -- a file of another station
-  others : (x : Beside) (o : Option ℕ) → Among x d.beside → IsTagged net.packets (cursors net) x o → IsTagged files (cursors then) x o
+  others : (x : StagingFile) (o : Option ℕ) → Among x d.staging → IsTagged net.packets (cursors net) x o → IsTagged files (cursors then) x o
   others x None h (inl named) = inl named
   others x None h (inr late) = inr (λ c is. late c (sym (same x h) ∙ is))
   others x (Some k) h (at, unnamed, (c, is, less)) = (nth-append k x.bytes net.packets (map bytes_of packets) at, unnamed, (c, same x h ∙ is, less))
@@ -152,8 +152,8 @@ module _ (stamp : Stamp) (i : ℕ) (d new : Disks) (net : Net) (t : Tracks d net
         subst P (sym (append-nil d.net.packets)) (paired-so (IsItem net.packets) (IsItem files) d.net.packets t.places
         (λ bytes k h is. nth-append k bytes net.packets (map bytes_of packets) is) t.named);
     tags = t.tags ++ from (length net.packets) packets;
-    beside = paired-append (IsTagged files (cursors then)) d.beside (map (beside_of i m.cursor) packets) t.tags (from (length net.packets) packets)
-        (paired-so (IsTagged net.packets (cursors net)) (IsTagged files (cursors then)) d.beside t.tags others t.beside)
+    staging = paired-append (IsTagged files (cursors then)) d.staging (map (staging_of i m.cursor) packets) t.tags (from (length net.packets) packets)
+        (paired-so (IsTagged net.packets (cursors net)) (IsTagged files (cursors then)) d.staging t.tags others t.staging)
         (waiting-tagged net.packets (cursors then) i m.cursor packets own);
     each = λ k.
         let was = t.each k in

@@ -44,29 +44,29 @@ pub record Led (command : Command) (i : ℕ) (net : Net) (new : Disks) : Type 0 
   pub leads : Leads command net i next
   pub tracks : Tracks new next
 
-pub posted-too : (words : NewMessage) (body : List ℕ) (i : ℕ) (d new : Disks) (net : Net) → Tracks d net → Posts words body d.net i new.net → new.beside ≡ d.beside
+pub posted-too : (words : NewMessage) (body : List ℕ) (i : ℕ) (d new : Disks) (net : Net) → Tracks d net → Posts words body d.net i new.net → new.staging ≡ d.staging
     → Led (Post words body) i net new
-posted-too words body i d new net t p beside =
+posted-too words body i d new net t p staging =
     let m = posted p.file words.tag.now (draft_given words body) words.serial words.stamp in
     let at = at-too d net i p.station p.file t.stations p.at in
     record {
       next = with_posting net i p.next m;
       leads = record { station = p.station; file = p.file; at = at; next = p.next; makes = p.makes; becomes = refl };
       tracks = still d new net (with_posting net i p.next m) t (ap (λ (n : Net). n.stations) p.becomes ∙ ap (change i (with_base p.next)) t.stations)
-          (ap (λ (n : Net). n.postings) p.becomes ∙ ap (λ (ms : List Filed). ms ++ m ∷ []) t.postings) (ap (λ (n : Net). n.packets) p.becomes) refl beside
+          (ap (λ (n : Net). n.postings) p.becomes ∙ ap (λ (ms : List Filed). ms ++ m ∷ []) t.postings) (ap (λ (n : Net). n.packets) p.becomes) refl staging
           (same-cursors i p.station p.next net.stations at.there (ap (λ (b : Base). b.cursor) p.makes.is))
           (subst (λ (n : Net). (j : ℕ) → Among j n.delivered → IsTossedAt t.places net.delivered j) (sym p.becomes) t.tossed);
     }
 
-pub purged-too : (i : ℕ) (d new : Disks) (net : Net) → Tracks d net → Purges d.net i new.net → new.beside ≡ d.beside → Led Purge i net new
-purged-too i d new net t p beside =
+pub purged-too : (i : ℕ) (d new : Disks) (net : Net) → Tracks d net → Purges d.net i new.net → new.staging ≡ d.staging → Led Purge i net new
+purged-too i d new net t p staging =
     let next = purged p.station.base in
     let there = there-too d net i p.station t.stations p.there in
     record {
       next = with_left net i [] next;
       leads = record { station = p.station; there = there; becomes = refl };
       tracks = still d new net (with_left net i [] next) t (ap (λ (n : Net). n.stations) p.becomes ∙ ap (change i (with_base next)) t.stations)
-          (ap (λ (n : Net). n.postings) p.becomes ∙ t.postings) (ap (λ (n : Net). n.packets) p.becomes ∙ append-nil d.net.packets) (append-nil net.packets) beside
+          (ap (λ (n : Net). n.postings) p.becomes ∙ t.postings) (ap (λ (n : Net). n.packets) p.becomes ∙ append-nil d.net.packets) (append-nil net.packets) staging
           (same-cursors i p.station next net.stations there refl)
           (subst (λ (n : Net). (j : ℕ) → Among j n.delivered → IsTossedAt t.places net.delivered j) (sym p.becomes) t.tossed);
     }
@@ -180,9 +180,9 @@ all-from (x ∷ xs) j ks h = elim (all-from xs j (with_index x ks) h) [
   | inr t ↦ elim (with_index-from x j ks t) [ inl e ↦ inl (inl e) | inr u ↦ inr u ]
 ]
 
-pub tossed-too : (indexes : List ℕ) (i : ℕ) (d new : Disks) (net : Net) → Tracks d net → Tosses indexes d.net i new.net → new.beside ≡ d.beside
+pub tossed-too : (indexes : List ℕ) (i : ℕ) (d new : Disks) (net : Net) → Tracks d net → Tosses indexes d.net i new.net → new.staging ≡ d.staging
     → (others : List ℕ) × Led (Toss others) i net new
-tossed-too indexes i d new net t p beside =
+tossed-too indexes i d new net t p staging =
     let place = place_at t.places in
     let others = map place indexes in
     let all = p.tosses in
@@ -210,7 +210,7 @@ tossed-too indexes i d new net t p beside =
         next = next;
         leads = record { station = p.station; file = p.file; at = at; files = p.files; are = are; next = p.next; tosses = all; becomes = refl };
         tracks = still d new net next t (ap (λ (n : Net). n.stations) p.becomes ∙ ap (change i (with_base p.next)) t.stations)
-            (ap (λ (n : Net). n.postings) p.becomes ∙ t.postings) (ap (λ (n : Net). n.packets) p.becomes) refl beside
+            (ap (λ (n : Net). n.postings) p.becomes ∙ t.postings) (ap (λ (n : Net). n.packets) p.becomes) refl staging
             (same-cursors i p.station p.next net.stations at.there (tossed-cursor n net.packets others p.files (state_in p.file p.station.base) (state_in p.file p.next) are ran))
             (subst (λ (n : Net). (j : ℕ) → Among j n.delivered → IsTossedAt t.places next.delivered j) (sym p.becomes) tossed);
       },

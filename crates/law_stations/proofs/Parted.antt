@@ -4,81 +4,81 @@ use Rattle.std.specs.List.{AllByRecursion}
 use Rattle.model_graph.specs.Walk.{Among}
 use Rattle.model_steps.specs.PacketFiles.{PacketFile}
 use Rattle.law_stations.specs.Nets.{Net, bytes_of}
-use Rattle.law_stations.specs.Disks.{Beside, HasCursor, with_packet}
-use Rattle.law_stations.specs.Stopping.{EndsSome, beside_of}
+use Rattle.law_stations.specs.Disks.{StagingFile, HasCursor, with_packet}
+use Rattle.law_stations.specs.Stopping.{EndsSome, staging_of}
 use Rattle.law_stations.proofs.Whole.{disks_with, gets-name, with_packets}
 
 -- Of packets that wait behind other files, those at their paths get their names.
-pub record Parted (IsAt IsBeside : PacketFile → Type 0) (i cursor : ℕ) (before : List Beside) (net : Net) (ps : List PacketFile) : Type 0 where
+pub record Parted (IsAt IsBeside : PacketFile → Type 0) (i cursor : ℕ) (before : List StagingFile) (net : Net) (ps : List PacketFile) : Type 0 where
   pub steps : ℕ
   pub named : List PacketFile
   pub waiting : List PacketFile
-  pub ends : EndsSome steps i (disks_with net (before ++ map (beside_of i cursor) ps)) (disks_with (with_packets net (map bytes_of named)) (before ++ map (beside_of i cursor) waiting))
+  pub ends : EndsSome steps i (disks_with net (before ++ map (staging_of i cursor) ps)) (disks_with (with_packets net (map bytes_of named)) (before ++ map (staging_of i cursor) waiting))
   pub at_paths : AllByRecursion IsAt named
-  pub beside_paths : AllByRecursion IsBeside waiting
+  pub staging_paths : AllByRecursion IsBeside waiting
 
 module _ (IsAt IsBeside : PacketFile → Type 0) (i cursor most : ℕ) where
   -- there are none
-  abbrev no-more : (before : List Beside) (net : Net) → Parted IsAt IsBeside i cursor before net []
+  abbrev no-more : (before : List StagingFile) (net : Net) → Parted IsAt IsBeside i cursor before net []
   no-more before net = record {
     steps = 0;
     named = [];
     waiting = [];
     ends = λ j. record {
       net = record { stations = net.stations; packets = append-nil net.packets j; delivered = net.delivered; postings = net.postings };
-      beside = before ++ [];
+      staging = before ++ [];
     };
     at_paths = tt;
-    beside_paths = tt;
+    staging_paths = tt;
   }
 
   -- one that gets its name
-  abbrev one-more : (p : PacketFile) (ps : List PacketFile) (before : List Beside) (net : Net) → HasCursor net i most → cursor < most → IsAt p
+  abbrev one-more : (p : PacketFile) (ps : List PacketFile) (before : List StagingFile) (net : Net) → HasCursor net i most → cursor < most → IsAt p
       → Parted IsAt IsBeside i cursor before (with_packet net p.bytes) ps → Parted IsAt IsBeside i cursor before net (p ∷ ps)
   one-more p ps before net has less at rest =
       let P : List (List ℕ) → Type 0 = λ all.
-      EndsSome rest.steps i (disks_with (with_packet net p.bytes) (before ++ map (beside_of i cursor) ps))
-      (disks_with (record { stations = net.stations; packets = all; delivered = net.delivered; postings = net.postings }) (before ++ map (beside_of i cursor) rest.waiting)) in
+      EndsSome rest.steps i (disks_with (with_packet net p.bytes) (before ++ map (staging_of i cursor) ps))
+      (disks_with (record { stations = net.stations; packets = all; delivered = net.delivered; postings = net.postings }) (before ++ map (staging_of i cursor) rest.waiting)) in
       record {
         steps = suc rest.steps;
         named = p ∷ rest.named;
         waiting = rest.waiting;
         ends = (
-          disks_with (with_packet net p.bytes) (before ++ map (beside_of i cursor) ps),
+          disks_with (with_packet net p.bytes) (before ++ map (staging_of i cursor) ps),
           gets-name i cursor most p ps before net has less,
           subst P (append_assoc net.packets (p.bytes ∷ []) (map bytes_of rest.named)) rest.ends,
         );
         at_paths = (at, rest.at_paths);
-        beside_paths = rest.beside_paths;
+        staging_paths = rest.staging_paths;
       }
 
   -- one that waits
-  one-waits : (p : PacketFile) (ps : List PacketFile) (before : List Beside) (net : Net) → IsBeside p
-      → Parted IsAt IsBeside i cursor (before ++ beside_of i cursor p ∷ []) net ps → Parted IsAt IsBeside i cursor before net (p ∷ ps)
-  one-waits p ps before net beside rest =
-      let b = beside_of i cursor p in
+  one-waits : (p : PacketFile) (ps : List PacketFile) (before : List StagingFile) (net : Net) → IsBeside p
+      → Parted IsAt IsBeside i cursor (before ++ staging_of i cursor p ∷ []) net ps → Parted IsAt IsBeside i cursor before net (p ∷ ps)
+  one-waits p ps before net staging rest =
+      let b = staging_of i cursor p in
       let now = with_packets net (map bytes_of rest.named) in
-      let P : List Beside → Type 0 = λ l. EndsSome rest.steps i (disks_with net l) (disks_with now ((before ++ b ∷ []) ++ map (beside_of i cursor) rest.waiting)) in
-      let Q : List Beside → Type 0 = λ l. EndsSome rest.steps i (disks_with net (before ++ b ∷ map (beside_of i cursor) ps)) (disks_with now l) in
+      let P : List StagingFile → Type 0 = λ l. EndsSome rest.steps i (disks_with net l) (disks_with now ((before ++ b ∷ []) ++ map (staging_of i cursor) rest.waiting)) in
+      let Q : List StagingFile → Type 0 = λ l. EndsSome rest.steps i (disks_with net (before ++ b ∷ map (staging_of i cursor) ps)) (disks_with now l) in
       record {
         steps = rest.steps;
         named = rest.named;
         waiting = p ∷ rest.waiting;
-        ends = subst Q (append_assoc before (b ∷ []) (map (beside_of i cursor) rest.waiting)) (subst P (append_assoc before (b ∷ []) (map (beside_of i cursor) ps)) rest.ends);
+        ends = subst Q (append_assoc before (b ∷ []) (map (staging_of i cursor) rest.waiting)) (subst P (append_assoc before (b ∷ []) (map (staging_of i cursor) ps)) rest.ends);
         at_paths = rest.at_paths;
-        beside_paths = (beside, rest.beside_paths);
+        staging_paths = (staging, rest.staging_paths);
       }
 
-  pub parted : (ps : List PacketFile) (before : List Beside) (net : Net) → HasCursor net i most → ((q : PacketFile) → Among q ps → cursor < most)
+  pub parted : (ps : List PacketFile) (before : List StagingFile) (net : Net) → HasCursor net i most → ((q : PacketFile) → Among q ps → cursor < most)
       → AllByRecursion (λ (p : PacketFile). IsAt p ⊎ IsBeside p) ps → Parted IsAt IsBeside i cursor before net ps
   parted [] before net has less all = no-more before net
   parted (p ∷ ps) before net has less (inl at, all) =
       one-more p ps before net has (less p (inl refl)) at (parted ps before (with_packet net p.bytes) has (λ q h. less q (inr h)) all)
-  parted (p ∷ ps) before net has less (inr beside, all) =
-      one-waits p ps before net beside (parted ps (before ++ beside_of i cursor p ∷ []) net has (λ q h. less q (inr h)) all)
+  parted (p ∷ ps) before net has less (inr staging, all) =
+      one-waits p ps before net staging (parted ps (before ++ staging_of i cursor p ∷ []) net has (λ q h. less q (inr h)) all)
 
   -- all of them are at their paths
-  pub all-named : (ps : List PacketFile) (before : List Beside) (net : Net) → HasCursor net i most → ((q : PacketFile) → Among q ps → cursor < most)
+  pub all-named : (ps : List PacketFile) (before : List StagingFile) (net : Net) → HasCursor net i most → ((q : PacketFile) → Among q ps → cursor < most)
       → AllByRecursion IsAt ps → (whole : Parted IsAt IsBeside i cursor before net ps) × (whole.waiting ≡ [])
   all-named [] before net has less all = (no-more before net, refl)
   all-named (p ∷ ps) before net has less (at, all) =

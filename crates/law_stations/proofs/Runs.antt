@@ -15,7 +15,7 @@ use Rattle.cmd_store.specs.MailPosted.{Mails, MailsOn}
 use Rattle.echo_packet.specs.declared.limits.Limits.{Limits}
 use Rattle.cmd_status.specs.declared.fault.Fault.{Fault}
 use Rattle.cmd_status.specs.Devices.{Device, Output}
-use Rattle.cmd_store.specs.declared.stop.Stop.{Stop}
+use Rattle.cmd_store.specs.declared.command_error.CommandError.{CommandError}
 use Rattle.cmd_store.specs.FreeSerial.{PostsAs, PostsAsOn}
 use Rattle.cmd_store.specs.Purged.{HoldsOrPurges, Purges, PurgesOn}
 use Rattle.cmd_store.specs.Replied.{Replies, RepliesOn}
@@ -42,12 +42,12 @@ delivered-so indexes delivered stopped answer behind left is is_left =
 
 module _ (place : Place) (Reads : LinkFile → Type 0) (IsShut Stops : Fault → Type 0) (failed : Type 0) (old new : DiskState) (kept : KeepsElsewhere place old new) (out out_now : Output) where
   -- where a command met a fault
-  pub stays-where-met : {A : Type 0} (IsAnswer : LinkFile → Base → Type 0) (Makes May : LinkFile → Base → Base → Type 0) (result : Result A Stop)
+  pub stays-where-met : {A : Type 0} (IsAnswer : LinkFile → Base → Type 0) (Makes May : LinkFile → Base → Base → Type 0) (result : Result A CommandError)
       → RunsIn IsAnswer Makes May place Reads IsShut Stops failed old new out out_now result → StaysWhereMet place IsShut old new result
   stays-where-met IsAnswer Makes May result runs i d links at =
       stays place links i d old new at kept IsAnswer Makes May Reads IsShut Stops failed result out out_now runs
 
-  pub purge-does : (result : Result (Unit {0}) Stop) → RunsIn (λ file base. PurgesOn base out out_now result) (λ file. Purges) (λ file. HoldsOrPurges) place Reads IsShut Stops failed old new out out_now result
+  pub purge-does : (result : Result (Unit {0}) CommandError) → RunsIn (λ file base. PurgesOn base out out_now result) (λ file. Purges) (λ file. HoldsOrPurges) place Reads IsShut Stops failed old new out out_now result
       → AsMay (λ base. IsPurge) place Reads old new result
   purge-does result runs i d links read at =
       does place links i d old new at kept IsPurge
@@ -55,7 +55,7 @@ module _ (place : Place) (Reads : LinkFile → Type 0) (IsShut Stops : Fault →
       (λ file next says may. holding-or-purging at.shows.station file i d at.shows.there says next may)
       (λ file next says purges. purging at.shows.station file i d at.shows.there says next purges) out out_now runs
 
-  pub post-does : (free : Bool) (words : NewMessage) (body : List ℕ) (result : Result (Unit {0}) Stop)
+  pub post-does : (free : Bool) (words : NewMessage) (body : List ℕ) (result : Result (Unit {0}) CommandError)
       → RunsIn (λ file base. PostsAsOn free words (state_in file base) body out out_now result) (λ file. PostsAs free file words body) (λ file. PostsAs free file words body) place Reads IsShut Stops failed old new out out_now result
       → AsMay (λ base. IsPostAs free words body) place Reads old new result
   post-does free words body result runs i d links read at =
@@ -65,7 +65,7 @@ module _ (place : Place) (Reads : LinkFile → Type 0) (IsShut Stops : Fault →
       (λ file base. PostsAsOn free words (state_in file base) body out out_now result) (λ file. PostsAs free file words body) (λ file. PostsAs free file words body) Reads read IsShut Stops failed result
       (λ file next says posts. inr (leads file next says posts)) leads out out_now runs
 
-  pub reply-does : (index : ℕ) (answer : Answer) (body : List ℕ) (result : Result (Unit {0}) Stop)
+  pub reply-does : (index : ℕ) (answer : Answer) (body : List ℕ) (result : Result (Unit {0}) CommandError)
       → RunsIn (λ file base. RepliesOn (slice_get base.messages index) answer (state_in file base) body out out_now result) (λ file. Replies file index answer body) (λ file. Replies file index answer body)
       place Reads IsShut Stops failed old new out out_now result → AsMay (IsReplyAs index answer body) place Reads old new result
   reply-does index answer body result runs i d links read at =
@@ -75,7 +75,7 @@ module _ (place : Place) (Reads : LinkFile → Type 0) (IsShut Stops : Fault →
       (λ file base. RepliesOn (slice_get base.messages index) answer (state_in file base) body out out_now result) (λ file. Replies file index answer body) (λ file. Replies file index answer body)
       Reads read IsShut Stops failed result (λ file next says replies. inr (leads file next says replies)) leads out out_now runs
 
-  pub mail-does : (letter : Letter) (asked : MailWords) (result : Result (Unit {0}) Stop)
+  pub mail-does : (letter : Letter) (asked : MailWords) (result : Result (Unit {0}) CommandError)
       → RunsIn (λ file base. MailsOn letter asked (state_in file base) out out_now result) (λ file. Mails file letter asked) (λ file. Mails file letter asked) place Reads IsShut Stops failed old new out out_now result
       → AsMay (λ base. IsMail letter asked) place Reads old new result
   mail-does letter asked result runs i d links read at =
@@ -88,7 +88,7 @@ module _ (place : Place) (Reads : LinkFile → Type 0) (IsShut Stops : Fault →
   module _ {R : Type 0} (noting : Bool) (limits : Limits) (device : R → Device)
       (known : (file : LinkFile) (files : List Coming) (base next : Base) → Tosses noting limits device file files base next → TossesAll files file base next)
       (answered : (file : LinkFile) (files left : List Coming) (base next : Base) (answer : Option Fault) → TossesTo noting limits device file base files left out out_now (Ok answer) next
-      → (all : TossesAll files file base next) × (all.stopped ≡ answer) × (all.left ≡ left)) (files left : List Coming) (result : Result (Option Fault) Stop) where
+      → (all : TossesAll files file base next) × (all.stopped ≡ answer) × (all.left ≡ left)) (files left : List Coming) (result : Result (Option Fault) CommandError) where
     -- a toss that was run
     abbrev TossRuns : Type 0
     TossRuns =
@@ -105,9 +105,9 @@ module _ (place : Place) (Reads : LinkFile → Type 0) (IsShut Stops : Fault →
           let says = says-so place links i d old new at kept Reads read run.file run.read in
           let on = run.runs base at.shows.stands in
           let it : IsKept place (TossesTo noting limits device run.file base files left out out_now result) new =
-          subst (λ (r : Result (Option Fault) Stop). OnOk r (IsKept place (TossesTo noting limits device run.file base files left out out_now result) new)) ok on.kept in
+          subst (λ (r : Result (Option Fault) CommandError). OnOk r (IsKept place (TossesTo noting limits device run.file base files left out out_now result) new)) ok on.kept in
           let (all, stopped, behind) =
-          answered run.file files left base it.next answer (subst (λ (r : Result (Option Fault) Stop). TossesTo noting limits device run.file base files left out out_now r it.next) ok it.made) in
+          answered run.file files left base it.next answer (subst (λ (r : Result (Option Fault) CommandError). TossesTo noting limits device run.file base files left out out_now r it.next) ok it.made) in
           record {
             at = is-after place links i d old new at kept (IsToss indexes) it.next (tossing at.shows.station run.file i d at.shows.there says files indexes it.next are all) it.seen it.stands;
             delivered = delivered-so indexes d.net.delivered all.stopped answer all.left left stopped behind;

@@ -12,57 +12,57 @@ use Rattle.disk_atomic.specs.Finishing.{IsOfLeft}
 use Rattle.disk_atomic.specs.declared.finishing.Left.{Left}
 use Rattle.model_run.specs.Run.{nth}
 use Rattle.model_run.proofs.Lists.{none_some, some_same}
-use Rattle.station.specs.Paths.{dotted, path_beside}
+use Rattle.station.specs.Paths.{dotted, staging_path}
 use Rattle.cmd_status.specs.declared.fault.Fault.{Fault}
 use Rattle.cmd_status.specs.Devices.{Output}
 use Rattle.model_steps.specs.PacketFiles.{PacketFile}
 use Rattle.model_steps.specs.declared.stamp.Stamp.{Stamp}
 use Rattle.base_store.specs.Store.{all_scanned}
 use Rattle.cmd_store.specs.Scanned.{ScansOn}
-use Rattle.cmd_store.specs.declared.stop.Stop.{Stop}
-use Rattle.cmd_store.specs.declared.stop.Stop.TheVariants.{Met}
+use Rattle.cmd_store.specs.declared.command_error.CommandError.{CommandError}
+use Rattle.cmd_store.specs.declared.command_error.CommandError.TheVariants.{Met}
 use Rattle.echo_toss.specs.PacketsIn.{state_in}
 use Rattle.station.specs.Place.{KeepsElsewhere, Place, StandsOrWasLeft}
 use Rattle.station.specs.Running.{IsNotRun, IsStopped}
 use Rattle.station_scan.specs.Left.{IsLeftOf}
-use Rattle.station_scan.specs.Publishing.{KeepsBut}
+use Rattle.station_scan.specs.Publishing.{UnchangedExcept}
 use Rattle.station_scan.specs.Scanning.{AreSentOut, IsOnItsWay, IsPutAs, IsPutIn, IsTaken, IsTouched, MayLeave, ScansIn}
-use Rattle.station_scan.specs.Sending.{HasBytes, IsBesidePacket, IsOfPacket, StandsWhole}
+use Rattle.station_scan.specs.Sending.{HasBytes, IsStagingOfPacket, IsOfPacket, StandsWhole}
 use Rattle.station_scan.specs.Sends.{IsOfThese}
 use Rattle.station_scan.specs.Stops.{IsOfPlacing, as_scan, most}
-use Rattle.station_scan.specs.declared.scan_stop.ScanStop.{ScanStop}
-use Rattle.station_scan.specs.declared.scan_stop.ScanStop.TheVariants.{Command}
+use Rattle.station_scan.specs.declared.scan_error.ScanError.{ScanError}
+use Rattle.station_scan.specs.declared.scan_error.ScanError.TheVariants.{Command}
 use Rattle.law_stations.specs.Nets.{Station, bytes_of, with_base, with_left}
 use Rattle.law_stations.proofs.Pairs.{changed-there}
 use Rattle.law_stations.specs.Disks.{Disks, HasCursor, cursor_of}
-use Rattle.law_stations.specs.Stopping.{EndsSome, HasNoneBeside, Moves, beside_of}
+use Rattle.law_stations.specs.Stopping.{EndsSome, HasNoneStaged, Moves, staging_of}
 use Rattle.law_stations.proofs.Elsewhere.{some-stations}
 use Rattle.law_stations.proofs.Moving.{some-waits}
 use Rattle.law_stations.proofs.Parted.{Parted, all-named, parted}
 use Rattle.law_stations.proofs.Whole.{disks_with, with_packets}
 use Rattle.law_stations.specs.OnDisks.{IsLinkedOn, IsStationAt, ReadsLinks, ShowsStation}
-use Rattle.law_stations.specs.Scans.{AreAfterScan, IsAfterScan, IsAtPath, IsBesidePath, ScansAsEvent, ScansAsMay, with_packets_in}
+use Rattle.law_stations.specs.Scans.{AreAfterScan, IsAfterScan, IsAtPath, IsStagingPath, ScansAsEvent, ScansAsMay, with_packets_in}
 
 -- what earlier scans left has none of the paths that are away from all that a scan touches
 left-away : (is_true : Type 0) (Own : List ℕ → Type 0) (outbound own : List ℕ) (found : List Left) → All (IsLeftOf is_true Own outbound own) found → (m : List ℕ) → (IsTouched Own outbound m → ⊥) → IsOfLeft found m → ⊥
 left-away is_true Own outbound own found each m away (l, has, is) = by (All-contains (IsLeftOf is_true Own outbound own) found l each has) is
   where
-    by : IsLeftOf is_true Own outbound own l → ((m ≡ l.beside.now) ⊎ (m ≡ l.path.now)) → ⊥
-    by (name, called, numbered) (inl e) = away (inr (own, (name, called.plain, inl (e ∙ called.beside))))
+    by : IsLeftOf is_true Own outbound own l → ((m ≡ l.staging.now) ⊎ (m ≡ l.path.now)) → ⊥
+    by (name, called, numbered) (inl e) = away (inr (own, (name, called.plain, inl (e ∙ called.staging))))
     by (name, called, numbered) (inr e) = away (inr (own, (name, called.plain, inr (e ∙ called.path))))
 
 -- nor has the path that is tried, nor have the packets of a scan
-tried-away : (Own : List ℕ → Type 0) (outbound own : List ℕ) (m : List ℕ) → (IsTouched Own outbound m → ⊥) → m ≡ path_beside outbound own → ⊥
+tried-away : (Own : List ℕ → Type 0) (outbound own : List ℕ) (m : List ℕ) → (IsTouched Own outbound m → ⊥) → m ≡ staging_path outbound own → ⊥
 tried-away Own outbound own m away is =
-    away (inr (own, ([], λ k d lt. absurd (omega (arith, lt)), inl (is ∙ ap (λ (l : List ℕ). path_beside l own) (sym (append-nil outbound))))))
+    away (inr (own, ([], λ k d lt. absurd (omega (arith, lt)), inl (is ∙ ap (λ (l : List ℕ). staging_path l own) (sym (append-nil outbound))))))
 
 sent-away : (Own : List ℕ → Type 0) (outbound own : List ℕ) (files : List PacketFile) (m : List ℕ) → (IsTouched Own outbound m → ⊥) → IsOfPacket outbound own files m → ⊥
 sent-away Own outbound own files m away (inl (sent, has, plain, is)) = away (inr (own, (sent.name, plain, is)))
 sent-away Own outbound own files m away (inr is) = tried-away Own outbound own m away is
 
-beside-away : (Own : List ℕ → Type 0) (outbound own : List ℕ) (files : List PacketFile) (m : List ℕ) → (IsTouched Own outbound m → ⊥) → IsBesidePacket outbound own files m → ⊥
-beside-away Own outbound own files m away (inl (sent, has, plain, is)) = away (inr (own, (sent.name, plain, inl is)))
-beside-away Own outbound own files m away (inr is) = tried-away Own outbound own m away is
+staging-away : (Own : List ℕ → Type 0) (outbound own : List ℕ) (files : List PacketFile) (m : List ℕ) → (IsTouched Own outbound m → ⊥) → IsStagingOfPacket outbound own files m → ⊥
+staging-away Own outbound own files m away (inl (sent, has, plain, is)) = away (inr (own, (sent.name, plain, inl is)))
+staging-away Own outbound own files m away (inr is) = tried-away Own outbound own m away is
 
 these-away : (Own : List ℕ → Type 0) (outbound own : List ℕ) (files : List PacketFile) (m : List ℕ) → (IsTouched Own outbound m → ⊥) → IsOfThese Own outbound own files m → ⊥
 these-away Own outbound own files m away these = ⊎_elim (λ (of : Own m). away (inl of)) (λ (of : IsOfPacket outbound own files m). sent-away Own outbound own files m away of) these
@@ -74,7 +74,7 @@ cursor-at (s ∷ stations) zero station there = ap (λ (t : Station). Some t.bas
 cursor-at (s ∷ stations) (suc i) station there = cursor-at stations i station there
 
 module _ (stamp : Stamp) (place : Place) (links outbound : List ℕ) (i : ℕ) (d : Disks) (n : ℕ) (ended : Disks) (old new : DiskState) (at : IsStationAt place links i old d)
-    (kept : KeepsBut (IsTouched place.is_own outbound) old new) (away : IsTouched place.is_own outbound links → ⊥) (ends : EndsSome n i d ended) (none : HasNoneBeside i ended.beside) where
+    (kept : UnchangedExcept (IsTouched place.is_own outbound) old new) (away : IsTouched place.is_own outbound links → ⊥) (ends : EndsSome n i d ended) (none : HasNoneStaged i ended.staging) where
   abbrev base : Base
   base = at.shows.station.base
 
@@ -119,7 +119,7 @@ module _ (stamp : Stamp) (place : Place) (links outbound : List ℕ) (i : ℕ) (
 
     -- the base is committed, and its packets wait
     abbrev moved : Disks
-    moved = disks_with (with_left ended.net i [] next) (ended.beside ++ map (beside_of i base.cursor) files)
+    moved = disks_with (with_left ended.net i [] next) (ended.staging ++ map (staging_of i base.cursor) files)
 
     -- the station is on the disks where what stopped scans left is at its end
     there : nth i ended.net.stations ≡ Some at.shows.station
@@ -150,9 +150,9 @@ module _ (stamp : Stamp) (place : Place) (links outbound : List ℕ) (i : ℕ) (
 
     -- files after it, some of its packets at their paths
     abbrev after : (c : Files) → c links ≡ old.seen links → All HasBytes files → place.stands_for next c
-        → Parted (IsAtPath outbound c) (IsBesidePath outbound own c) i base.cursor ended.beside (with_left ended.net i [] next) files → AreAfterScan stamp place links outbound i d ended base c
+        → Parted (IsAtPath outbound c) (IsStagingPath outbound own c) i base.cursor ended.staging (with_left ended.net i [] next) files → AreAfterScan stamp place links outbound i d ended base c
     after c linked bytes stands p =
-        let now = disks_with (with_packets moved.net (map bytes_of p.named)) (ended.beside ++ map (beside_of i base.cursor) p.waiting) in
+        let now = disks_with (with_packets moved.net (map bytes_of p.named)) (ended.staging ++ map (staging_of i base.cursor) p.waiting) in
         record {
           after = now;
           leads = (n, ended, ends, inr (inr (p.steps, moved, moves bytes, p.ends)));
@@ -164,20 +164,20 @@ module _ (stamp : Stamp) (place : Place) (links outbound : List ℕ) (i : ℕ) (
           got_names = ap (λ (l : List (List ℕ)). l ++ map bytes_of p.named) (append-nil ended.net.packets);
           wait = refl;
           at_paths = p.at_paths;
-          beside_paths = p.beside_paths;
+          staging_paths = p.staging_paths;
         }
 
-    module _ (IsTrue : Files → Type 0) (failed : Type 0) (result : Result (Unit {0}) ScanStop) (put : IsPutIn place outbound own IsTrue failed old new base files result) where
+    module _ (IsTrue : Files → Type 0) (failed : Type 0) (result : Result (Unit {0}) ScanError) (put : IsPutIn place outbound own IsTrue failed old new base files result) where
       -- files on the way
       way-away : (c : Files) → IsOnItsWay place outbound own old base put.found files put.opened c → SameAway c
       way-away c (inl (before, opens, prepares)) m off named flushed =
-          prepares.writes m (beside-away place.is_own outbound own files m off)
+          prepares.writes m (staging-away place.is_own outbound own files m off)
           ∙ prepares.ends.others m (left-away (IsTrue put.opened) place.is_own outbound own put.found put.each m off)
           ∙ opened-away before opens m off named flushed
       way-away c (inr commits) m off named flushed =
           let off_left = left-away (IsTrue put.opened) place.is_own outbound own put.found put.each m off in
           commits.others m (these-away place.is_own outbound own files m off) (inl ((named, flushed), off_left))
-          ∙ commits.beside_them m off_left
+          ∙ commits.staging_them m off_left
           ∙ put.elsewhere m (λ of. off (inl of))
 
       on-way : (c : Files) → IsOnItsWay place outbound own old base put.found files put.opened c → ShowsStation place links i c d ⊎ AreAfterScan stamp place links outbound i d ended base c
@@ -189,7 +189,7 @@ module _ (stamp : Stamp) (place : Place) (links outbound : List ℕ) (i : ℕ) (
             | inr comes ↦
                 inr
                 (after c linked comes.2 comes.0
-                (parted (IsAtPath outbound c) (IsBesidePath outbound own c) i base.cursor (length base.messages) files ended.beside (with_left ended.net i [] next) now-has
+                (parted (IsAtPath outbound c) (IsStagingPath outbound own c) i base.cursor (length base.messages) files ended.staging (with_left ended.net i [] next) now-has
                 (some-waits file base.messages base.cursor stamp files answers.right.packets) (recursion_from_All (StandsWhole outbound own c) files comes.1)))
           ]
 
@@ -206,7 +206,7 @@ module _ (stamp : Stamp) (place : Place) (links outbound : List ℕ) (i : ℕ) (
         abbrev after-all : (c : Files) → c links ≡ old.seen links → place.stands_for next c → AllByRecursion (IsAtPath outbound c) files
             → (scan : AreAfterScan stamp place links outbound i d ended base c) × (scan.waiting ≡ [])
         after-all c linked stands all =
-            let (p, no_more) = all-named (IsAtPath outbound c) (IsBesidePath outbound own c) i base.cursor (length base.messages) files ended.beside
+            let (p, no_more) = all-named (IsAtPath outbound c) (IsStagingPath outbound own c) i base.cursor (length base.messages) files ended.staging
             (with_left ended.net i [] next) now-has (some-waits file base.messages base.cursor stamp files answers.right.packets) all in
             (after c linked sent.bytes stands p, no_more)
 
@@ -228,10 +228,10 @@ module _ (stamp : Stamp) (place : Place) (links outbound : List ℕ) (i : ℕ) (
 
       -- no fault of the command is answered
       placed : (fault : Fault) → result ≡ Err (Command (Met fault)) → ⊥
-      placed fault is = subst (λ (r : Result (Unit {0}) ScanStop). IfErr r (IsOfPlacing failed (IsTaken place.is_own outbound own base.cursor put.found files put.opened) (most < base.cursor))) is put.why
+      placed fault is = subst (λ (r : Result (Unit {0}) ScanError). IfErr r (IsOfPlacing failed (IsTaken place.is_own outbound own base.cursor put.found files put.opened) (most < base.cursor))) is put.why
 
       sent-out : result ≡ Ok tt → AreSentOut (IsTrue put.opened) place.is_own outbound own (place.stands_for next) base.cursor put.found files put.opened new
-      sent-out ok = subst (λ (r : Result (Unit {0}) ScanStop). OnOk r (AreSentOut (IsTrue put.opened) place.is_own outbound own (place.stands_for next) base.cursor put.found files put.opened new)) ok put.sent
+      sent-out ok = subst (λ (r : Result (Unit {0}) ScanError). OnOk r (AreSentOut (IsTrue put.opened) place.is_own outbound own (place.stands_for next) base.cursor put.found files put.opened new)) ok put.sent
 
       put-so : ScansAsEvent stamp place links outbound i d ended base old new result
       put-so = record {
@@ -246,10 +246,10 @@ module _ (stamp : Stamp) (place : Place) (links outbound : List ℕ) (i : ℕ) (
       }
 
   -- where it stopped before
-  abbrev Lasts : Result (Unit {0}) ScanStop → Type 0
+  abbrev Lasts : Result (Unit {0}) ScanError → Type 0
   Lasts result = ((fault : Fault) → result ≡ Err (Command (Met fault)) → ⊥) → (c : Files) → new.may_leave c → ShowsStation place links i c d ⊎ AreAfterScan stamp place links outbound i d ended base c
 
-  stopped-so : (result : Result (Unit {0}) ScanStop) (why : ScanStop) → result ≡ Err why → LeavesOnly old new (StandsOrWasLeft place old base) → Lasts result
+  stopped-so : (result : Result (Unit {0}) ScanError) (why : ScanError) → result ≡ Err why → LeavesOnly old new (StandsOrWasLeft place old base) → Lasts result
       → ScansAsEvent stamp place links outbound i d ended base old new result
   stopped-so result why is leaves lasts = record {
     crash = λ c since. ⊎_elim (λ was. inl was) (λ shows. inr (inl shows)) (was-left c (leaves.each c since));
@@ -262,20 +262,20 @@ module _ (stamp : Stamp) (place : Place) (links outbound : List ℕ) (i : ℕ) (
     elsewhere = record { crash = λ c since. inr (opened-away c (leaves.each c since)); keeps = keeps-elsewhere };
   }
 
-  made-so : (file : LinkFile) → LinksOf at.shows.station.links (Ok file) → (out out_now : Output) (IsTrue : Files → Type 0) (failed : Type 0) (result : Result (Unit {0}) ScanStop) (made : Result (List PacketFile) Stop)
+  made-so : (file : LinkFile) → LinksOf at.shows.station.links (Ok file) → (out out_now : Output) (IsTrue : Files → Type 0) (failed : Type 0) (result : Result (Unit {0}) ScanError) (made : Result (List PacketFile) CommandError)
       → ScansOn stamp (state_in file base) out out_now made → IsPutAs place outbound (dotted file.system) IsTrue failed old new base made result → ScansAsEvent stamp place links outbound i d ended base old new result
   made-so file says out out_now IsTrue failed result (Ok files) answers put = put-so file says files out out_now answers IsTrue failed result put
   made-so file says out out_now IsTrue failed result (Err why) answers put = stopped-so result (Command why) put.0 put.1.crash (λ met c left. inl (as-it-was c (left-links c left) (put.1.stands c left)))
 
   -- where it was not run
-  not-run : (IsShut Stops : Fault → Type 0) (out out_now : Output) (result : Result (Unit {0}) ScanStop) (stopped : Result (Unit {0}) Stop) → result ≡ as_scan stopped
+  not-run : (IsShut Stops : Fault → Type 0) (out out_now : Output) (result : Result (Unit {0}) ScanError) (stopped : Result (Unit {0}) CommandError) → result ≡ as_scan stopped
       → IsNotRun place IsShut old new out out_now stopped ⊎ IsStopped place Stops old new out out_now stopped → ScansAsEvent stamp place links outbound i d ended base old new result
   not-run IsShut Stops out out_now result stopped is (inl shut) =
       let shut_by = is ∙ ap as_scan shut.is in stopped-so result (Command (Met shut.fault)) shut_by (shut.crash base at.shows.stands) (λ met. absurd (met shut.fault shut_by))
   not-run IsShut Stops out out_now result stopped is (inr by) =
       let stopped_by = is ∙ ap as_scan by.is in stopped-so result (Command (Met by.fault)) stopped_by (by.stands base at.shows.stands).crash (λ met. absurd (met by.fault stopped_by))
 
-  ran : (Reads : LinkFile → Type 0) (IsShut Stops : Fault → Type 0) (out out_now : Output) (IsTrue : Files → Type 0) (failed : Type 0) (result : Result (Unit {0}) ScanStop) → ReadsLinks Reads links old
+  ran : (Reads : LinkFile → Type 0) (IsShut Stops : Fault → Type 0) (out out_now : Output) (IsTrue : Files → Type 0) (failed : Type 0) (result : Result (Unit {0}) ScanError) → ReadsLinks Reads links old
       → ScansIn stamp place outbound IsTrue Reads IsShut Stops failed old new out out_now result → ScansAsEvent stamp place links outbound i d ended base old new result
   ran Reads IsShut Stops out out_now IsTrue failed result read (inl run) =
       let on = run.runs base at.shows.stands in
@@ -283,7 +283,7 @@ module _ (stamp : Stamp) (place : Place) (links outbound : List ℕ) (i : ℕ) (
       made-so run.file (subst (λ (b : List ℕ). LinksOf b (Ok run.file)) (some_same (sym of_links.seen ∙ at.shows.of_links)) of_links.judged) out out_now IsTrue failed result on.made on.answer on.put
   ran Reads IsShut Stops out out_now IsTrue failed result read (inr not) = not-run IsShut Stops out out_now result not.stopped not.is not.not_run
 
-pub scan-does : (stamp : Stamp) (place : Place) (outbound : List ℕ) (IsTrue : Files → Type 0) (Reads : LinkFile → Type 0) (IsShut Stops : Fault → Type 0) (failed : Type 0) (old new : DiskState) (out out_now : Output) (result : Result (Unit {0}) ScanStop)
-    → KeepsBut (IsTouched place.is_own outbound) old new → ScansIn stamp place outbound IsTrue Reads IsShut Stops failed old new out out_now result → ScansAsMay stamp place outbound Reads old new result
+pub scan-does : (stamp : Stamp) (place : Place) (outbound : List ℕ) (IsTrue : Files → Type 0) (Reads : LinkFile → Type 0) (IsShut Stops : Fault → Type 0) (failed : Type 0) (old new : DiskState) (out out_now : Output) (result : Result (Unit {0}) ScanError)
+    → UnchangedExcept (IsTouched place.is_own outbound) old new → ScansIn stamp place outbound IsTrue Reads IsShut Stops failed old new out out_now result → ScansAsMay stamp place outbound Reads old new result
 scan-does stamp place outbound IsTrue Reads IsShut Stops failed old new out out_now result kept scans links i d n ended read away at ends none =
     ran stamp place links outbound i d n ended old new at kept away ends none Reads IsShut Stops out out_now IsTrue failed result read scans

@@ -7,20 +7,20 @@ use Rattle.cmd_status.specs.declared.fault.Fault.{Fault}
 use Rattle.cmd_status.specs.Devices.{Output}
 use Rattle.model_steps.specs.PacketFiles.{PacketFile}
 use Rattle.model_steps.specs.declared.stamp.Stamp.{Stamp}
-use Rattle.cmd_store.specs.declared.stop.Stop.{Stop}
-use Rattle.cmd_store.specs.declared.stop.Stop.TheVariants.{Met}
+use Rattle.cmd_store.specs.declared.command_error.CommandError.{CommandError}
+use Rattle.cmd_store.specs.declared.command_error.CommandError.TheVariants.{Met}
 use Rattle.station.specs.Place.{Place}
 use Rattle.station.specs.Running.{IsNotRun, IsStopped, StandsAsBefore}
-use Rattle.station_scan.specs.Publishing.{KeepsBut}
+use Rattle.station_scan.specs.Publishing.{UnchangedExcept}
 use Rattle.station_scan.specs.Scanning.{IsPutAs, IsTaken, IsTouched, ScansIn}
 use Rattle.station_scan.specs.Stops.{IsOfPlacing, as_scan, most}
-use Rattle.station_scan.specs.declared.scan_stop.ScanStop.{ScanStop}
-use Rattle.station_scan.specs.declared.scan_stop.ScanStop.TheVariants.{Command}
+use Rattle.station_scan.specs.declared.scan_error.ScanError.{ScanError}
+use Rattle.station_scan.specs.declared.scan_error.ScanError.TheVariants.{Command}
 use Rattle.law_stations.specs.Disks.{Disks}
 use Rattle.law_stations.specs.OnDisks.{IsAsBefore, IsLinkedOn, IsStationAt, ShowsStation}
 use Rattle.law_stations.specs.Scans.{StaysWhereScanMet}
 
-module _ (place : Place) (outbound links : List ℕ) (i : ℕ) (d : Disks) (old new : DiskState) (at : IsStationAt place links i old d) (kept : KeepsBut (IsTouched place.is_own outbound) old new)
+module _ (place : Place) (outbound links : List ℕ) (i : ℕ) (d : Disks) (old new : DiskState) (at : IsStationAt place links i old d) (kept : UnchangedExcept (IsTouched place.is_own outbound) old new)
     (away : IsTouched place.is_own outbound links → ⊥) where
   linked : IsLinkedOn links new
   linked = record { named = kept.named links away at.linked.named; flushed = kept.flushed links away at.linked.flushed }
@@ -34,20 +34,20 @@ module _ (place : Place) (outbound links : List ℕ) (i : ℕ) (d : Disks) (old 
     on_disk = λ c left. shows c (new.on_disk links linked.named linked.flushed c left ∙ kept.seen links away) (it.stands c left);
   }
 
-  module _ (IsTrue : Files → Type 0) (IsShut Stops : Fault → Type 0) (failed : Type 0) (result : Result (Unit {0}) ScanStop) (fault : Fault) (is : result ≡ Err (Command (Met fault))) where
+  module _ (IsTrue : Files → Type 0) (IsShut Stops : Fault → Type 0) (failed : Type 0) (result : Result (Unit {0}) ScanError) (fault : Fault) (is : result ≡ Err (Command (Met fault))) where
     -- no placing meets a fault
-    put-so : (own : List ℕ) (made : Result (List PacketFile) Stop) → IsPutAs place outbound own IsTrue failed old new at.shows.station.base made result → StandsAsBefore place old new at.shows.station.base
-    put-so own (Ok files) put = absurd (subst (λ (r : Result (Unit {0}) ScanStop). IfErr r (IsOfPlacing failed (IsTaken place.is_own outbound own at.shows.station.base.cursor put.found files put.opened) (most < at.shows.station.base.cursor))) is put.why)
+    put-so : (own : List ℕ) (made : Result (List PacketFile) CommandError) → IsPutAs place outbound own IsTrue failed old new at.shows.station.base made result → StandsAsBefore place old new at.shows.station.base
+    put-so own (Ok files) put = absurd (subst (λ (r : Result (Unit {0}) ScanError). IfErr r (IsOfPlacing failed (IsTaken place.is_own outbound own at.shows.station.base.cursor put.found files put.opened) (most < at.shows.station.base.cursor))) is put.why)
     put-so own (Err why) put = put.1
 
-    abbrev is-shut-by : ScanStop → Type 0
+    abbrev is-shut-by : ScanError → Type 0
     is-shut-by (Command (Met why)) = IsShut why
     is-shut-by other = Unit {0}
 
-    not-run : (out out_now : Output) (stopped : Result (Unit {0}) Stop) → result ≡ as_scan stopped → IsNotRun place IsShut old new out out_now stopped ⊎ IsStopped place Stops old new out out_now stopped
+    not-run : (out out_now : Output) (stopped : Result (Unit {0}) CommandError) → result ≡ as_scan stopped → IsNotRun place IsShut old new out out_now stopped ⊎ IsStopped place Stops old new out out_now stopped
         → IsAsBefore place links i d new ⊎ IsShut fault
     not-run out out_now stopped one (inl shut) =
-        inr (subst (λ (r : Result (Unit {0}) ScanStop). IfErr r is-shut-by) (sym (one ∙ ap as_scan shut.is) ∙ is) shut.cause)
+        inr (subst (λ (r : Result (Unit {0}) ScanError). IfErr r is-shut-by) (sym (one ∙ ap as_scan shut.is) ∙ is) shut.cause)
     not-run out out_now stopped one (inr by) = inl (as-before (by.stands at.shows.station.base at.shows.stands))
 
     stays : (stamp : Stamp) (Reads : LinkFile → Type 0) (out out_now : Output) → ScansIn stamp place outbound IsTrue Reads IsShut Stops failed old new out out_now result → IsAsBefore place links i d new ⊎ IsShut fault
@@ -55,7 +55,7 @@ module _ (place : Place) (outbound links : List ℕ) (i : ℕ) (d : Disks) (old 
         let on = run.runs at.shows.station.base at.shows.stands in inl (as-before (put-so _ on.made on.put))
     stays stamp Reads out out_now (inr not) = not-run out out_now not.stopped not.is not.not_run
 
-pub scan-stays : (stamp : Stamp) (place : Place) (outbound : List ℕ) (IsTrue : Files → Type 0) (Reads : LinkFile → Type 0) (IsShut Stops : Fault → Type 0) (failed : Type 0) (old new : DiskState) (out out_now : Output) (result : Result (Unit {0}) ScanStop)
-    → KeepsBut (IsTouched place.is_own outbound) old new → ScansIn stamp place outbound IsTrue Reads IsShut Stops failed old new out out_now result → StaysWhereScanMet place outbound IsShut old new result
+pub scan-stays : (stamp : Stamp) (place : Place) (outbound : List ℕ) (IsTrue : Files → Type 0) (Reads : LinkFile → Type 0) (IsShut Stops : Fault → Type 0) (failed : Type 0) (old new : DiskState) (out out_now : Output) (result : Result (Unit {0}) ScanError)
+    → UnchangedExcept (IsTouched place.is_own outbound) old new → ScansIn stamp place outbound IsTrue Reads IsShut Stops failed old new out out_now result → StaysWhereScanMet place outbound IsShut old new result
 scan-stays stamp place outbound IsTrue Reads IsShut Stops failed old new out out_now result kept scans links i d away at fault is =
     stays place outbound links i d old new at kept away IsTrue IsShut Stops failed result fault is stamp Reads out out_now scans

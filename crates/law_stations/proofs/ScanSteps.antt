@@ -6,7 +6,7 @@ use Rattle.disk_io.specs.Disk.{DiskState, Files}
 use Rattle.model_steps.specs.declared.stamp.Stamp.{Stamp}
 use Rattle.station.specs.Place.{Place}
 use Rattle.station_scan.specs.Scanning.{IsTouched}
-use Rattle.station_scan.specs.declared.scan_stop.ScanStop.{ScanStop}
+use Rattle.station_scan.specs.declared.scan_error.ScanError.{ScanError}
 use Rattle.law_stations.specs.Commands.{Scan}
 use Rattle.law_stations.specs.Disks.{Disks}
 use Rattle.law_stations.specs.OnDisks.{LeavesElsewhere, ShowsStation}
@@ -20,14 +20,14 @@ use Rattle.law_stations.proofs.GoingOn.{reaches-by}
 -- what a scan touches is the base or in the folder of packets
 touched : {Kept : Type 0} (place : Kept → Place) (seat : Seat Kept) (m : List ℕ) → IsTouched (place seat.kept).is_own seat.outbound m → (reach place seat).is_own m
 touched place seat m (inl own) = inl own
-touched place seat m (inr (own, (name, plain, inl beside))) = inr (record {
+touched place seat m (inr (own, (name, plain, inl staging))) = inr (record {
   rest = name ++ (codes ".~" ++ (own ++ codes "~.new"));
-  parts = beside ∙ append_assoc seat.outbound name (codes ".~" ++ (own ++ codes "~.new"));
+  parts = staging ∙ append_assoc seat.outbound name (codes ".~" ++ (own ++ codes "~.new"));
 })
 touched place seat m (inr (own, (name, plain, inr path))) = inr (record { rest = name; parts = path })
 
 module _ {D Kept : Type 0} (state : D → DiskState) (place : Kept → Place) (seats : List (Seat Kept)) (seat : Seat Kept) (i : ℕ) (stamp : Stamp) (d ended : Disks) (base : Base) (old whole : D)
-    (result : Result (Unit {0}) ScanStop) (does : ScansAsEvent stamp (place seat.kept) seat.links seat.outbound i d ended base (state old) (state whole) result)
+    (result : Result (Unit {0}) ScanError) (does : ScansAsEvent stamp (place seat.kept) seat.links seat.outbound i d ended base (state old) (state whole) result)
     (on_disk : (c : Files) → (state old).may_leave c → ShowsStation (place seat.kept) seat.links i c d) where
   elsewhere : LeavesElsewhere (reach place seat) (state old) (state whole)
   elsewhere = reaches-by (with_packets_in seat.outbound (place seat.kept)) (reach place seat) (state old) (state whole) (touched place seat) does.elsewhere

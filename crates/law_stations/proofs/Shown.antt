@@ -140,7 +140,7 @@ module _ (commands plain : List CommandEvent) (d : Disks) (net : Net) (like : Pa
         | inr waits ↦ (
             let (file, stands, same) = waits in
             let P : List ℕ → Type 0 = λ b. ReadsAs b p in
-            absurd (is.beside file p stands (subst P (sym same) reads) m in_it tagged))
+            absurd (is.staging file p stands (subst P (sym same) reads) m in_it tagged))
       ];
     }
 

@@ -4,12 +4,12 @@ use Rattle.model_graph.specs.Walk.{Among}
 use Rattle.model_run.specs.Run.{nth}
 use Rattle.model_run.proofs.Lists.{none_some, some_same}
 use Rattle.law_stations.specs.Nets.{Net, Paired, Station}
-use Rattle.law_stations.specs.Disks.{Beside, Disks, HasCursor, cursor_of, cursors}
+use Rattle.law_stations.specs.Disks.{StagingFile, Disks, HasCursor, cursor_of, cursors}
 use Rattle.law_stations.proofs.Counting.{IsItem, below, times, waits}
 
 -- A file beside a name, and the index of the packet that waits in it for its name. One that is none of these has its name, or
 -- is of a scan that did not come to move the cursor.
-abbrev pub IsTagged : List (List ℕ) → List ℕ → Beside → Option ℕ → Type 0
+abbrev pub IsTagged : List (List ℕ) → List ℕ → StagingFile → Option ℕ → Type 0
 IsTagged packets at file None = (file.named ≡ true) ⊎ ((c : ℕ) → nth file.station at ≡ Some c → c ≤ file.number)
 IsTagged packets at file (Some k) = (nth k packets ≡ Some file.bytes) × (file.named ≡ false) × ((c : ℕ) × (nth file.station at ≡ Some c) × (file.number < c))
 
@@ -24,7 +24,7 @@ pub record Tracks (d : Disks) (net : Net) : Type 0 where
   pub places : List ℕ
   pub named : Paired (IsItem net.packets) d.net.packets places
   pub tags : List (Option ℕ)
-  pub beside : Paired (IsTagged net.packets (cursors net)) d.beside tags
+  pub staging : Paired (IsTagged net.packets (cursors net)) d.staging tags
   pub each : (k : ℕ) → times k places + waits k tags ≡ below k (length net.packets)
   pub tossed : (j : ℕ) → Among j d.net.delivered → IsTossedAt places net.delivered j
 
@@ -77,9 +77,9 @@ paired-so R S (x ∷ xs) (y ∷ ys) so p = (so x y (inl refl) p.0, paired-so R S
 
 -- Where a command leaves packets, files beside names and cursors as they were, disks and net still go with each other.
 pub still : (d new : Disks) (net then : Net) → (t : Tracks d net)
-    → new.net.stations ≡ then.stations → new.net.postings ≡ then.postings → new.net.packets ≡ d.net.packets → then.packets ≡ net.packets → new.beside ≡ d.beside
+    → new.net.stations ≡ then.stations → new.net.postings ≡ then.postings → new.net.packets ≡ d.net.packets → then.packets ≡ net.packets → new.staging ≡ d.staging
     → cursors then ≡ cursors net → ((j : ℕ) → Among j new.net.delivered → IsTossedAt t.places then.delivered j) → Tracks new then
-still d new net then t stations postings named packets beside at tossed = record {
+still d new net then t stations postings named packets staging at tossed = record {
   stations = stations;
   postings = postings;
   places = t.places;
@@ -88,11 +88,11 @@ still d new net then t stations postings named packets beside at tossed = record
       let Q : List (List ℕ) → Type 0 = λ ps. Paired (IsItem net.packets) ps t.places in
       subst P (sym packets) (subst Q (sym named) t.named);
   tags = t.tags;
-  beside =
-      let P : List (List ℕ) → Type 0 = λ ps. Paired (IsTagged ps (cursors then)) new.beside t.tags in
-      let Q : List ℕ → Type 0 = λ cs. Paired (IsTagged net.packets cs) new.beside t.tags in
-      let S : List Beside → Type 0 = λ fs. Paired (IsTagged net.packets (cursors net)) fs t.tags in
-      subst P (sym packets) (subst Q (sym at) (subst S (sym beside) t.beside));
+  staging =
+      let P : List (List ℕ) → Type 0 = λ ps. Paired (IsTagged ps (cursors then)) new.staging t.tags in
+      let Q : List ℕ → Type 0 = λ cs. Paired (IsTagged net.packets cs) new.staging t.tags in
+      let S : List StagingFile → Type 0 = λ fs. Paired (IsTagged net.packets (cursors net)) fs t.tags in
+      subst P (sym packets) (subst Q (sym at) (subst S (sym staging) t.staging));
   each = λ k. t.each k ∙ ap (λ (ps : List (List ℕ)). below k (length ps)) (sym packets);
   tossed = tossed;
 }

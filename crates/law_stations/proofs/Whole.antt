@@ -7,9 +7,9 @@ use Rattle.model_steps.specs.PacketFiles.{PacketFile}
 use Rattle.base_store.specs.Store.{all_scanned}
 use Rattle.law_stations.specs.Commands.{Command, CommandEvent, Happen, Leads, Post, Purge, Scan, Scans, Toss, Tosses}
 use Rattle.law_stations.specs.Nets.{Net, bytes_of, first_net, with_left}
-use Rattle.law_stations.specs.Disks.{Beside, Disks, HasCursor, with_packet}
+use Rattle.law_stations.specs.Disks.{StagingFile, Disks, HasCursor, with_packet}
 use Rattle.law_stations.specs.OverCrashes.{WholeAreAmong, disks_of}
-use Rattle.law_stations.specs.Stopping.{EndsOne, EndsSome, LeadsFar, MayHappen, MayHappenAll, Moves, ScansFar, beside_of}
+use Rattle.law_stations.specs.Stopping.{EndsOne, EndsSome, PartialEffect, MayHappen, MayHappenAll, Moves, ScansFar, staging_of}
 use Rattle.law_stations.proofs.Moving.{now-cursor, scans-less}
 use Rattle.law_stations.proofs.Tracking.{has-cursor}
 
@@ -18,16 +18,16 @@ abbrev pub with_packets : Net → List (List ℕ) → Net
 with_packets net more = record { stations = net.stations; packets = net.packets ++ more; delivered = net.delivered; postings = net.postings }
 
 -- these disks
-abbrev pub disks_with : Net → List Beside → Disks
-disks_with net beside = record { net = net; beside = beside }
+abbrev pub disks_with : Net → List StagingFile → Disks
+disks_with net staging = record { net = net; staging = staging }
 
 -- a packet that waits behind other files gets its name
-pub gets-name : (i c most : ℕ) (p : PacketFile) (ps : List PacketFile) (before : List Beside) (net : Net) → HasCursor net i most → c < most
-    → EndsOne i (disks_with net (before ++ map (beside_of i c) (p ∷ ps))) (disks_with (with_packet net p.bytes) (before ++ map (beside_of i c) ps))
+pub gets-name : (i c most : ℕ) (p : PacketFile) (ps : List PacketFile) (before : List StagingFile) (net : Net) → HasCursor net i most → c < most
+    → EndsOne i (disks_with net (before ++ map (staging_of i c) (p ∷ ps))) (disks_with (with_packet net p.bytes) (before ++ map (staging_of i c) ps))
 gets-name i c most p ps before net has less = record {
   before = before;
-  file = beside_of i c p;
-  after = map (beside_of i c) ps;
+  file = staging_of i c p;
+  after = map (staging_of i c) ps;
   stood = refl;
   own = refl;
   cursor = most;
@@ -39,7 +39,7 @@ gets-name i c most p ps before net has less = record {
 
 -- all get their names, one after another
 all-named : (i c most : ℕ) (ps : List PacketFile) (net : Net) → HasCursor net i most → ((q : PacketFile) → Among q ps → c < most)
-    → EndsSome (length ps) i (disks_with net (map (beside_of i c) ps)) (disks_of (with_packets net (map bytes_of ps)))
+    → EndsSome (length ps) i (disks_with net (map (staging_of i c) ps)) (disks_of (with_packets net (map bytes_of ps)))
 all-named i c most [] net has less = λ j. disks_of (record {
   stations = net.stations;
   packets = append-nil net.packets j;
@@ -50,9 +50,9 @@ all-named i c most (p ∷ ps) net has less =
     let then = with_packet net p.bytes in
     let rest = all-named i c most ps then has (λ q h. less q (inr h)) in
     let P : List (List ℕ) → Type 0 = λ all.
-    EndsSome (length ps) i (disks_with then (map (beside_of i c) ps))
+    EndsSome (length ps) i (disks_with then (map (staging_of i c) ps))
     (disks_of (record { stations = net.stations; packets = all; delivered = net.delivered; postings = net.postings })) in (
-      disks_with then (map (beside_of i c) ps),
+      disks_with then (map (staging_of i c) ps),
       gets-name i c most p ps [] net has (less p (inl refl)),
       subst P (append_assoc net.packets (p.bytes ∷ []) (map bytes_of ps)) rest,
     )
@@ -65,7 +65,7 @@ scan-far stamp i net new scans =
     let packets = scans.packets in
     let next = all_scanned station.base in
     let base = with_left net i [] next in
-    let done = disks_with base (map (beside_of i c) packets) in
+    let done = disks_with base (map (staging_of i c) packets) in
     let moved : Moves stamp i (disks_of net) done =
     record { none = λ file h. absurd h; cursor = c; is_cursor = has-cursor net i station scans.at.there; scanned = new; scans = scans; becomes = refl } in
     let names = all-named i c next.cursor packets base (now-cursor net i station next [] scans.at.there) (scans-less stamp net new i scans) in
@@ -78,7 +78,7 @@ scan-far stamp i net new scans =
     let P : Net → Type 0 = λ n. EndsSome (length packets) i done (disks_of n) in
     (0, disks_of net, refl, inr (inr (length packets, done, moved, subst P same names)))
 
-led-far : (command : Command) (i : ℕ) (net new : Net) → Leads command net i new → LeadsFar command (disks_of net) i (disks_of new)
+led-far : (command : Command) (i : ℕ) (net new : Net) → Leads command net i new → PartialEffect command (disks_of net) i (disks_of new)
 led-far (Post words body) i net new leads = (leads, refl)
 led-far (Scan stamp) i net new leads = scan-far stamp i net new leads
 led-far Purge i net new leads = (leads, refl)

@@ -7,14 +7,14 @@ use Rattle.disk_io.specs.Disk.{DiskState}
 use Rattle.cmd_store.specs.declared.letter.Letter.{Letter}
 use Rattle.cmd_store.specs.declared.mailed.MailWords.{MailWords}
 use Rattle.cmd_status.specs.declared.fault.Fault.{Fault}
-use Rattle.cmd_store.specs.declared.stop.Stop.{Stop}
+use Rattle.cmd_store.specs.declared.command_error.CommandError.{CommandError}
 use Rattle.station.specs.Place.{Place}
 use Rattle.law_stations.specs.Commands.{Command}
 use Rattle.law_stations.specs.Kinds.{IsPurge, IsToss}
 use Rattle.law_stations.specs.Disks.{Disks}
 use Rattle.law_stations.specs.DiskKinds.{IsMail, IsPostAs, IsReplyAs}
 use Rattle.law_stations.specs.Neighbours.{IsKeptOn}
-use Rattle.law_stations.specs.OnDisks.{DoesAsMay, IsAsBefore}
+use Rattle.law_stations.specs.OnDisks.{RefinesEvent, IsAsBefore}
 use Rattle.law_stations.specs.Seats.{IsShared, Seat, StandsAt}
 use Rattle.law_stations.specs.Steps.{HasEnded, IsAllOnDisk, WasCut}
 
@@ -64,7 +64,7 @@ IsKeptWhereShared place seats seat i disk = IsShared seats i seat → (base : Ba
 
 -- Whatever crash cuts a command at a station, and where it ends well, the net goes on by a command event that it may be. Where the station
 -- is as before it, as after a fault that it met, the net goes on by none.
-pub record CommandGoesOn {D Kept : Type 0} (state : D → DiskState) (place : Kept → Place) (seats : List (Seat Kept)) (seat : Seat Kept) (i : ℕ) (asked : Asked) (base : Base) (d : Disks) (old whole : D) (result : Result (AnswerOf asked) Stop) : Type 0 where
+pub record CommandGoesOn {D Kept : Type 0} (state : D → DiskState) (place : Kept → Place) (seats : List (Seat Kept)) (seat : Seat Kept) (i : ℕ) (asked : Asked) (base : Base) (d : Disks) (old whole : D) (result : Result (AnswerOf asked) CommandError) : Type 0 where
   pub cut : (begun : D) → (state whole).left_since (state old).moment (state begun).seen → IsAllOnDisk (state begun)
       → GoesOnCut (IsAsked asked base) place seat i d (state old) (state whole) (state begun)
   pub ended : (value : AnswerOf asked) → result ≡ Ok value → IsKeptWhereShared place seats seat i (state whole)
@@ -74,7 +74,7 @@ pub record CommandGoesOn {D Kept : Type 0} (state : D → DiskState) (place : Ke
 
 -- so does each command that does on the disk what its event may do
 abbrev pub CommandsGoOn : {D Kept : Type 0} → (D → DiskState) → (Kept → Place) → Type 0
-CommandsGoOn {D} {Kept} state place = (seats : List (Seat Kept)) (seat : Seat Kept) (i : ℕ) (asked : Asked) (d : Disks) (old whole : D) (result : Result (AnswerOf asked) Stop)
+CommandsGoOn {D} {Kept} state place = (seats : List (Seat Kept)) (seat : Seat Kept) (i : ℕ) (asked : Asked) (d : Disks) (old whole : D) (result : Result (AnswerOf asked) CommandError)
     → (stands : StandsAt place seats i seat (state old) d)
-    → DoesAsMay (IsAsked asked stands.at.shows.station.base) (place seat.kept) seat.links i d (state old) (state whole) result
+    → RefinesEvent (IsAsked asked stands.at.shows.station.base) (place seat.kept) seat.links i d (state old) (state whole) result
     → CommandGoesOn state place seats seat i asked stands.at.shows.station.base d old whole result

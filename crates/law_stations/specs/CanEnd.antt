@@ -1,14 +1,14 @@
 -- The temporary files of a station's stopped scans can be finished.
 use Rattle.std.specs.Prelude.{ℕ}
 use Rattle.law_stations.specs.Disks.{Disks, HasCursor}
-use Rattle.law_stations.specs.Stopping.{EndsSome, HasNoneBeside}
+use Rattle.law_stations.specs.Stopping.{EndsSome, HasNoneStaged}
 
 -- this many steps of a scan finish all of them
 pub record CanEnd (i : ℕ) (d : Disks) : Type 0 where
   pub steps : ℕ
   pub ended : Disks
   pub ends : EndsSome steps i d ended
-  pub none : HasNoneBeside i ended.beside
+  pub none : HasNoneStaged i ended.staging
 
 -- so it is on any disks, at each station
 abbrev pub LeftCanEnd : Type 0

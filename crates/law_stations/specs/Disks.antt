@@ -5,7 +5,7 @@ use Rattle.law_stations.specs.Nets.{Net, Station, first_net}
 
 -- A temporary file of a packet: the station that wrote it, the number in its name, its bytes, and whether the
 -- packet's name has them too. The number is the count of messages that the station had scanned before.
-pub record Beside : Type 0 where
+pub record StagingFile : Type 0 where
   pub station : ℕ
   pub number : ℕ
   pub bytes : List ℕ
@@ -14,11 +14,11 @@ pub record Beside : Type 0 where
 -- The stations, with the packet files that got their names, in this order, each once; and the temporary files.
 pub record Disks : Type 0 where
   pub net : Net
-  pub beside : List Beside
+  pub staging : List StagingFile
 
 -- the disks of these link files before the first command
 abbrev pub first_disks : List (List ℕ) → Disks
-first_disks links = record { net = first_net links; beside = [] }
+first_disks links = record { net = first_net links; staging = [] }
 
 -- the cursors of the bases of the stations, in order
 abbrev pub cursor_of : Station → ℕ

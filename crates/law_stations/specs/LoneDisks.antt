@@ -4,7 +4,7 @@ use Rattle.law_stations.specs.Commands.{Post, Purge, Scan}
 use Rattle.law_stations.specs.Nets.{Net}
 use Rattle.law_stations.specs.LoneStations.{LoneCommand, LoneStation, NothingCame, PostAlone, PurgeAlone, ScanAlone, TossAny, TossesAny}
 use Rattle.law_stations.specs.Disks.{Disks, first_disks}
-use Rattle.law_stations.specs.Stopping.{LeadsFar}
+use Rattle.law_stations.specs.Stopping.{PartialEffect}
 
 -- The disks of the station alone; and the bytes of all input files of `toss`, in order, and of those that it tossed
 -- whole.
@@ -27,10 +27,10 @@ under_names s = on_net s s.disks.net
 
 -- The effect of a command that got this far: its base is committed; a toss may have only some first files.
 abbrev pub LeadsAloneFar : LoneCommand → LoneDisks → LoneDisks → Type 0
-LeadsAloneFar (PostAlone words body) s new = LeadsFar (Post words body) s.disks 0 new.disks × NothingCame (under_names s) (under_names new)
-LeadsAloneFar (ScanAlone stamp) s new = LeadsFar (Scan stamp) s.disks 0 new.disks × NothingCame (under_names s) (under_names new)
-LeadsAloneFar PurgeAlone s new = LeadsFar Purge s.disks 0 new.disks × NothingCame (under_names s) (under_names new)
-LeadsAloneFar (TossAny files) s new = (n : ℕ) × TossesAny (take n files) (under_names s) (under_names new) × (new.disks.beside ≡ s.disks.beside)
+LeadsAloneFar (PostAlone words body) s new = PartialEffect (Post words body) s.disks 0 new.disks × NothingCame (under_names s) (under_names new)
+LeadsAloneFar (ScanAlone stamp) s new = PartialEffect (Scan stamp) s.disks 0 new.disks × NothingCame (under_names s) (under_names new)
+LeadsAloneFar PurgeAlone s new = PartialEffect Purge s.disks 0 new.disks × NothingCame (under_names s) (under_names new)
+LeadsAloneFar (TossAny files) s new = (n : ℕ) × TossesAny (take n files) (under_names s) (under_names new) × (new.disks.staging ≡ s.disks.staging)
 
 -- The possible effects of a command, whatever stops it: none, or it got this far.
 abbrev pub MayHappenAlone : LoneCommand → LoneDisks → LoneDisks → Type 0

@@ -7,14 +7,14 @@ use Rattle.echo_links.specs.Links.{LinkFile}
 use Rattle.model_run.specs.Run.{nth}
 use Rattle.station.specs.Links.{AreLinks}
 use Rattle.cmd_status.specs.declared.fault.Fault.{Fault}
-use Rattle.cmd_store.specs.declared.stop.Stop.{Stop}
-use Rattle.cmd_store.specs.declared.stop.Stop.TheVariants.{Met}
+use Rattle.cmd_store.specs.declared.command_error.CommandError.{CommandError}
+use Rattle.cmd_store.specs.declared.command_error.CommandError.TheVariants.{Met}
 use Rattle.station.specs.Place.{KeepsElsewhere, Place, SameElsewhere}
 use Rattle.law_stations.specs.Commands.{Command, IsPacketAt, whole_of}
 use Rattle.law_stations.specs.Kinds.{IsToss}
 use Rattle.law_stations.specs.Nets.{Paired, Station, with_indexes}
 use Rattle.law_stations.specs.Disks.{Disks}
-use Rattle.law_stations.specs.Stopping.{LeadsFar}
+use Rattle.law_stations.specs.Stopping.{PartialEffect}
 
 -- At this path is the link file of the station of this index, and the files stand for its base.
 pub record ShowsStation (place : Place) (links : List ℕ) (i : ℕ) (c : Files) (d : Disks) : Type 0 where
@@ -38,7 +38,7 @@ pub record IsStationAt (place : Place) (links : List ℕ) (i : ℕ) (disk : Disk
 pub record LeadsFarBy (IsCommand : Command → Type 0) (i : ℕ) (d after : Disks) : Type 0 where
   pub command : Command
   pub is : IsCommand command
-  pub leads : LeadsFar command d i after
+  pub leads : PartialEffect command d i after
 
 -- or nothing has changed
 abbrev pub MayLeadBy : (Command → Type 0) → ℕ → Disks → Disks → Type 0
@@ -71,7 +71,7 @@ pub record LeavesElsewhere (place : Place) (old new : DiskState) : Type 0 where
   pub keeps : KeepsElsewhere place old new
 
 -- A command does on the disk what the command event may do.
-pub record DoesAsMay {A : Type 0} (IsCommand : Command → Type 0) (place : Place) (links : List ℕ) (i : ℕ) (d : Disks) (old new : DiskState) (result : Result A Stop) : Type 0 where
+pub record RefinesEvent {A : Type 0} (IsCommand : Command → Type 0) (place : Place) (links : List ℕ) (i : ℕ) (d : Disks) (old new : DiskState) (result : Result A CommandError) : Type 0 where
   -- a crash at any moment leaves what one before it might have left, or the station as before the event or after it
   pub crash : (c : Files) → new.left_since old.moment c → old.may_leave c ⊎ AreAsMay IsCommand place links i d c
   -- where it ends well they are as after the event
@@ -90,12 +90,12 @@ ReadsLinks Reads links disk = (file : LinkFile) → Reads file → AreLinks disk
 
 -- At each station of a net that the disk shows in this place a command does what a command event of this kind may do. The kind may depend
 -- on the base of the station.
-abbrev pub AsMay : {A : Type 0} → (Base → Command → Type 0) → Place → (LinkFile → Type 0) → DiskState → DiskState → Result A Stop → Type 0
+abbrev pub AsMay : {A : Type 0} → (Base → Command → Type 0) → Place → (LinkFile → Type 0) → DiskState → DiskState → Result A CommandError → Type 0
 AsMay IsCommand place Reads old new result = (i : ℕ) (d : Disks) (links : List ℕ) → ReadsLinks Reads links old → (at : IsStationAt place links i old d)
-    → DoesAsMay (IsCommand at.shows.station.base) place links i d old new result
+    → RefinesEvent (IsCommand at.shows.station.base) place links i d old new result
 
 -- Each station that the disk shows in this place is as before a command that met a fault, unless it is shut for that.
-abbrev pub StaysWhereMet : {A : Type 0} → Place → (Fault → Type 0) → DiskState → DiskState → Result A Stop → Type 0
+abbrev pub StaysWhereMet : {A : Type 0} → Place → (Fault → Type 0) → DiskState → DiskState → Result A CommandError → Type 0
 StaysWhereMet place IsShut old new result = (i : ℕ) (d : Disks) (links : List ℕ) → IsStationAt place links i old d → (fault : Fault) → result ≡ Err (Met fault)
     → IsAsBefore place links i d new ⊎ IsShut fault
 
@@ -105,11 +105,11 @@ pub record IsAfterToss (indexes : List ℕ) (left : List Coming) (place : Place)
   pub delivered : at.after.net.delivered ≡ with_indexes (whole_of indexes answer left) d.net.delivered
 
 -- A toss of the packet files of these indexes does on the disk what the command event may do, and where it ends well just what it answers.
-pub record TossesAsEvent (indexes : List ℕ) (left : List Coming) (place : Place) (links : List ℕ) (i : ℕ) (d : Disks) (old new : DiskState) (result : Result (Option Fault) Stop) : Type 0 where
-  pub does : DoesAsMay (IsToss indexes) place links i d old new result
+pub record TossesAsEvent (indexes : List ℕ) (left : List Coming) (place : Place) (links : List ℕ) (i : ℕ) (d : Disks) (old new : DiskState) (result : Result (Option Fault) CommandError) : Type 0 where
+  pub does : RefinesEvent (IsToss indexes) place links i d old new result
   pub ends : (answer : Option Fault) → result ≡ Ok answer → IsAfterToss indexes left place links i d new answer
 
 -- So it is at any station of a net, where these files are the packet files of these indexes, and the others are left of them.
-abbrev pub TossesAsMay : List Coming → List Coming → Place → (LinkFile → Type 0) → DiskState → DiskState → Result (Option Fault) Stop → Type 0
+abbrev pub TossesAsMay : List Coming → List Coming → Place → (LinkFile → Type 0) → DiskState → DiskState → Result (Option Fault) CommandError → Type 0
 TossesAsMay files left place Reads old new result = (indexes : List ℕ) (i : ℕ) (d : Disks) (links : List ℕ) → Paired (IsPacketAt d.net.packets) indexes files → ReadsLinks Reads links old
     → IsStationAt place links i old d → TossesAsEvent indexes left place links i d old new result

@@ -16,13 +16,13 @@ use Rattle.law_stations.specs.Agreement.{file_address}
 use Rattle.law_stations.specs.Commands.{Command, CommandEvent, Happen, Post, Purge, Scan, Toss}
 use Rattle.law_stations.specs.InOrder.{HasUnchanged, IsSettled, IsSound, ReadsAs, StationHolds}
 use Rattle.law_stations.specs.Nets.{Net, Paired, first_net}
-use Rattle.law_stations.specs.Disks.{Beside, Disks, HasCursor, first_disks}
+use Rattle.law_stations.specs.Disks.{StagingFile, Disks, HasCursor, first_disks}
 use Rattle.law_stations.specs.Stopping.{MayHappenAll}
 
 -- A temporary file that did not get its name yet, after its scan moved the cursor: the next scan of the station will
 -- name it.
-pub record IsToBeNamed (d : Disks) (file : Beside) : Type 0 where
-  pub stands : Among file d.beside
+pub record IsToBeNamed (d : Disks) (file : StagingFile) : Type 0 where
+  pub stands : Among file d.staging
   pub unnamed : file.named ≡ false
   pub cursor : ℕ
   pub is_cursor : HasCursor d.net file.station cursor
@@ -38,7 +38,7 @@ pub record HasNet (d : Disks) (net : Net) : Type 0 where
   pub named : Paired (λ bytes k. nth k net.packets ≡ Some bytes) d.net.packets places
   pub once : Different places
   pub all : (k : ℕ) (bytes : List ℕ) → nth k net.packets ≡ Some bytes →
-      Among k places ⊎ ((file : Beside) × IsToBeNamed d file × (file.bytes ≡ bytes))
+      Among k places ⊎ ((file : StagingFile) × IsToBeNamed d file × (file.bytes ≡ bytes))
   pub tossed : (j k : ℕ) → nth j places ≡ Some k → Among j d.net.delivered → Among k net.delivered
 
 -- the same command; a toss may be of other packets
@@ -60,7 +60,7 @@ CrashesAreNone = (links : List (List ℕ)) (commands : List CommandEvent) (d : D
 
 -- the disks of a net without temporary files
 abbrev pub disks_of : Net → Disks
-disks_of net = record { net = net; beside = [] }
+disks_of net = record { net = net; staging = [] }
 
 -- and the effects of commands without a stop are among the possible effects
 abbrev pub WholeAreAmong : Type 0
@@ -76,7 +76,7 @@ SoundOverCrashes = (links : List (List ℕ)) (files : List LinkFile) → AreLink
 -- was tossed whole
 pub record HasSettled (d : Disks) (tag : List ℕ) : Type 0 where
   pub named : IsSettled d.net tag
-  pub beside : (file : Beside) (p : Packet) → IsToBeNamed d file → ReadsAs file.bytes p → (m : Filed) → Among m (copies p) → m.echo.tag ≢ tag
+  pub staging : (file : StagingFile) (p : Packet) → IsToBeNamed d file → ReadsAs file.bytes p → (m : Filed) → Among m (copies p) → m.echo.tag ≢ tag
 
 -- the promise about a checked area on the disks
 pub record InOrderOverCrashes (commands : List CommandEvent) (d : Disks) (tag : List ℕ) : Type 0 where

@@ -4,9 +4,9 @@ use Rattle.cmd_report.specs.Coming.{Coming}
 use Rattle.disk_io.specs.Disk.{DiskState}
 use Rattle.cmd_status.specs.declared.fault.Fault.{Fault}
 use Rattle.model_steps.specs.declared.stamp.Stamp.{Stamp}
-use Rattle.cmd_store.specs.declared.stop.Stop.{Stop}
+use Rattle.cmd_store.specs.declared.command_error.CommandError.{CommandError}
 use Rattle.station.specs.Place.{Place}
-use Rattle.station_scan.specs.declared.scan_stop.ScanStop.{ScanStop}
+use Rattle.station_scan.specs.declared.scan_error.ScanError.{ScanError}
 use Rattle.law_stations.specs.Commands.{Command, Scan, whole_of}
 use Rattle.law_stations.specs.Kinds.{IsToss}
 use Rattle.law_stations.specs.Nets.{with_indexes}
@@ -24,7 +24,7 @@ pub record GoesOnTossed {Kept : Type 0} (place : Kept → Place) (seats : List (
 
 -- a toss that ended well
 abbrev pub TossesGoOn : {D Kept : Type 0} → (D → DiskState) → (Kept → Place) → Type 0
-TossesGoOn {D} {Kept} state place = (seats : List (Seat Kept)) (seat : Seat Kept) (i : ℕ) (indexes : List ℕ) (left : List Coming) (d : Disks) (old new : D) (result : Result (Option Fault) Stop) (answer : Option Fault)
+TossesGoOn {D} {Kept} state place = (seats : List (Seat Kept)) (seat : Seat Kept) (i : ℕ) (indexes : List ℕ) (left : List Coming) (d : Disks) (old new : D) (result : Result (Option Fault) CommandError) (answer : Option Fault)
     → TossesAsEvent indexes left (place seat.kept) seat.links i d (state old) (state new) result → result ≡ Ok answer → IsKeptWhereShared place seats seat i (state new)
     → GoesOnTossed place seats seat i indexes answer left d (state old) (state new)
 
@@ -34,7 +34,7 @@ IsScan stamp command = command ≡ Scan stamp
 
 -- Whatever crash cuts a scan, and where it ends well, the net goes on by its command event. Where the station is as before it, as after a
 -- fault that it met, the net goes on by none.
-pub record ScanGoesOn {D Kept : Type 0} (state : D → DiskState) (place : Kept → Place) (seats : List (Seat Kept)) (seat : Seat Kept) (i : ℕ) (stamp : Stamp) (d : Disks) (old whole : D) (result : Result (Unit {0}) ScanStop) : Type 0 where
+pub record ScanGoesOn {D Kept : Type 0} (state : D → DiskState) (place : Kept → Place) (seats : List (Seat Kept)) (seat : Seat Kept) (i : ℕ) (stamp : Stamp) (d : Disks) (old whole : D) (result : Result (Unit {0}) ScanError) : Type 0 where
   pub cut : (begun : D) → (state whole).left_since (state old).moment (state begun).seen → IsAllOnDisk (state begun)
       → GoesOnCut (IsScan stamp) place seat i d (state old) (state whole) (state begun)
   pub ended : result ≡ Ok tt → IsKeptWhereShared place seats seat i (state whole) → GoesOnEnded (IsScan stamp) place seats seat i d (state old) (state whole)
@@ -42,7 +42,7 @@ pub record ScanGoesOn {D Kept : Type 0} (state : D → DiskState) (place : Kept 
       → HasEnded place seats seat i None d d (state old) (state whole)
 
 abbrev pub ScansGoOn : {D Kept : Type 0} → (D → DiskState) → (Kept → Place) → Type 0
-ScansGoOn {D} {Kept} state place = (seats : List (Seat Kept)) (seat : Seat Kept) (i : ℕ) (stamp : Stamp) (d ended : Disks) (old whole : D) (result : Result (Unit {0}) ScanStop)
+ScansGoOn {D} {Kept} state place = (seats : List (Seat Kept)) (seat : Seat Kept) (i : ℕ) (stamp : Stamp) (d ended : Disks) (old whole : D) (result : Result (Unit {0}) ScanError)
     → (stands : StandsAt place seats i seat (state old) d)
     → ScansAsEvent stamp (place seat.kept) seat.links seat.outbound i d ended stands.at.shows.station.base (state old) (state whole) result
     → ScanGoesOn state place seats seat i stamp d old whole result

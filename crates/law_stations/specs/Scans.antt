@@ -5,19 +5,19 @@ use Rattle.base_file.specs.Base.{Base}
 use Rattle.disk_io.specs.Disk.{DiskState, Files}
 use Rattle.echo_links.specs.Links.{LinkFile}
 use Rattle.echo_links.specs.LinkLines.{LinksOf}
-use Rattle.station.specs.Paths.{dotted, path_beside}
+use Rattle.station.specs.Paths.{dotted, staging_path}
 use Rattle.cmd_status.specs.declared.fault.Fault.{Fault}
 use Rattle.model_steps.specs.PacketFiles.{PacketFile}
 use Rattle.model_steps.specs.declared.stamp.Stamp.{Stamp}
-use Rattle.cmd_store.specs.declared.stop.Stop.TheVariants.{Met}
+use Rattle.cmd_store.specs.declared.command_error.CommandError.TheVariants.{Met}
 use Rattle.station.specs.Place.{Place}
 use Rattle.station_scan.specs.Scanning.{IsTouched}
-use Rattle.station_scan.specs.declared.scan_stop.ScanStop.{ScanStop}
-use Rattle.station_scan.specs.declared.scan_stop.ScanStop.TheVariants.{Command}
+use Rattle.station_scan.specs.declared.scan_error.ScanError.{ScanError}
+use Rattle.station_scan.specs.declared.scan_error.ScanError.TheVariants.{Command}
 use Rattle.law_stations.specs.Commands.{Scan}
 use Rattle.law_stations.specs.Nets.{bytes_of}
 use Rattle.law_stations.specs.Disks.{Disks}
-use Rattle.law_stations.specs.Stopping.{EndsSome, HasNoneBeside, LeadsFar, beside_of}
+use Rattle.law_stations.specs.Stopping.{EndsSome, HasNoneStaged, PartialEffect, staging_of}
 use Rattle.law_stations.specs.OnDisks.{IsAsBefore, IsLinkedOn, IsStationAt, LeavesElsewhere, ReadsLinks, ShowsStation}
 
 -- the packet stands whole at its path
@@ -25,23 +25,23 @@ abbrev pub IsAtPath : List ℕ → Files → PacketFile → Type 0
 IsAtPath outbound c packet = c (outbound ++ packet.name) ≡ Some packet.bytes
 
 -- or beside it
-abbrev pub IsBesidePath : List ℕ → List ℕ → Files → PacketFile → Type 0
-IsBesidePath outbound own c packet = c (path_beside (outbound ++ packet.name) own) ≡ Some packet.bytes
+abbrev pub IsStagingPath : List ℕ → List ℕ → Files → PacketFile → Type 0
+IsStagingPath outbound own c packet = c (staging_path (outbound ++ packet.name) own) ≡ Some packet.bytes
 
 -- The link file and the base are those of the station after a scan of this base that came so far. Some of its packets stand whole
 -- at their paths: these got their names. The others stand whole beside theirs, and wait.
 pub record AreAfterScan (stamp : Stamp) (place : Place) (links outbound : List ℕ) (i : ℕ) (d ended : Disks) (base : Base) (c : Files) : Type 0 where
   pub after : Disks
-  pub leads : LeadsFar (Scan stamp) d i after
+  pub leads : PartialEffect (Scan stamp) d i after
   pub shows : ShowsStation place links i c after
   pub file : LinkFile
   pub says : LinksOf shows.station.links (Ok file)
   pub named : List PacketFile
   pub waiting : List PacketFile
   pub got_names : after.net.packets ≡ ended.net.packets ++ map bytes_of named
-  pub wait : after.beside ≡ ended.beside ++ map (beside_of i base.cursor) waiting
+  pub wait : after.staging ≡ ended.staging ++ map (staging_of i base.cursor) waiting
   pub at_paths : AllByRecursion (IsAtPath outbound c) named
-  pub beside_paths : AllByRecursion (IsBesidePath outbound (dotted file.system) c) waiting
+  pub staging_paths : AllByRecursion (IsStagingPath outbound (dotted file.system) c) waiting
 
 -- The disk shows the link file and the base of the station after a scan of which no packet waits, the next command finds it so, and
 -- each crash leaves both so.
@@ -56,7 +56,7 @@ abbrev pub with_packets_in : List ℕ → Place → Place
 with_packets_in outbound place = record { stands_for = place.stands_for; is_own = λ m. IsTouched place.is_own outbound m }
 
 -- A scan does on the disk what its command event may do.
-pub record ScansAsEvent (stamp : Stamp) (place : Place) (links outbound : List ℕ) (i : ℕ) (d ended : Disks) (base : Base) (old new : DiskState) (result : Result (Unit {0}) ScanStop) : Type 0 where
+pub record ScansAsEvent (stamp : Stamp) (place : Place) (links outbound : List ℕ) (i : ℕ) (d ended : Disks) (base : Base) (old new : DiskState) (result : Result (Unit {0}) ScanError) : Type 0 where
   -- a crash at any moment leaves what one before it might have left, or the station as it was, or the station and the packets as
   -- after the event
   pub crash : (c : Files) → new.left_since old.moment c → old.may_leave c ⊎ (ShowsStation place links i c d ⊎ AreAfterScan stamp place links outbound i d ended base c)
@@ -76,12 +76,12 @@ pub record ScansAsEvent (stamp : Stamp) (place : Place) (links outbound : List �
 
 -- So it is at each station of a net that the disk shows in this place. What stopped scans left of it is brought to its end so, and its link
 -- file has no path of a packet.
-abbrev pub ScansAsMay : Stamp → Place → List ℕ → (LinkFile → Type 0) → DiskState → DiskState → Result (Unit {0}) ScanStop → Type 0
+abbrev pub ScansAsMay : Stamp → Place → List ℕ → (LinkFile → Type 0) → DiskState → DiskState → Result (Unit {0}) ScanError → Type 0
 ScansAsMay stamp place outbound Reads old new result = (links : List ℕ) (i : ℕ) (d : Disks) (n : ℕ) (ended : Disks) → ReadsLinks Reads links old → (IsTouched place.is_own outbound links → ⊥)
-    → (at : IsStationAt place links i old d) → EndsSome n i d ended → HasNoneBeside i ended.beside
+    → (at : IsStationAt place links i old d) → EndsSome n i d ended → HasNoneStaged i ended.staging
     → ScansAsEvent stamp place links outbound i d ended at.shows.station.base old new result
 
 -- Each station that the disk shows in this place is as before a scan that met a fault, unless it is shut for that.
-abbrev pub StaysWhereScanMet : Place → List ℕ → (Fault → Type 0) → DiskState → DiskState → Result (Unit {0}) ScanStop → Type 0
+abbrev pub StaysWhereScanMet : Place → List ℕ → (Fault → Type 0) → DiskState → DiskState → Result (Unit {0}) ScanError → Type 0
 StaysWhereScanMet place outbound IsShut old new result = (links : List ℕ) (i : ℕ) (d : Disks) → (IsTouched place.is_own outbound links → ⊥) → IsStationAt place links i old d
     → (fault : Fault) → result ≡ Err (Command (Met fault)) → IsAsBefore place links i d new ⊎ IsShut fault

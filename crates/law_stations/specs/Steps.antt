@@ -5,7 +5,7 @@ use Rattle.model_run.specs.Run.{change, nth}
 use Rattle.station.specs.Place.{Place}
 use Rattle.law_stations.specs.Commands.{Command, CommandEvent}
 use Rattle.law_stations.specs.Disks.{Disks}
-use Rattle.law_stations.specs.Stopping.{LeadsFar}
+use Rattle.law_stations.specs.Stopping.{PartialEffect}
 use Rattle.law_stations.specs.OnDisks.{LeavesElsewhere, ShowsStation}
 use Rattle.law_stations.specs.Seats.{Seat, StandsAt, reach}
 
@@ -19,7 +19,7 @@ pub data Happening (D : Type 0) : Type 0 where
 -- what may come of it
 abbrev pub MayLead : Option Command → ℕ → Disks → Disks → Type 0
 MayLead None i d next = next ≡ d
-MayLead (Some command) i d next = LeadsFar command d i next
+MayLead (Some command) i d next = PartialEffect command d i next
 
 -- What happens on the disk of a number, and that disk then. After a crash it is the one with which the machine begins anew.
 pub record Step (D : Type 0) : Type 0 where

@@ -7,31 +7,31 @@ use Rattle.model_steps.specs.PacketFiles.{PacketFile}
 use Rattle.base_store.specs.Store.{all_scanned}
 use Rattle.law_stations.specs.Commands.{Command, CommandEvent, Post, Posts, Purge, Purges, Scan, Scans, Toss, Tosses}
 use Rattle.law_stations.specs.Nets.{Net, with_left}
-use Rattle.law_stations.specs.Disks.{Beside, Disks, HasCursor, naming}
+use Rattle.law_stations.specs.Disks.{StagingFile, Disks, HasCursor, naming}
 
 -- the same temporary file, now also under the packet's name
-abbrev pub now_named : Beside → Beside
+abbrev pub now_named : StagingFile → StagingFile
 now_named file = record { station = file.station; number = file.number; bytes = file.bytes; named = true }
 
 -- A scan finishes a temporary file. If its number is below the cursor, its scan had moved the cursor: the packet gets
 -- its name, and the temporary file is removed, unless a stop leaves it. Otherwise it is removed.
-abbrev pub Ends : ℕ → Net → Beside → Net → List Beside → Type 0
+abbrev pub Ends : ℕ → Net → StagingFile → Net → List StagingFile → Type 0
 Ends cursor net file new left =
     ((file.number < cursor) × (new ≡ naming net file.bytes file.named) × ((left ≡ []) ⊎ (left ≡ now_named file ∷ [])))
     ⊎ ((cursor ≤ file.number) × (new ≡ net) × (left ≡ []))
 
 -- one file of the station is finished
 pub record EndsOne (i : ℕ) (d new : Disks) : Type 0 where
-  pub before : List Beside
-  pub file : Beside
-  pub after : List Beside
-  pub stood : d.beside ≡ before ++ file ∷ after
+  pub before : List StagingFile
+  pub file : StagingFile
+  pub after : List StagingFile
+  pub stood : d.staging ≡ before ++ file ∷ after
   pub own : file.station ≡ i
   pub cursor : ℕ
   pub is_cursor : HasCursor d.net i cursor
-  pub left : List Beside
+  pub left : List StagingFile
   pub ends : Ends cursor d.net file new.net left
-  pub stands : new.beside ≡ before ++ (left ++ after)
+  pub stands : new.staging ≡ before ++ (left ++ after)
 
 -- so are some, one after another
 abbrev pub EndsSome : ℕ → ℕ → Disks → Disks → Type 0
@@ -39,11 +39,11 @@ EndsSome zero i d new = new ≡ d
 EndsSome (suc n) i d new = (next : Disks) × EndsOne i d next × EndsSome n i next new
 
 -- a station has no temporary file
-abbrev pub HasNoneBeside : ℕ → List Beside → Type 0
-HasNoneBeside i files = (file : Beside) → Among file files → file.station ≢ i
+abbrev pub HasNoneStaged : ℕ → List StagingFile → Type 0
+HasNoneStaged i files = (file : StagingFile) → Among file files → file.station ≢ i
 
 -- the file was written by the next scan of the station, whole or in part
-pub record IsOfNext (i cursor : ℕ) (file : Beside) : Type 0 where
+pub record IsOfNext (i cursor : ℕ) (file : StagingFile) : Type 0 where
   pub own : file.station ≡ i
   pub number : file.number ≡ cursor
   pub unnamed : file.named ≡ false
@@ -51,27 +51,27 @@ pub record IsOfNext (i cursor : ℕ) (file : Beside) : Type 0 where
 -- A scan with no temporary file of its station left was stopped before the commit of its base: it wrote temporary
 -- files, of any bytes.
 pub record Writes (i : ℕ) (d new : Disks) : Type 0 where
-  pub none : HasNoneBeside i d.beside
+  pub none : HasNoneStaged i d.staging
   pub cursor : ℕ
   pub is_cursor : HasCursor d.net i cursor
-  pub files : List Beside
+  pub files : List StagingFile
   pub are : AllByRecursion (IsOfNext i cursor) files
-  pub becomes : new ≡ record { net = d.net; beside = d.beside ++ files }
+  pub becomes : new ≡ record { net = d.net; staging = d.staging ++ files }
 
 -- the temporary file of a packet
-abbrev pub beside_of : ℕ → ℕ → PacketFile → Beside
-beside_of i cursor file = record { station = i; number = cursor; bytes = file.bytes; named = false }
+abbrev pub staging_of : ℕ → ℕ → PacketFile → StagingFile
+staging_of i cursor file = record { station = i; number = cursor; bytes = file.bytes; named = false }
 
 -- Its packets are temporary files, and its base is committed.
 pub record Moves (stamp : Stamp) (i : ℕ) (d new : Disks) : Type 0 where
-  pub none : HasNoneBeside i d.beside
+  pub none : HasNoneStaged i d.staging
   pub cursor : ℕ
   pub is_cursor : HasCursor d.net i cursor
   pub scanned : Net
   pub scans : Scans stamp d.net i scanned
   pub becomes : new ≡ record {
     net = with_left d.net i [] (all_scanned scans.station.base);
-    beside = d.beside ++ map (beside_of i cursor) scans.packets;
+    staging = d.staging ++ map (staging_of i cursor) scans.packets;
   }
 
 -- How far a scan gets. It finishes some or all of the files that it finds. Then it is stopped while it writes, or its
@@ -81,15 +81,15 @@ ScansFar stamp i d new = (n : ℕ) × (ended : Disks) × EndsSome n i d ended
     × ((new ≡ ended) ⊎ (Writes i ended new ⊎ ((m : ℕ) × (moved : Disks) × Moves stamp i ended moved × EndsSome m i moved new)))
 
 -- The effect of a command that got this far: its base is committed; a toss may have only some first packets.
-abbrev pub LeadsFar : Command → Disks → ℕ → Disks → Type 0
-LeadsFar (Post words body) d i new = Posts words body d.net i new.net × (new.beside ≡ d.beside)
-LeadsFar (Scan stamp) d i new = ScansFar stamp i d new
-LeadsFar Purge d i new = Purges d.net i new.net × (new.beside ≡ d.beside)
-LeadsFar (Toss indexes) d i new = (n : ℕ) × Tosses (take n indexes) d.net i new.net × (new.beside ≡ d.beside)
+abbrev pub PartialEffect : Command → Disks → ℕ → Disks → Type 0
+PartialEffect (Post words body) d i new = Posts words body d.net i new.net × (new.staging ≡ d.staging)
+PartialEffect (Scan stamp) d i new = ScansFar stamp i d new
+PartialEffect Purge d i new = Purges d.net i new.net × (new.staging ≡ d.staging)
+PartialEffect (Toss indexes) d i new = (n : ℕ) × Tosses (take n indexes) d.net i new.net × (new.staging ≡ d.staging)
 
 -- The possible effects of a command, whatever stops it: none, or it got this far.
 abbrev pub MayHappen : CommandEvent → Disks → Disks → Type 0
-MayHappen event d new = (new ≡ d) ⊎ LeadsFar event.command d event.station new
+MayHappen event d new = (new ≡ d) ⊎ PartialEffect event.command d event.station new
 
 -- the possible effects of commands in order
 abbrev pub MayHappenAll : List CommandEvent → Disks → Disks → Type 0

@@ -4,8 +4,8 @@ ghost use Rattle.station.specs.Opening.{AreFree, HaveFailed};
 ghost use Rattle.law_stations.specs.Scans.{ScansAsMay, StaysWhereScanMet};
 
 use disk_io::{Disk, Sink};
-use station::{BeforeCommand, FileLock, LendStation, Locks};
-use station_scan::{Listing, Scan, Scanned, Watching, run_scan};
+use station::{BeforeCommand, FileLock, LendStation, Locks, MessageProgress};
+use station_scan::{ListStaged, Scan, Scanned, run_scan};
 use std::alloc::Global;
 
 /// `scan` on a station. A crash at any time leaves what an earlier one might have left, or the station as before the
@@ -18,8 +18,8 @@ pub fn scan_as_may<
     D: Disk,
     P: LendStation<'a, D>,
     Q: BeforeCommand<'a, P::Kept>,
-    G: Listing,
-    T: Watching,
+    G: ListStaged,
+    T: MessageProgress,
     L: FileLock,
     K: FileLock,
     W: Sink,

@@ -5,7 +5,7 @@
 //!
 //! Modules in reading order: `world` (the systems and packets after the events, and what one reads off
 //! them), `receivers` (which system has an address), `fitting` (what is known of a packet without its bytes),
-//! `happening` (what one event does), `telling` (who is told how
+//! `happening` (what one event does), `replay_progress` (who is told how
 //! far it is), `replaying`, `script` (events as text), and `laws` (what holds of every replay).
 #![tactic(auto)]
 
@@ -13,14 +13,14 @@ mod fitting;
 mod happening;
 mod laws;
 mod receivers;
+mod replay_progress;
 mod replaying;
 mod script;
-mod telling;
 mod world;
 
 pub use laws::replay_laws;
 pub use receivers::Receivers;
+pub use replay_progress::{ReplayProgress, Untold};
 pub use replaying::{replay, replay_counted, replay_told};
 pub use script::{ScriptFault, read_script};
-pub use telling::{Telling, Untold};
 pub use world::World;

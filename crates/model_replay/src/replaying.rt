@@ -9,7 +9,7 @@ ghost use Rattle.model_steps.specs.SystemState.{state_at_first};
 
 use crate::happening::happen;
 use crate::receivers::Receivers;
-use crate::telling::{Telling, Untold};
+use crate::replay_progress::{ReplayProgress, Untold};
 use crate::world::World;
 use echo_links::LinkFile;
 use echo_toss::Tosser;
@@ -33,7 +33,7 @@ pub fn replay(
 }
 
 /// The same, and `told` hears of each event once it happened.
-pub fn replay_told<T: Telling>(
+pub fn replay_told<T: ReplayProgress>(
     alloc: Global,
     files: Vec<LinkFile>,
     events: &[Event],
@@ -60,7 +60,7 @@ pub fn replay_counted(
 }
 
 // The same, and `told` hears of each event.
-fn replayed<T: Telling>(
+fn replayed<T: ReplayProgress>(
     alloc: Global,
     files: Vec<LinkFile>,
     events: &[Event],

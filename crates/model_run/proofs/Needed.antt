@@ -4,7 +4,7 @@ use Rattle.std.specs.Prelude.{true}
 use Rattle.model_graph.specs.Walk.{Among}
 use Rattle.model_graph.proofs.Members.{ℕ-can_tell}
 use Rattle.model_run.specs.Events.{Text, Filed, Copy, Event, Posts, Exports, Comes, Has, exported, filed}
-use Rattle.model_run.specs.Rules.{IsTarget, IsSentOnce, IsTold, Rule, Kept, Always, IsPossible, ListsAll, filing, keeping, sending, telling, keys}
+use Rattle.model_run.specs.Rules.{IsTarget, IsSentOnce, HasSeenBy, Rule, Kept, Always, IsPossible, ListsAll, filing, keeping, sending, telling, keys}
 use Rattle.model_run.specs.RulesOrderly.{IsMet, IsNeeded, IsSettled}
 use Rattle.model_run.proofs.Targets.{some_same}
 use Rattle.model_run.proofs.Chain.{chain, chain-parts, chain-tidy}
@@ -56,7 +56,7 @@ sent_once earlier is_filed first = record {
 }
 
 -- 1 alone is told nothing wrong by an empty SEEN-BY
-told : (x : ℕ) → Among x (1 ∷ []) → IsTold (polygon 2) (posted 0) (1 ∷ []) x []
+told : (x : ℕ) → Among x (1 ∷ []) → HasSeenBy (polygon 2) (posted 0) (1 ∷ []) x []
 told x h = record {
   others = λ l i link. absurd (elim h [
     | inl e ↦ elim i [

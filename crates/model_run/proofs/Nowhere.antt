@@ -16,7 +16,7 @@ use Rattle.model_run.specs.Run.{Run, System, after_event, change, changing, comi
 use Rattle.model_run.specs.Orderly.{Orderly, Settled, copies, tag_of}
 use Rattle.model_run.proofs.Lists.{Among-map_to, any-to, first_passes, none_some, nth-among, some_same}
 use Rattle.model_run.specs.Grave.{ListsNobody}
-use Rattle.model_run.specs.Harms.{NeverRests}
+use Rattle.model_run.specs.Harms.{NeverSettles}
 use Rattle.model_run.specs.LawsOfRuns.{LawsOfRuns}
 use Rattle.model_run.specs.Postings.{post_and_scan, trial_moment, trial_posting}
 use Rattle.model_run.proofs.HarmCounts.{sent-packet}
@@ -179,13 +179,13 @@ never_settles files known tag events q first nobody m in_copies of_area more set
     nobody came.file came.there (came.address ∙ ap (λ (x : Packet). destination x) same)
 
 -- a system that lists an address of no file posts and scans: that packet never comes
-pub nobody-never_rests : (files : List LinkFile) → LawsOfRuns files → (tag : List ℕ) → ListsNobody files tag → NeverRests files tag
+pub nobody-never_rests : (files : List LinkFile) → LawsOfRuns files → (tag : List ℕ) → ListsNobody files tag → NeverSettles files tag
 nobody-never_rests files known tag lost =
     let (file, h, _, link) = lists-file files tag lost.system lost.link lost.listed in
     let (i, is) = among-nth file files h in
     lost_by i file is link
   where
-    lost_by : (i : ℕ) (file : LinkFile) → nth i files ≡ Some file → is_link file tag lost.link ≡ true → NeverRests files tag
+    lost_by : (i : ℕ) (file : LinkFile) → nth i files ≡ Some file → is_link file tag lost.link ≡ true → NeverSettles files tag
     lost_by i file is link =
         let area = link-area file tag lost.link (link-among file tag lost.link link) in
         let one = run_of files (trial_posting i tag ∷ []) in

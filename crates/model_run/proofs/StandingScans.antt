@@ -15,7 +15,7 @@ use Rattle.echo_filed.specs.declared.key.Key.{Key}
 use Rattle.echo_filed.specs.Filed.{Filed, key_of, same_key}
 use Rattle.model_run.specs.Nets.{Net}
 use Rattle.model_run.specs.Events as rules
-use Rattle.model_run.specs.Rules.{IsTarget, IsToldPlainly}
+use Rattle.model_run.specs.Rules.{IsTarget, HasPlainSeenBy}
 use Rattle.model_run.proofs.Eras.{exported-append, filed-cases}
 use Rattle.model_run.proofs.Runs.{ByRules, one_more}
 use Rattle.model_run.proofs.Telling.{told-plainly}
@@ -75,7 +75,7 @@ module _ (laws : Laws) (files : List LinkFile) (tag : List ℕ) (tidy : Tidy fil
   )
 
   -- and tells whom it goes to
-  tells : (m : Filed) → m.echo.tag ≡ tag → IsToldPlainly net (filed_as (address_of s) m) (targets_of m) (copied s.file m).echo.seen
+  tells : (m : Filed) → m.echo.tag ≡ tag → HasPlainSeenBy net (filed_as (address_of s) m) (targets_of m) (copied s.file m).echo.seen
   tells m area = record {
     all = λ l j.
         let (b, k, e) = any-from (same_address l) (links_of s.file m.echo.tag) (link-out m l area ((goes m area l).0 j).link) in

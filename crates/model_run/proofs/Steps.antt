@@ -7,7 +7,7 @@ use Rattle.model_graph.proofs.Members.{CanTell, Among-append_left, Among-append_
 use Rattle.model_graph.proofs.Cuts.{one_way}
 use Rattle.model_run.specs.Nets.{Net, Tidy}
 use Rattle.model_run.specs.Events.{Text, Filed, Copy, copy_to, Has}
-use Rattle.model_run.specs.Rules.{IsTarget, IsTold}
+use Rattle.model_run.specs.Rules.{IsTarget, HasSeenBy}
 use Rattle.model_run.specs.RulesOrderly.{Compares, place, goal}
 use Rattle.model_run.proofs.Invariant.{Parent, View, IsPoster, Good, Sent, IsSentTo, Invariant}
 use Rattle.model_run.proofs.Targets.{simple, carriers_to, beyond-target, told-parent}
@@ -167,7 +167,7 @@ module _ {A N K C : Type 0} (can : CanTell A) (net : Net A N) (tidy : Tidy net) 
   module _ (m : Filed A N K C) (to : List A) (text : A → Text N K C) (is_filed : Among m v.filed) (first : ¬ Has m.at m.text.key v.exported)
       (targets : (x : A) → Among x to → IsTarget net m x) (all : (x : A) → IsTarget net m x → Among x to) (one_each : Different to)
       (keeps : (x : A) → Among x to → ((text x).key ≡ m.text.key) × Same (text x).content m.text.content)
-      (tells : (x : A) → Among x to → IsTold net m to x (text x).seen) where
+      (tells : (x : A) → Among x to → HasSeenBy net m to x (text x).seen) where
     abbrev new_copies : List (Copy A N K C)
     new_copies = map (copy_to m text) to
 

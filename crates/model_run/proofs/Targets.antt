@@ -9,7 +9,7 @@ use Rattle.model_graph.proofs.Cuts.{Around-from_Beyond, Beyond-trans, way-not_be
 use Rattle.model_graph.proofs.Cycles.{Parted-from_Polygons}
 use Rattle.model_run.specs.Nets.{Net, Tidy}
 use Rattle.model_run.specs.Events.{Filed}
-use Rattle.model_run.specs.Rules.{IsTarget, IsTold}
+use Rattle.model_run.specs.Rules.{IsTarget, HasSeenBy}
 use Rattle.model_run.proofs.Invariant.{Parent, Source}
 
 pub none_some : {X : Type 0} {x : X} → (let none : Option X = None in none ≡ Some x) → ⊥
@@ -87,7 +87,7 @@ module _ {A N : Type 0} (can : CanTell A) (net : Net A N) (tidy : Tidy net) wher
 
     -- what a target is told is in order there
     pub told-parent : (to : List A) → ((l : A) → IsTarget net m l → Among l to) → (x : A) (seen : List N) →
-        IsTarget net m x → IsTold net m to x seen → Parent net x f seen m.at
+        IsTarget net m x → HasSeenBy net m to x seen → Parent net x f seen m.at
     told-parent to all x seen target told =
         record {
           way = record { link = tidy.both m.at x target.link; passed = beyond };

@@ -3,10 +3,10 @@ use Rattle.std.proofs.Common.{◌≡◌, ◌≢◌, ◌⊎◌, inl, inr, refl, s
 use Rattle.model_graph.specs.Beyond.{Beyond}
 use Rattle.model_run.specs.Nets.{Net, Tidy}
 use Rattle.model_run.specs.Events.{Filed}
-use Rattle.model_run.specs.Rules.{IsTold, IsToldPlainly}
+use Rattle.model_run.specs.Rules.{HasSeenBy, HasPlainSeenBy}
 
 module _ {A N K C : Type 0} (net : Net A N) (tidy : Tidy net) (m : Filed A N K C) (to : List A) (x : A) (seen : List N)
-    (link : IsTrue (net.linked m.at x)) (plain : IsToldPlainly net m to seen) where
+    (link : IsTrue (net.linked m.at x)) (plain : HasPlainSeenBy net m to seen) where
   -- the addressee is not the sender
   differ : x ≢ m.at
   differ e = let P : A → Type 0 = λ a. IsTrue (net.linked m.at a) in tidy.no_self m.at (subst P e link)
@@ -24,7 +24,7 @@ module _ {A N K C : Type 0} (net : Net A N) (tidy : Tidy net) (m : Filed A N K C
         ]
       ]
 
-  pub told-plainly : IsTold net m to x seen
+  pub told-plainly : HasSeenBy net m to x seen
   told-plainly = record {
     others = λ l h joined. plain.all l h;
     behind = λ d carrier beyond other h. elim (plain.only (net.net_node d) h) [

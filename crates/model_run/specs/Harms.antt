@@ -53,5 +53,5 @@ abbrev pub BreaksPromise : List LinkFile → List ℕ → Type 0
 BreaksPromise files tag = (events : List RunEvent) × ¬ Orderly (run_of files events) tag
 
 -- after some events the area never settles, whatever happens then
-abbrev pub NeverRests : List LinkFile → List ℕ → Type 0
-NeverRests files tag = (events : List RunEvent) × ((more : List RunEvent) → ¬ Settled (run_of files (events ++ more)) tag)
+abbrev pub NeverSettles : List LinkFile → List ℕ → Type 0
+NeverSettles files tag = (events : List RunEvent) × ((more : List RunEvent) → ¬ Settled (run_of files (events ++ more)) tag)

@@ -42,14 +42,14 @@ SendsOnce net earlier other = Unit {0}
 
 -- tells: the SEEN-BY of the copy for x lists each link of x that gets a copy too. Of the systems that only x leads
 -- to, it lists none but x and those that the message listed.
-pub record IsTold {A N K C : Type 0} (net : Net A N) (m : Filed A N K C) (to : List A) (x : A) (seen : List N) : Type 0 where
+pub record HasSeenBy {A N K C : Type 0} (net : Net A N) (m : Filed A N K C) (to : List A) (x : A) (seen : List N) : Type 0 where
   pub others : (l : A) → Among l to → IsTrue (net.linked x l) → Among (net.net_node l) seen
   pub behind : (d : A) → IsTrue (net.carries d) → Beyond net.linked x m.at d → d ≢ x → Among (net.net_node d) seen →
       Among (net.net_node d) m.text.seen
 
 -- the simple way to keep this: it lists all receivers, and otherwise only entries of the message, the own system, its
 -- links, and net/nodes of no system with the area
-pub record IsToldPlainly {A N K C : Type 0} (net : Net A N) (m : Filed A N K C) (to : List A) (seen : List N) : Type 0 where
+pub record HasPlainSeenBy {A N K C : Type 0} (net : Net A N) (m : Filed A N K C) (to : List A) (seen : List N) : Type 0 where
   pub all : (l : A) → Among l to → Among (net.net_node l) seen
   pub only : (n : N) → Among n seen → Among n m.text.seen
       ⊎ (((l : A) × ((l ≡ m.at) ⊎ IsTrue (net.linked m.at l)) × (n ≡ net.net_node l)) ⊎ ((d : A) → IsTrue (net.carries d) → n ≢ net.net_node d))
@@ -57,7 +57,7 @@ pub record IsToldPlainly {A N K C : Type 0} (net : Net A N) (m : Filed A N K C) 
 -- and that of a posting lists no system with the area but its own
 abbrev pub Tells : {A N K C : Type 0} → Net A N → List (Event A N K C) → Event A N K C → Type 0
 Tells {A} net earlier (Posts at text) = (d : A) → IsTrue (net.carries d) → Among (net.net_node d) text.seen → d ≡ at
-Tells {A} net earlier (Exports m to text) = (x : A) → Among x to → IsTold net m to x (text x).seen
+Tells {A} net earlier (Exports m to text) = (x : A) → Among x to → HasSeenBy net m to x (text x).seen
 Tells net earlier (Comes copy is_filed) = Unit {0}
 
 -- half of it: each system is listed that the message is sent to

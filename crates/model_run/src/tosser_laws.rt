@@ -4,7 +4,7 @@
 ghost use Rattle.std.specs.Prelude.{Bool, IsTrue, List};
 ghost use Rattle.model_run.specs.Nets.{Net, Tidy};
 ghost use Rattle.model_run.specs.Events.{Event, Filed};
-ghost use Rattle.model_run.specs.Rules.{Always, IsPossible, IsTold, IsToldPlainly, Kept, ListsAll, Rule, filing, keeping, keys, sending, telling};
+ghost use Rattle.model_run.specs.Rules.{Always, IsPossible, HasSeenBy, HasPlainSeenBy, Kept, ListsAll, Rule, filing, keeping, keys, sending, telling};
 ghost use Rattle.model_run.specs.RulesOrderly.{AreToldApart, Compares, IsMet, IsNeeded, Orderly};
 
 /// Where the links of an area are tidy and all tossers keep the rules, every run is orderly. Each
@@ -26,7 +26,7 @@ pub fn every_run_by_the_rules_is_orderly<A, N, K, C>()
 /// omit receivers that are no links of the addressee, and it must hide no system behind that one.
 pub fn plain_telling_is_enough<A, N, K, C>()
     ensures { (net : Net A N) → Tidy net → (m : Filed A N K C) (to : List A) (x : A) (seen : List N) →
-        IsTrue (net.linked m.at x) → IsToldPlainly net m to seen → IsTold net m to x seen }
+        IsTrue (net.linked m.at x) → HasPlainSeenBy net m to seen → HasSeenBy net m to x seen }
 {}
 
 /// All rules can be kept by a run that settles, in a net of two systems.

@@ -11,7 +11,7 @@ use Rattle.model_run.specs.Run.{Run, System, nth}
 use Rattle.model_run.specs.Orderly.{IsPosting, count, sent_count}
 use Rattle.model_run.specs.Harms.{Harm}
 use Rattle.model_why.specs.declared.shown.Harm.{Harm as Told}
-use Rattle.model_why.specs.declared.shown.Harm.TheVariants.{NeverGets, NeverRests, SentAgain, SentOwn}
+use Rattle.model_why.specs.declared.shown.Harm.TheVariants.{NeverGets, NeverSettles, SentAgain, SentOwn}
 use Rattle.model_why.specs.Found.{BreaksIt, HasHarm, HasPosted}
 use Rattle.model_why.proofs.Counting.{nth-there}
 use Rattle.model_why.proofs.Judged.{in-nth, nth-in}
@@ -113,4 +113,4 @@ told-harm run tag id (NeverGets a) stubs many keys breaks h =
       carries = h.carrier.carries;
       lacks = subst Q (sym posted.key) h.lacks;
     }))
-told-harm run tag id NeverRests stubs many keys breaks h = absurd breaks
+told-harm run tag id NeverSettles stubs many keys breaks h = absurd breaks

@@ -10,7 +10,7 @@ use Rattle.model_replay.specs.Counts.{packet_counts}
 use Rattle.model_run.specs.Orderly.{copies, count, origin}
 use Rattle.model_run.specs.Run.{destination, start}
 use Rattle.model_why.specs.declared.shown.Harm.{Harm}
-use Rattle.model_why.specs.declared.shown.Harm.TheVariants.{NeverGets, NeverRests, SentAgain, SentOwn}
+use Rattle.model_why.specs.declared.shown.Harm.TheVariants.{NeverGets, NeverSettles, SentAgain, SentOwn}
 use Rattle.model_why.specs.declared.shown.Shown.{Shown}
 use Rattle.model_why.specs.Shown.{posting_and_moves, shown_run}
 
@@ -19,7 +19,7 @@ abbrev pub system_named : Harm → Option Address
 system_named (SentAgain a times) = Some a
 system_named (SentOwn a) = Some a
 system_named (NeverGets a) = Some a
-system_named NeverRests = None
+system_named NeverSettles = None
 
 -- whether a packet to this address holds the message
 abbrev pub brings : Address → Key → Packet → Bool

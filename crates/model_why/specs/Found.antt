@@ -9,7 +9,7 @@ use Rattle.model_steps.specs.declared.packet.Packet.{Packet}
 use Rattle.model_run.specs.Run.{Run, System, destination, nth}
 use Rattle.model_run.specs.Orderly.{IsPosting, Settled, copies, count, sent_count}
 use Rattle.model_why.specs.declared.shown.Harm.{Harm}
-use Rattle.model_why.specs.declared.shown.Harm.TheVariants.{NeverGets, NeverRests, SentAgain, SentOwn}
+use Rattle.model_why.specs.declared.shown.Harm.TheVariants.{NeverGets, NeverSettles, SentAgain, SentOwn}
 use Rattle.model_why.specs.declared.shown.Shown.{Shown}
 use Rattle.model_why.specs.Shown.{shown_run}
 
@@ -61,11 +61,11 @@ abbrev pub HasHarm : Run → List ℕ → List ℕ → Harm → Type 0
 HasHarm run tag id (SentAgain a times) = IsSentAgain run tag id a times
 HasHarm run tag id (SentOwn a) = IsSentOwn run tag id a
 HasHarm run tag id (NeverGets a) = IsNeverGot run tag id a
-HasHarm run tag id NeverRests = GoesToNobody run tag id
+HasHarm run tag id NeverSettles = GoesToNobody run tag id
 
 -- the harm breaks the promise
 abbrev pub BreaksIt : Harm → Type 0
-BreaksIt NeverRests = ⊥
+BreaksIt NeverSettles = ⊥
 BreaksIt _ = Unit {0}
 
 -- a run is found that breaks the promise

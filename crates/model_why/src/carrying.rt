@@ -66,7 +66,7 @@ fn system_named(harm: Harm) -> Option<Address>
         Harm::SentAgain(address, _) | Harm::SentOwn(address) | Harm::NeverGets(address) => {
             Some(address)
         }
-        Harm::NeverRests => None,
+        Harm::NeverSettles => None,
     }
 }
 

@@ -72,7 +72,7 @@ fn breaks_promise(found: Option<&Shown>) -> bool
     match found {
         Some(shown) => match shown.harm {
             Harm::SentAgain(_, _) | Harm::SentOwn(_) | Harm::NeverGets(_) => true,
-            Harm::NeverRests => false,
+            Harm::NeverSettles => false,
         },
         None => false,
     }

@@ -193,7 +193,7 @@ fn gone_to_nobody(
     if times < 1 {
         return Ok(None);
     }
-    Ok(Some(Harm::NeverRests))
+    Ok(Some(Harm::NeverSettles))
 }
 
 // Whether no system has the address.

@@ -11,7 +11,7 @@ pub enum Harm {
     /// The area has settled, and the carrier of this address has not got it.
     NeverGets(Address),
     /// It is in a packet to an address that no file has, and so never comes to rest.
-    NeverRests,
+    NeverSettles,
 }
 
 /// A run that goes wrong: the index of the system that posts, the id of the message, what follows, and the

@@ -5,12 +5,12 @@ use Rattle.base_file.specs.Base.{Base}
 use Rattle.disk_io.specs.Disk.{DiskState, Files}
 use Rattle.disk_io.specs.Runs.{ChangesNothing, LeavesOnly}
 use Rattle.disk_io.proofs.Moments.{then_nothing, then_run, weaker_run}
-use Rattle.base_store.specs.Store.{HasStoreCause, IsSameStore, KeepsBeside, LooksOn, SameBesideStore, StandsForEither, StandsBeside, StoreState}
+use Rattle.base_store.specs.Store.{HasStoreCause, IsSameStore, KeepsBeside, LooksOn, SameBesideStore, LeavesEither, LeavesCommitted, StoreState}
 use Rattle.base_store.proofs.Runs.{same_store}
 use Rattle.cmd_store.specs.Answered.{HasCommitted, MayMake, StandsForMade, StaysWhereMet}
 use Rattle.cmd_store.specs.Stops.{store_answer}
-use Rattle.cmd_store.specs.declared.stop.Stop.{Stop}
-use Rattle.cmd_store.specs.declared.stop.Stop.TheVariants.{Met, Store}
+use Rattle.cmd_store.specs.declared.command_error.CommandError.{CommandError}
+use Rattle.cmd_store.specs.declared.command_error.CommandError.TheVariants.{Met, Store}
 use Rattle.station.specs.Opening.{IsOpenFor}
 use Rattle.station.specs.Place.{IsOfPlace, KeepsElsewhere, Place, SameElsewhere, StandsAlone, StandsOrWasLeft}
 use Rattle.station.specs.Running.{IsKept, IsRunOn, MadeOrWasLeft, StandsAsBefore, StandsWhereMet}
@@ -83,16 +83,16 @@ module _ (place : Place) (d0 d2 : DiskState) (s0 s1 : StoreState) (begun : IsOpe
       stands = left_so base same ready honest is;
     }
 
-    met_may : {A : Type 0} (held : Bool) (result : Result A Stop) → s1.disk.is_honest → IfErr result (StaysWhereMet held s0 s1) → IfErr result (StandsWhereMet place d0 d2 base)
+    met_may : {A : Type 0} (held : Bool) (result : Result A CommandError) → s1.disk.is_honest → IfErr result (StaysWhereMet held s0 s1) → IfErr result (StandsWhereMet place d0 d2 base)
     met_may held (Ok done) honest may = tt
     met_may false (Err (Met fault)) honest (none, on) =
         as_before none.same on.ready honest (on.committed honest base (begun.committed base stands))
-        (then_run d0 s0.disk s1.disk (StandsOrWasLeft place d0 base) (StandsBeside s0 base) (begun.run base stands)
+        (then_run d0 s0.disk s1.disk (StandsOrWasLeft place d0 base) (LeavesCommitted s0 base) (begun.run base stands)
         (none.any_moment honest base (begun.committed base stands))
         (λ c s. inl (record { elsewhere = outside_store c s.beside; stands = (of.stands base c).0 s.stands })))
     met_may true (Err (Met fault)) honest (may, on) =
         as_before may.same on.ready honest (⊎_elim (λ was. was base (begun.committed base stands)) (λ is. is base (begun.keeps base stands)) (on.committed honest))
-        (then_run d0 s0.disk s1.disk (StandsOrWasLeft place d0 base) (StandsForEither s0 base base) (begun.run base stands)
+        (then_run d0 s0.disk s1.disk (StandsOrWasLeft place d0 base) (LeavesEither s0 base base) (begun.run base stands)
         (may.any_moment honest base base (begun.committed base stands) (begun.keeps base stands))
         (λ c s. inl (record { elsewhere = outside_store c s.beside; stands = (of.stands base c).0 (⊎_elim (λ was. was) (λ is. is) s.stands) })))
     met_may held (Err (Store cause)) honest may = tt
@@ -110,7 +110,7 @@ module _ (place : Place) (d0 d2 : DiskState) (s0 s1 : StoreState) (begun : IsOpe
         })))
         quiet
 
-    kept_run : {A : Type 0} (Makes : Base → Type 0) (May : Base → Base → Type 0) (result : Result A Stop) → s1.disk.is_honest → OnOk result (HasCommitted Makes s1) → OnOk result s1.is_ready → MayMake May s0 s1
+    kept_run : {A : Type 0} (Makes : Base → Type 0) (May : Base → Base → Type 0) (result : Result A CommandError) → s1.disk.is_honest → OnOk result (HasCommitted Makes s1) → OnOk result s1.is_ready → MayMake May s0 s1
         → OnOk result (IsKept place Makes d2)
     kept_run Makes May (Ok done) honest committed ready crash = record {
       next = committed.next;
@@ -120,7 +120,7 @@ module _ (place : Place) (d0 d2 : DiskState) (s0 s1 : StoreState) (begun : IsOpe
     }
     kept_run Makes May (Err why) honest committed ready crash = tt
 
-    pub run_on : {A : Type 0} (IsAnswer : Type 0) (Makes : Base → Type 0) (May : Base → Base → Type 0) (held : Bool) (result : Result A Stop) (before now : ℕ) → s1.disk.is_honest → (s0.keeps base → IsAnswer)
+    pub run_on : {A : Type 0} (IsAnswer : Type 0) (Makes : Base → Type 0) (May : Base → Base → Type 0) (held : Bool) (result : Result A CommandError) (before now : ℕ) → s1.disk.is_honest → (s0.keeps base → IsAnswer)
         → (s0.keeps base → OnOk result (HasCommitted Makes s1)) → OnOk result s1.is_ready → IfErr result (StaysWhereMet held s0 s1) → MayMake May s0 s1
         → HasStoreCause s0 s1 before now (store_answer result) → IsRunOn IsAnswer Makes (May base) place d0 d2 base result
     run_on IsAnswer Makes May held result before now honest answers committed ready met crash cause =

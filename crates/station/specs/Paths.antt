@@ -7,5 +7,5 @@ abbrev pub dotted : Address → List ℕ
 dotted a = decimal a.zone ++ (codes "." ++ (decimal a.net ++ (codes "." ++ decimal a.node)))
 
 -- the path beside a path that the system of this name writes
-abbrev pub path_beside : List ℕ → List ℕ → List ℕ
-path_beside path own = path ++ (codes ".~" ++ (own ++ codes "~.new"))
+abbrev pub staging_path : List ℕ → List ℕ → List ℕ
+staging_path path own = path ++ (codes ".~" ++ (own ++ codes "~.new"))

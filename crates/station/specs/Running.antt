@@ -7,8 +7,8 @@ use Rattle.echo_links.specs.Links.{LinkFile}
 use Rattle.cmd_status.specs.declared.fault.Fault.{Fault}
 use Rattle.cmd_status.specs.Devices.{Output}
 use Rattle.base_store.specs.declared.store_error.StoreError.TheVariants.{Damaged, Device}
-use Rattle.cmd_store.specs.declared.stop.Stop.{Stop}
-use Rattle.cmd_store.specs.declared.stop.Stop.TheVariants.{Met, Store}
+use Rattle.cmd_store.specs.declared.command_error.CommandError.{CommandError}
+use Rattle.cmd_store.specs.declared.command_error.CommandError.TheVariants.{Met, Store}
 use Rattle.station.specs.Place.{Place, SameElsewhere, StandsOrWasLeft}
 
 -- the files stand for a base that the command makes, as they are seen and whatever a crash leaves
@@ -34,12 +34,12 @@ pub record StandsAsBefore (place : Place) (old new : DiskState) (base : Base) : 
   pub stands : (c : Files) → new.may_leave c → place.stands_for base c
 
 -- where the store did not fail, the files stand for the base from before
-abbrev pub StandsWhereMet : Place → DiskState → DiskState → Base → Stop → Type 0
+abbrev pub StandsWhereMet : Place → DiskState → DiskState → Base → CommandError → Type 0
 StandsWhereMet place old new base (Met fault) = StandsAsBefore place old new base
 StandsWhereMet place old new base (Store cause) = Unit {0}
 
 -- what is so of a run on a station whose files stood for this base
-pub record IsRunOn {A : Type 0} (IsAnswer : Type 0) (Makes May : Base → Type 0) (place : Place) (old new : DiskState) (base : Base) (result : Result A Stop) : Type 0 where
+pub record IsRunOn {A : Type 0} (IsAnswer : Type 0) (Makes May : Base → Type 0) (place : Place) (old new : DiskState) (base : Base) (result : Result A CommandError) : Type 0 where
   pub answer : IsAnswer
   pub kept : OnOk result (IsKept place Makes new)
   pub met : IfErr result (StandsWhereMet place old new base)
@@ -47,14 +47,14 @@ pub record IsRunOn {A : Type 0} (IsAnswer : Type 0) (Makes May : Base → Type 0
   pub whole : IsErrOf result (Store Damaged) → ⊥
 
 -- the command was run with this link file, for whatever base the files stood
-pub record IsRun {A : Type 0} (IsAnswer : LinkFile → Base → Type 0) (Makes May : LinkFile → Base → Base → Type 0) (place : Place) (Reads : LinkFile → Type 0) (failed : Type 0) (old new : DiskState) (result : Result A Stop) : Type 0 where
+pub record IsRun {A : Type 0} (IsAnswer : LinkFile → Base → Type 0) (Makes May : LinkFile → Base → Base → Type 0) (place : Place) (Reads : LinkFile → Type 0) (failed : Type 0) (old new : DiskState) (result : Result A CommandError) : Type 0 where
   pub file : LinkFile
   pub read : Reads file
   pub runs : (base : Base) → place.stands_for base old.seen → IsRunOn (IsAnswer file base) (Makes file base) (May file base) place old new base result
   pub cause : IsErrOf result (Store Device) → failed
 
 -- The command was not run, for this reason: nothing is printed, and a crash meanwhile leaves the base from before.
-pub record IsNotRun {A : Type 0} (place : Place) (Shut : Fault → Type 0) (old new : DiskState) (old_out new_out : Output) (result : Result A Stop) : Type 0 where
+pub record IsNotRun {A : Type 0} (place : Place) (Shut : Fault → Type 0) (old new : DiskState) (old_out new_out : Output) (result : Result A CommandError) : Type 0 where
   pub fault : Fault
   pub is : result ≡ Err (Met fault)
   pub cause : Shut fault
@@ -62,7 +62,7 @@ pub record IsNotRun {A : Type 0} (place : Place) (Shut : Fault → Type 0) (old 
   pub crash : (base : Base) → place.stands_for base old.seen → LeavesOnly old new (StandsOrWasLeft place old base)
 
 -- The program stopped the command on the open station, for this reason: nothing is printed, and the base is as before.
-pub record IsStopped {A : Type 0} (place : Place) (Stops : Fault → Type 0) (old new : DiskState) (old_out new_out : Output) (result : Result A Stop) : Type 0 where
+pub record IsStopped {A : Type 0} (place : Place) (Stops : Fault → Type 0) (old new : DiskState) (old_out new_out : Output) (result : Result A CommandError) : Type 0 where
   pub fault : Fault
   pub is : result ≡ Err (Met fault)
   pub cause : Stops fault
@@ -71,7 +71,7 @@ pub record IsStopped {A : Type 0} (place : Place) (Stops : Fault → Type 0) (ol
 
 -- What comes of a command on a station. It is not run where that is shut, as is said of the fault, or where the program stops it.
 abbrev pub RunsIn : {A : Type 0} → (LinkFile → Base → Type 0) → (LinkFile → Base → Base → Type 0) → (LinkFile → Base → Base → Type 0) → Place → (LinkFile → Type 0) → (Fault → Type 0) → (Fault → Type 0) → Type 0
-    → DiskState → DiskState → Output → Output → Result A Stop → Type 0
+    → DiskState → DiskState → Output → Output → Result A CommandError → Type 0
 RunsIn IsAnswer Makes May place Reads Shut Stops failed old new old_out new_out result =
     IsRun IsAnswer Makes May place Reads failed old new result
     ⊎ (IsNotRun place Shut old new old_out new_out result ⊎ IsStopped place Stops old new old_out new_out result)

@@ -4,7 +4,7 @@
 //! is held. What a command promises on a store, `run_command` promises on the disk.
 //!
 //! Modules in reading order: `locked` (the lock of a file), `paths` (staging paths), `reading` and `links` (the link
-//! file), `watching` (progress while a base file is read); `locks` (the locks of a station), `opening` (the trait of
+//! file), `progress` (progress while a base file is read); `locks` (the locks of a station), `opening` (the trait of
 //! a kind of station), `before` (what a program does with the store before the command), `running` and `lending` (the
 //! disk of a store is used for other files).
 #![tactic(auto)]
@@ -16,9 +16,9 @@ mod locked;
 mod locks;
 mod opening;
 mod paths;
+mod progress;
 mod reading;
 mod running;
-mod watching;
 
 pub use before::{BeforeCommand, Nothing, Unread};
 pub use lending::{LendStation, OwnPaths};
@@ -26,6 +26,6 @@ pub use links::{links_at, lock_at, lock_links};
 pub use locked::FileLock;
 pub use locks::Locks;
 pub use opening::{OpenStation, Opened, Stopped};
-pub use paths::{path_beside, system_name};
+pub use paths::{staging_path, system_name};
+pub use progress::{Followed, MessageProgress, Unwatched};
 pub use running::{Ended, run_command};
-pub use watching::{Followed, Unwatched, Watching};

@@ -1,20 +1,20 @@
 //! Staging paths of files.
 ghost use Rattle.std.specs.Prelude.{◌≡◌, ◌≢◌, All, IfOk};
-ghost use Rattle.station.specs.Paths.{dotted, path_beside};
+ghost use Rattle.station.specs.Paths.{dotted, staging_path};
 
 use echo_addr::Address;
 use echo_links::LinkFile;
 use std::alloc::{AllocError, Global};
 
 /// The staging path of a file for the system of this name.
-pub fn path_beside(alloc: Global, path: &[u8], own: &[u8]) -> Result<Vec<u8>, AllocError>
-    ensures { IfOk result (λ beside. beside.items ≡ path_beside path.now own.now) }
+pub fn staging_path(alloc: Global, path: &[u8], own: &[u8]) -> Result<Vec<u8>, AllocError>
+    ensures { IfOk result (λ staging. staging.items ≡ staging_path path.now own.now) }
 {
-    let mut beside = Vec::from_slice(alloc, path)?;
-    beside.extend_from_slice(b".~")?;
-    beside.extend_from_slice(own)?;
-    beside.extend_from_slice(b"~.new")?;
-    Ok(beside)
+    let mut staging = Vec::from_slice(alloc, path)?;
+    staging.extend_from_slice(b".~")?;
+    staging.extend_from_slice(own)?;
+    staging.extend_from_slice(b"~.new")?;
+    Ok(staging)
 }
 
 /// The own system of a link file, as names of files spell it.

@@ -11,7 +11,7 @@ use crate::FileLock;
 use crate::before::BeforeCommand;
 use crate::locks::Locks;
 use crate::opening::{OpenStation, Opened};
-use cmd_store::{Stop, StoreCommand};
+use cmd_store::{CommandError, StoreCommand};
 use disk_io::{Disk, Sink};
 use std::alloc::Global;
 
@@ -19,7 +19,7 @@ use std::alloc::Global;
 #[derive(Drop)]
 pub struct Ended<'a, D, A> {
     pub disk: D,
-    pub done: Result<A, Stop<'a>>,
+    pub done: Result<A, CommandError<'a>>,
 }
 
 /// Opens a station as a store, gives it to the program, and runs a command on it.
@@ -72,14 +72,14 @@ pub fn run_command<
                     let disk = P::into_disk(kept);
                     Ended {
                         disk,
-                        done: Err(Stop::Met(fault)),
+                        done: Err(CommandError::Met(fault)),
                     }
                 }
             }
         }
         Err(stopped) => Ended {
             disk: stopped.disk,
-            done: Err(Stop::Met(stopped.fault)),
+            done: Err(CommandError::Met(stopped.fault)),
         },
     }
 }

@@ -12,7 +12,7 @@ use Rattle.base_log.specs.Log.{IsLog, IsShutAt, last_told, opened}
 use Rattle.base_log.specs.Names.{keys_of, log_of, messages_of}
 use Rattle.base_log.specs.Standing.{BaseBytes, IsEnded, StandsFor, base_at}
 use Rattle.base_log.specs.declared.log.End.{End}
-use Rattle.base_log.specs.declared.log.Told.{Told}
+use Rattle.base_log.specs.declared.log.CommitRecord.{CommitRecord}
 use Rattle.base_log.proofs.Paths.{keys_in, log_in, messages_in}
 use Rattle.base_log.proofs.Same.{AreThere-same, TellsBase-same}
 use Rattle.base_folder_store.specs.Held.{HoldsBase}
@@ -55,7 +55,7 @@ module _ (path : List ℕ) (d e : DiskState) (run : ChangesOnly (Outside path) d
   inside : (m : List ℕ) → IsIn path m → Outside path m → ⊥
   inside m is out = out is
 
-  base_same : (told : Told) → base_at e path told ≡ base_at d path told
+  base_same : (told : CommitRecord) → base_at e path told ≡ base_at d path told
   base_same told =
       let m = run.seen (messages_of path told.number) (inside (messages_of path told.number) (messages_in path told.number)) in
       let k = run.seen (keys_of path told.number) (inside (keys_of path told.number) (keys_in path told.number)) in
@@ -70,7 +70,7 @@ module _ (path : List ℕ) (d e : DiskState) (run : ChangesOnly (Outside path) d
   }
 
   -- what is staged is so still
-  staged_same : (end : End) (told : Told) → IsStaged d path end told → IsStaged e path end told
+  staged_same : (end : End) (told : CommitRecord) → IsStaged d path end told → IsStaged e path end told
   staged_same end told was =
       let m_in = messages_in path told.number in
       let k_in = keys_in path told.number in

@@ -6,8 +6,8 @@ use Rattle.disk_io.specs.Disk.{DiskState, Files}
 use Rattle.disk_io.specs.Runs.{ChangesNothing, LeavesOnly}
 use Rattle.disk_io.proofs.Moments.{nothing_twice, then_run, weaker_run}
 use Rattle.base_folder.specs.Ours.{IsLeftAlone, IsNotOurs}
-use Rattle.base_folder.specs.declared.unread.Unread.{Unread}
-use Rattle.base_folder.specs.declared.unread.Unread.TheVariants as unread
+use Rattle.base_folder.specs.declared.open_error.OpenError.{OpenError}
+use Rattle.base_folder.specs.declared.open_error.OpenError.TheVariants as unread
 use Rattle.station_bases.specs.Opening.{IsNotOpened}
 use Rattle.cmd_status.specs.declared.fault.Fault.{Fault}
 use Rattle.base_folder_store.specs.Held.{StandsForBase, StandsForBaseAlone, StandsForBaseOrWasLeft}
@@ -36,7 +36,7 @@ quiet_then keyed path base d e f quiet run =
     (λ was. inr (quiet.no_more c was))
     left)
 
-left_alone : (d e f : DiskState) (why : Unread) → ChangesNothing d e → IsLeftAlone e f why → IsLeftAlone d f why
+left_alone : (d e f : DiskState) (why : OpenError) → ChangesNothing d e → IsLeftAlone e f why → IsLeftAlone d f why
 left_alone d e f (unread.NotOwner address) quiet left = nothing_twice d e f quiet left
 left_alone d e f unread.Memory quiet left = tt
 left_alone d e f unread.Device quiet left = tt

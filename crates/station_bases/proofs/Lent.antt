@@ -6,7 +6,7 @@ use Rattle.disk_io.specs.Disk.{DiskState, Files}
 use Rattle.disk_io.specs.Runs.{OneStepOn}
 use Rattle.disk_io.proofs.Moments.{left_now}
 use Rattle.disk_atomic.specs.Changes.{ChangesOnly, DifferAt}
-use Rattle.station.specs.Paths.{path_beside}
+use Rattle.station.specs.Paths.{staging_path}
 use Rattle.cmd_status.specs.Inputs.{IsBaseGiven}
 use Rattle.station.specs.Beneath.{HoldsAsBefore, IsGivenBack}
 use Rattle.station_bases.specs.InFile.{IsInFile, IsOfFile, file_state}
@@ -52,8 +52,8 @@ pub suffix_none : (b name : List ℕ) → ((front : List ℕ) → name ≢ front
 suffix_none b name other = (λ (is : false ≡ true). absurd cc, λ from. absurd (other from.0 from.1))
 
 -- the path of the file, or one beside it
-pub of_beside : (base path : List ℕ) → ((own : List ℕ) × (path ≡ path_beside base own)) → IsTrue true ↔ ((own : List ℕ) × IsOfFile base own path)
-of_beside base path from = (λ is. (from.0, inl from.1), λ of. refl)
+pub of_staging : (base path : List ℕ) → ((own : List ℕ) × (path ≡ staging_path base own)) → IsTrue true ↔ ((own : List ℕ) × IsOfFile base own path)
+of_staging base path from = (λ is. (from.0, inl from.1), λ of. refl)
 
-pub of_same : (base path : List ℕ) (same : Bool) → (((own : List ℕ) × (path ≡ path_beside base own)) → ⊥) → IsTrue same ↔ (path ≡ base) → IsTrue same ↔ ((own : List ℕ) × IsOfFile base own path)
-of_same base path same off iff = (λ is. ([], inr (iff.0 is)), λ of. ⊎_elim (λ beside. absurd (off (of.0, beside))) (λ is. iff.1 is) of.1)
+pub of_same : (base path : List ℕ) (same : Bool) → (((own : List ℕ) × (path ≡ staging_path base own)) → ⊥) → IsTrue same ↔ (path ≡ base) → IsTrue same ↔ ((own : List ℕ) × IsOfFile base own path)
+of_same base path same off iff = (λ is. ([], inr (iff.0 is)), λ of. ⊎_elim (λ staging. absurd (off (of.0, staging))) (λ is. iff.1 is) of.1)

@@ -6,9 +6,9 @@ use Rattle.disk_io.specs.Runs.{LeavesOnly, OneStepOn}
 use Rattle.disk_io.proofs.Moments.{no_call, weaker_run}
 use Rattle.disk_atomic.specs.Changes.{ChangesOnly, HasOnDisk}
 use Rattle.disk_atomic.specs.Replacing.{Replaces}
-use Rattle.station.specs.Paths.{path_beside}
+use Rattle.station.specs.Paths.{staging_path}
 use Rattle.cmd_status.specs.Inputs.{IsBaseGiven}
-use Rattle.base_store.specs.Store.{CommitsNothing, MayCommit, StandsBeside, StandsForEither}
+use Rattle.base_store.specs.Store.{CommitsNothing, MayCommit, LeavesCommitted, LeavesEither}
 use Rattle.station_bases.specs.InFile.{IsInFile, IsOfFile, PutsBase, StandsInFile, file_state}
 
 -- no step yet
@@ -22,9 +22,9 @@ pub stands_now : (path bytes : List ℕ) (base : Base) (c : Files) → IsBaseGiv
 stands_now path bytes base c says is = subst (λ f. IsBaseGiven f base.messages base.cursor) (sym is) says
 
 pub put_run : (path own bytes : List ℕ) (base : Base) (d0 d1 : DiskState) → IsBaseGiven (Some bytes) base.messages base.cursor
-    → LeavesOnly d0 d1 (OneStepOn (Replaces path (path_beside path own) bytes) d0) → LeavesOnly d0 d1 (OneStepOn (PutsBase path own base) d0)
+    → LeavesOnly d0 d1 (OneStepOn (Replaces path (staging_path path own) bytes) d0) → LeavesOnly d0 d1 (OneStepOn (PutsBase path own base) d0)
 put_run path own bytes base d0 d1 says run =
-    weaker_run d0 d1 (OneStepOn (Replaces path (path_beside path own) bytes) d0) (OneStepOn (PutsBase path own base) d0) run
+    weaker_run d0 d1 (OneStepOn (Replaces path (staging_path path own) bytes) d0) (OneStepOn (PutsBase path own base) d0) run
     (λ c step. (step.0, step.1, record { others = step.2.others; either = ⊎_elim (λ was. inl was) (λ is. inr (stands_now path bytes base c says is)) step.2.either }))
 
 pub put_now : (path bytes : List ℕ) (base : Base) (d : DiskState) → IsBaseGiven (Some bytes) base.messages base.cursor → HasOnDisk d path bytes → IsInFile d path base
@@ -38,7 +38,7 @@ module _ (path own : List ℕ) (base : Base) (d0 d1 : DiskState) (p0 p1 : ℕ) (
   pub may_commit : LeavesOnly d0 d1 (OneStepOn (PutsBase path own base) d0) → MayCommit (file_state d0 path own base p0) (file_state d1 path own base p1)
   may_commit run = record {
     any_moment = λ honest first next was is.
-        weaker_run d0 d1 (OneStepOn (PutsBase path own base) d0) (StandsForEither (file_state d0 path own base p0) first next) run
+        weaker_run d0 d1 (OneStepOn (PutsBase path own base) d0) (LeavesEither (file_state d0 path own base p0) first next) run
         (λ c step. record {
           beside = λ m other named flushed. step.2.others m other ∙ d0.on_disk m named flushed step.0 step.1;
           stands = ⊎_elim (λ (same : c path ≡ step.0 path). inl (subst (λ f. IsBaseGiven f first.messages first.cursor) (sym same) (was.left step.0 step.1)))

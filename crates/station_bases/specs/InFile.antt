@@ -7,7 +7,7 @@ use Rattle.echo_filed.specs.Filed.{Filed}
 use Rattle.echo_filed.specs.Stored.{is_short_enough, stored_as}
 use Rattle.disk_atomic.specs.Changes.{DifferAt}
 use Rattle.cmd_status.specs.Inputs.{IsBaseGiven}
-use Rattle.station.specs.Paths.{path_beside}
+use Rattle.station.specs.Paths.{staging_path}
 use Rattle.base_store.specs.Store.{StoreState}
 use Rattle.base_store.specs.declared.store_error.StoreError.{StoreError}
 use Rattle.base_store.specs.declared.store_error.StoreError.TheVariants as error
@@ -23,7 +23,7 @@ pub record IsInFile (disk : DiskState) (path : List ℕ) (base : Base) : Type 0 
 
 -- the base file's path, or the one beside it
 abbrev pub IsOfFile : List ℕ → List ℕ → List ℕ → Type 0
-IsOfFile path own m = (m ≡ path_beside path own) ⊎ (m ≡ path)
+IsOfFile path own m = (m ≡ staging_path path own) ⊎ (m ≡ path)
 
 -- a base in memory, with the file in which it is committed
 abbrev pub file_state : DiskState → List ℕ → List ℕ → Base → ℕ → StoreState

@@ -3,9 +3,9 @@ use Rattle.std.specs.Prelude.{◌≡◌, ◌⊎◌, ◌↔◌, ℕ, Bool, List}
 use Rattle.echo_addr.specs.declared.address.Address.{Address}
 use Rattle.base_file.specs.Base.{Base}
 use Rattle.base_folder.specs.Ours.{IsLeftAlone, IsNotOurs, IsOfOther}
-use Rattle.base_folder.specs.Unread.{IsToldAs}
-use Rattle.base_folder.specs.declared.unread.Unread.{Unread}
-use Rattle.base_folder.specs.declared.unread.Unread.TheVariants as unread
+use Rattle.base_folder.specs.OpenError.{IsToldAs}
+use Rattle.base_folder.specs.declared.open_error.OpenError.{OpenError}
+use Rattle.base_folder.specs.declared.open_error.OpenError.TheVariants as unread
 use Rattle.disk_io.specs.Disk.{DiskState, Files, IsIn}
 use Rattle.disk_io.specs.Runs.{ChangesNothing, LeavesOnly}
 use Rattle.base_log.specs.Moments.{KeepsOutside}
@@ -18,7 +18,7 @@ use Rattle.base_store.specs.Store.{StoreState}
 
 -- the folder is not opened for the system
 pub record IsNotOpened (own : Address) (strange : Bool) (base path : List ℕ) (failed : Type 0) (old new : DiskState) (fault : Fault) : Type 0 where
-  pub why : Unread
+  pub why : OpenError
   pub wrong : IsNotOurs own strange path old.seen why
   pub left : IsLeftAlone old new why
   pub told : IsToldAs base why fault

@@ -11,7 +11,7 @@ ghost use Rattle.station.specs.Opening.{HaveFailed};
 ghost use Rattle.station_bases.specs.Opening.{IsBegun, IsLockedOut, IsOfFolder, IsShut};
 
 use crate::opening::{Station, open_station};
-use crate::place::{FolderPlace, Found};
+use crate::place::{FolderPlace, FolderProbe};
 use base_folder_store::FolderStore;
 use base_store::{Digest, Store};
 use cmd_status::Fault;
@@ -41,7 +41,7 @@ pub(crate) fn open_store<'a, D: Disk + Drop, H: Digest, L: FileLock, K: FileLock
     lock: &mut L,
     held: &mut K,
     at: FolderPlace<'a>,
-    found: Found,
+    found: FolderProbe,
 ) -> Result<Begun<D, H>, NotBegun<'a, D>>
     requires free { L.held lock.old ≡ None }
     requires folder_free { K.held held.old ≡ None }

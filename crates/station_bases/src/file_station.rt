@@ -6,7 +6,7 @@ ghost use Rattle.station_bases.specs.Reading.{IsShutFor, file_place};
 use crate::file_store::FileStore;
 use crate::loading::{Read, read_station};
 use disk_io::Disk;
-use station::{FileLock, Locks, OpenStation, Opened, Stopped, Watching};
+use station::{FileLock, Locks, MessageProgress, OpenStation, Opened, Stopped};
 use std::alloc::Global;
 use std::hash::BuildHasher;
 
@@ -20,7 +20,7 @@ pub struct FileStation<'a, S, T> {
     pub watch: T,
 }
 
-impl<'a, D: Disk + Drop, S: BuildHasher + Drop, T: Watching + Drop> OpenStation<'a, D>
+impl<'a, D: Disk + Drop, S: BuildHasher + Drop, T: MessageProgress + Drop> OpenStation<'a, D>
     for FileStation<'a, S, T> {
     type Kept = FileStore<'a, D, S>;
 

@@ -5,7 +5,7 @@ ghost use Rattle.base_log.specs.Opening.{AreAlone};
 ghost use Rattle.station_bases.specs.InFolder.{IsFolderShut, IsOwnLinks, folder_place};
 
 use crate::beginning::{Begun, open_store};
-use crate::place::{FolderPlace, Found};
+use crate::place::{FolderPlace, FolderProbe};
 use base_folder_store::FolderStore;
 use base_store::{Digest, Store};
 use disk_io::Disk;
@@ -17,7 +17,7 @@ use std::marker::PhantomData;
 #[derive(Drop)]
 pub struct FolderStation<'a, H> {
     pub at: FolderPlace<'a>,
-    pub found: Found,
+    pub found: FolderProbe,
     pub digests: PhantomData<H>,
 }
 

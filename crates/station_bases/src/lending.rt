@@ -1,12 +1,12 @@
 //! The disk of a station with a base file is used for other files.
 ghost use Rattle.std.specs.Prelude.{◌≡◌, ◌↔◌, ◌++◌, ℕ, List, IsTrue, codes};
-ghost use Rattle.station.specs.Paths.{path_beside};
+ghost use Rattle.station.specs.Paths.{staging_path};
 ghost use Rattle.station_bases.specs.InFile.{IsOfFile, file_state};
 
 use crate::file_station::FileStation;
 use crate::file_store::{FileRest, FileStore};
 use disk_io::Disk;
-use station::{LendStation, OwnPaths, Watching};
+use station::{LendStation, MessageProgress, OwnPaths};
 use std::alloc::Global;
 use std::hash::BuildHasher;
 
@@ -33,7 +33,7 @@ impl OwnPaths for FilePaths<'_> {
 fn is_of_file(base: &[u8], path: &[u8]) -> bool
     ensures { IsTrue result ↔ ((own : List ℕ) × IsOfFile base.now own path.now) }
 {
-    if is_beside(base, path) {
+    if is_staging(base, path) {
         return true;
     }
     is_same(path, base)
@@ -46,8 +46,8 @@ fn is_same(one: &[u8], other: &[u8]) -> bool
 }
 
 // Whether the path is a staging path of the other.
-fn is_beside(base: &[u8], path: &[u8]) -> bool
-    ensures { IsTrue result ↔ ((own : List ℕ) × (path.now ≡ path_beside base.now own)) }
+fn is_staging(base: &[u8], path: &[u8]) -> bool
+    ensures { IsTrue result ↔ ((own : List ℕ) × (path.now ≡ staging_path base.now own)) }
 {
     match path.strip_prefix(base) {
         Some(rest) => is_ending(rest),
@@ -75,7 +75,7 @@ fn is_new(name: &[u8]) -> bool
     }
 }
 
-impl<'a, D: Disk + Drop, S: BuildHasher + Drop, T: Watching + Drop> LendStation<'a, D>
+impl<'a, D: Disk + Drop, S: BuildHasher + Drop, T: MessageProgress + Drop> LendStation<'a, D>
     for FileStation<'a, S, T> {
     type Rest = FileRest<'a, S>;
 

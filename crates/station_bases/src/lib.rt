@@ -22,4 +22,4 @@ pub use file_store::{FileRest, FileStore};
 pub use folder_lending::FolderPaths;
 pub use folder_station::FolderStation;
 pub use lending::FilePaths;
-pub use place::{FolderPlace, Found};
+pub use place::{FolderPlace, FolderProbe};

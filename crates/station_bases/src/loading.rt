@@ -17,7 +17,7 @@ use cmd_status::Fault;
 use disk_io::{Disk, DiskError, folder_of, read_file};
 use echo_addr::Items;
 use echo_links::LinkFile;
-use station::{FileLock, Followed, Locks, Watching, links_at, lock_at, system_name};
+use station::{FileLock, Followed, Locks, MessageProgress, links_at, lock_at, system_name};
 use std::alloc::Global;
 use std::hash::BuildHasher;
 
@@ -49,7 +49,7 @@ fn bytes_synced<D: Disk>(
 }
 
 // The base in a base file; without a file the base is empty.
-fn loaded<'a, S: BuildHasher + Drop, T: Watching>(
+fn loaded<'a, S: BuildHasher + Drop, T: MessageProgress>(
     alloc: Global,
     bytes: Option<Items<u8>>,
     hasher: S,
@@ -69,7 +69,7 @@ fn loaded<'a, S: BuildHasher + Drop, T: Watching>(
 }
 
 // Reads the base file of the station, under its locks.
-fn base_at<'a, D: Disk, L: FileLock, K: FileLock, S: BuildHasher + Drop, T: Watching + Drop>(
+fn base_at<'a, D: Disk, L: FileLock, K: FileLock, S: BuildHasher + Drop, T: MessageProgress + Drop>(
     alloc: Global,
     disk: &mut D,
     _locks: &Locks<L, K>,
@@ -97,7 +97,14 @@ fn base_at<'a, D: Disk, L: FileLock, K: FileLock, S: BuildHasher + Drop, T: Watc
 }
 
 // Takes the lock of the base file, after that of the link file, and reads it.
-fn locked_base<'a, D: Disk, L: FileLock, K: FileLock, S: BuildHasher + Drop, T: Watching + Drop>(
+fn locked_base<
+    'a,
+    D: Disk,
+    L: FileLock,
+    K: FileLock,
+    S: BuildHasher + Drop,
+    T: MessageProgress + Drop,
+>(
     alloc: Global,
     disk: &mut D,
     locks: &mut Locks<L, K>,
@@ -124,7 +131,7 @@ pub(crate) fn read_station<
     L: FileLock,
     K: FileLock,
     S: BuildHasher + Drop,
-    T: Watching + Drop,
+    T: MessageProgress + Drop,
 >(
     alloc: Global,
     disk: &mut D,

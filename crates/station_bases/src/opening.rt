@@ -15,7 +15,7 @@ ghost use Rattle.station.specs.Links.{AreLinks};
 ghost use Rattle.station.specs.Opening.{HaveFailed};
 ghost use Rattle.station_bases.specs.Opening.{IsLockedOut, IsNotOpened, IsShut};
 
-use crate::place::{FolderPlace, Found};
+use crate::place::{FolderPlace, FolderProbe};
 use base_folder::open_own;
 use base_folder_store::Folder;
 use cmd_status::Fault;
@@ -33,7 +33,7 @@ fn folder_at<'a, D: Disk, L: FileLock, K: FileLock>(
     _lock: &L,
     _held: &K,
     at: FolderPlace<'a>,
-    found: Found,
+    found: FolderProbe,
     own: Address,
 ) -> Result<Folder, Fault<'a>>
     requires links_locked { L.held _lock.now ≡ Some at.links.now }
@@ -74,7 +74,7 @@ pub(crate) fn open_station<'a, D: Disk, L: FileLock, K: FileLock>(
     lock: &mut L,
     held: &mut K,
     at: FolderPlace<'a>,
-    found: Found,
+    found: FolderProbe,
 ) -> Result<Station, Fault<'a>>
     requires free { L.held lock.old ≡ None }
     requires folder_free { K.held held.old ≡ None }

@@ -12,7 +12,7 @@ pub struct FolderPlace<'a> {
 /// What a program found of a folder: whether it has foreign files, and the two halves of a key for digests. A folder
 /// without messages gets this key.
 #[derive(Clone, Copy, Debug)]
-pub struct Found {
+pub struct FolderProbe {
     pub strange: bool,
     pub key: (u64, u64),
 }

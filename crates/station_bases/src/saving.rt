@@ -4,7 +4,7 @@ ghost use Rattle.base_file.specs.BaseFile.{saved_bytes};
 ghost use Rattle.disk_io.specs.Runs.{HasCause, LeavesOnly, OneStepOn};
 ghost use Rattle.disk_atomic.specs.Changes.{ChangesOnly, HasOnDisk};
 ghost use Rattle.disk_atomic.specs.Replacing.{Replaces};
-ghost use Rattle.station.specs.Paths.{path_beside};
+ghost use Rattle.station.specs.Paths.{staging_path};
 ghost use Rattle.cmd_status.specs.Inputs.{IsBaseGiven};
 ghost use Rattle.station_bases.specs.InFile.{HasRoomFor, HasWriteCause, IsInFile, IsOfFile, IsUnsaved, PutsBase};
 
@@ -14,7 +14,7 @@ use disk_atomic::replace_file;
 use disk_io::{Disk, DiskError, Watched, folder_of};
 use echo_addr::Items;
 use echo_filed::{Filed, is_short_enough};
-use station::path_beside;
+use station::staging_path;
 use std::alloc::Global;
 use std::hash::BuildHasher;
 
@@ -61,13 +61,13 @@ fn put<D: Disk>(
 ) -> Result<(), DiskError>
     requires { All (λ b. b ≢ 47) own.now }
     ensures written { OnOk result (HasOnDisk (D.state disk.new) path.now bytes.now) }
-    ensures any_moment { LeavesOnly (D.state disk.old) (D.state disk.new) (OneStepOn (Replaces path.now (path_beside path.now own.now) bytes.now) (D.state disk.old)) }
+    ensures any_moment { LeavesOnly (D.state disk.old) (D.state disk.new) (OneStepOn (Replaces path.now (staging_path path.now own.now) bytes.now) (D.state disk.old)) }
     ensures changes { ChangesOnly (IsOfFile path.now own.now) (D.state disk.old) (D.state disk.new) }
     ensures cause { HasCause (D.failures disk.old) (D.failures disk.new) result }
 {
     let path = path.as_bytes();
-    let beside = path_beside(alloc, path, own)?;
-    replace_file(disk, folder_of(path), path, &beside, bytes)
+    let staging = staging_path(alloc, path, own)?;
+    replace_file(disk, folder_of(path), path, &staging, bytes)
 }
 
 /// Replaces the base in a file.

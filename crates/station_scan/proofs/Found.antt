@@ -1,15 +1,15 @@
 -- What is found of what was listed, one by one.
 use Rattle.std.proofs.Common.{◌≡◌, ⊎_elim, ◌∙◌, ◌<◌, ◌≤◌, ℕ, List, [], ◌∷◌, ◌++◌, ap, arith, get_or, length, length-append, subst, sym}
 use Rattle.std.specs.Prelude.{All, AllPairs, Contains, IsSome, Option}
-use Rattle.station.specs.Paths.{path_beside}
+use Rattle.station.specs.Paths.{staging_path}
 use Rattle.std.proofs.lemmas.Bool.{cases_lt}
 use Rattle.std.proofs.lemmas.List.{get_or_append_left}
 use Rattle.std.proofs.Math.Seq.{get_or-append_seam}
 use Rattle.std.proofs.lemmas.List.Elements.{All-append, Contains-append_left}
 use Rattle.disk_io.specs.Disk.{Files}
-use Rattle.station_scan.specs.declared.listing.LeftPacket.{LeftPacket}
+use Rattle.station_scan.specs.declared.listing.StagedPacket.{StagedPacket}
 use Rattle.station_scan.specs.declared.finding.LeftPaths.{LeftPaths}
-use Rattle.station_scan.specs.Left.{Adds, AreFound, HaveOtherLeft, IsAmong, IsBesideThere, IsFound, IsFoundWhere}
+use Rattle.station_scan.specs.Left.{Adds, AreFound, HaveOtherLeft, IsAmong, IsStagingThere, IsFound, IsFoundWhere}
 
 -- one more behind those that are related to it
 pub pairs_more : {X : Type 0} (R : X → X → Type 0) (xs : List X) (y : X) → AllPairs R xs → All (λ (x : X). R x y) xs → AllPairs R (xs ++ y ∷ [])
@@ -30,7 +30,7 @@ pairs_more {X} R xs y pairs all = λ k j z kj hi.
 one_all : {X : Type 0} (P : X → Type 0) (x : X) → P x → All P (x ∷ [])
 one_all {X} P x is = λ k d lt. let first : k ≡ 0 = omega arith in subst (λ (n : ℕ). P (get_or (x ∷ []) n d)) (sym first) is
 
-module _ (Own : List ℕ → Type 0) (folder own : List ℕ) (named : List LeftPacket) (packet : LeftPacket) (listed : Contains named packet) (before after : List LeftPaths) where
+module _ (Own : List ℕ → Type 0) (folder own : List ℕ) (named : List StagedPacket) (packet : StagedPacket) (listed : Contains named packet) (before after : List LeftPaths) where
   pub adds_found : Adds Own folder own packet before after → AreFound Own folder own named before → AreFound Own folder own named after
   adds_found adds was =
       ⊎_elim (λ same. subst (λ (l : List LeftPaths). AreFound Own folder own named l) (sym same) was)
@@ -49,13 +49,13 @@ module _ (Own : List ℕ → Type 0) (folder own : List ℕ) (named : List LeftP
       adds
 
   -- what was found of those before
-  pub where_more : (files : Files) (p : LeftPacket) → Adds Own folder own packet before after → IsFoundWhere Own folder own files before p → IsFoundWhere Own folder own files after p
+  pub where_more : (files : Files) (p : StagedPacket) → Adds Own folder own packet before after → IsFoundWhere Own folder own files before p → IsFoundWhere Own folder own files after p
   where_more files p adds was = λ to. among_more (folder ++ p.name) adds (was to)
 
 -- the same files
-pub there_same : (files other : Files) (found : List LeftPaths) → ((m : List ℕ) → other m ≡ files m) → All (IsBesideThere files) found → All (IsBesideThere other) found
-there_same files other found same all = λ k d lt. let path = (get_or found k d).two.beside in subst (λ (f : Option (List ℕ)). IsSome f) (sym (same path)) (all k d lt)
+pub there_same : (files other : Files) (found : List LeftPaths) → ((m : List ℕ) → other m ≡ files m) → All (IsStagingThere files) found → All (IsStagingThere other) found
+there_same files other found same all = λ k d lt. let path = (get_or found k d).two.staging in subst (λ (f : Option (List ℕ)). IsSome f) (sym (same path)) (all k d lt)
 
-pub where_same : (Own : List ℕ → Type 0) (folder own : List ℕ) (files other : Files) (found : List LeftPaths) (p : LeftPacket) → ((m : List ℕ) → other m ≡ files m) → IsFoundWhere Own folder own files found p → IsFoundWhere Own folder own other found p
+pub where_same : (Own : List ℕ → Type 0) (folder own : List ℕ) (files other : Files) (found : List LeftPaths) (p : StagedPacket) → ((m : List ℕ) → other m ≡ files m) → IsFoundWhere Own folder own files found p → IsFoundWhere Own folder own other found p
 where_same Own folder own files other found p same was =
-    λ to. was (record { plain = to.plain; off = to.off; there = subst (λ (f : Option (List ℕ)). IsSome f) (same (path_beside (folder ++ p.name) own)) to.there })
+    λ to. was (record { plain = to.plain; off = to.off; there = subst (λ (f : Option (List ℕ)). IsSome f) (same (staging_path (folder ++ p.name) own)) to.there })

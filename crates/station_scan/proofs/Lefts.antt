@@ -13,22 +13,22 @@ use Rattle.disk_atomic.specs.declared.finishing.Left.{Left}
 use Rattle.disk_atomic.specs.declared.placing_error.PlacingError.{PlacingError}
 use Rattle.disk_atomic.proofs.Changes.{only_nothing, then_only}
 use Rattle.disk_atomic.proofs.Ended.{quiet_then}
-use Rattle.station.proofs.BesidePaths.{beside_other}
-use Rattle.station_scan.specs.Listing.{AreListed, IsNumbered}
+use Rattle.station.proofs.StagingPaths.{staging_other}
+use Rattle.station_scan.specs.ListStaged.{AreListed, IsNumbered}
 use Rattle.station_scan.specs.Sending.{IsOffOwn}
-use Rattle.station_scan.specs.declared.listing.LeftPacket.{LeftPacket}
+use Rattle.station_scan.specs.declared.listing.StagedPacket.{StagedPacket}
 use Rattle.station_scan.specs.declared.finding.LeftPaths.{LeftPaths}
 use Rattle.station_scan.specs.declared.sending.TwoPaths.{TwoPaths}
-use Rattle.station_scan.specs.Left.{AreAllLeft, AreFound, AreFreeLeft, AreLent, EndsLeft, EndsThese, IsBesideThere, IsFound, IsFreeFound, IsFoundWhere, IsEndedAt, IsLeftOf, IsLent, IsOfNameOff, IsOfPaths, IsToFind}
-use Rattle.station_scan.proofs.Names.{four_apart, name_beside_in, name_in}
+use Rattle.station_scan.specs.Left.{AreAllLeft, AreFound, AreFreeLeft, AreLent, EndsLeft, EndsThese, IsStagingThere, IsFound, IsFreeFound, IsFoundWhere, IsEndedAt, IsLeftOf, IsLent, IsOfNameOff, IsOfPaths, IsToFind}
+use Rattle.station_scan.proofs.Names.{four_apart, name_staging_in, name_in}
 
 -- the packet with these paths
 as_left : LeftPaths → Left
-as_left w = record { path = record { ref_ptr = (0, 0); now = w.two.path }; beside = record { ref_ptr = (0, 0); now = w.two.beside }; before = w.before }
+as_left w = record { path = record { ref_ptr = (0, 0); now = w.two.path }; staging = record { ref_ptr = (0, 0); now = w.two.staging }; before = w.before }
 
 -- nothing that was left
 no_paths : LeftPaths
-no_paths = record { two = record { path = []; beside = [] }; before = 0 }
+no_paths = record { two = record { path = []; staging = [] }; before = 0 }
 
 nobody_left : Left
 nobody_left = as_left no_paths
@@ -39,7 +39,7 @@ all_lent paths = record {
   as_many = length-map paths as_left;
   each = λ k w l lt.
       let is = get_or-map as_left paths k w l lt in
-      record { path = ap (λ (x : Left). x.path.now) is; beside = ap (λ (x : Left). x.beside.now) is; before = ap (λ (x : Left). x.before) is };
+      record { path = ap (λ (x : Left). x.path.now) is; staging = ap (λ (x : Left). x.staging.now) is; before = ap (λ (x : Left). x.before) is };
 }
 
 -- a step that changes nothing
@@ -65,7 +65,7 @@ nothing_these cursor paths d0 d1 cause quiet = record {
 pub of_left_in : (folder : List ℕ) (found : List Left) → AreLeftIn folder found → (m : List ℕ) → IsOfLeft found m → IsIn folder m
 of_left_in folder found are m (l, is, at) =
     let one : IsLeftIn folder l = All-contains (IsLeftIn folder) found l are.each is in
-    ⊎_elim (λ e. subst (IsIn folder) (sym e) one.beside_in) (λ e. subst (IsIn folder) (sym e) one.path_in) at
+    ⊎_elim (λ e. subst (IsIn folder) (sym e) one.staging_in) (λ e. subst (IsIn folder) (sym e) one.path_in) at
 
 -- one that is over is so while nothing changes
 module _ (cursor : ℕ) (d0 d1 d2 : DiskState) (quiet : ChangesNothing d1 d2) where
@@ -75,11 +75,11 @@ module _ (cursor : ℕ) (d0 d1 d2 : DiskState) (quiet : ChangesNothing d1 d2) wh
         let moved = is.committed below in
         record {
           seen = quiet.seen l.path.now ∙ moved.seen;
-          gone = quiet.seen l.beside.now ∙ moved.gone;
+          gone = quiet.seen l.staging.now ∙ moved.gone;
           named = quiet.named l.path.now (λ h. h) moved.named;
           flushed = quiet.flushed l.path.now (λ h. h) moved.flushed;
         };
-    gone = λ above. quiet.seen l.beside.now ∙ is.gone above;
+    gone = λ above. quiet.seen l.staging.now ∙ is.gone above;
     untouched = λ above. quiet.seen l.path.now ∙ is.untouched above;
   }
 
@@ -89,8 +89,8 @@ module _ (cursor : ℕ) (folder : List ℕ) (found : List Left) (placed : AreLef
   is_flushed gone over m (l, is, at) =
       let one : IsOver cursor d0 d2 l = All-contains (IsOver cursor d0 d2) found l over is in
       let inside : IsLeftIn folder l = All-contains (IsLeftIn folder) found l placed.each is in
-      let none : d2.seen l.beside.now ≡ None = ⊎_elim (λ below. (one.committed below).gone) (λ above. one.gone above) (cases_lt l.before cursor) in
-      ⊎_elim (λ e. subst d2.is_flushed (sym e) (gone l.beside.now inside.beside_in none))
+      let none : d2.seen l.staging.now ≡ None = ⊎_elim (λ below. (one.committed below).gone) (λ above. one.gone above) (cases_lt l.before cursor) in
+      ⊎_elim (λ e. subst d2.is_flushed (sym e) (gone l.staging.now inside.staging_in none))
       (λ path.
       ⊎_elim (λ below. subst d2.is_flushed (sym path.0) (one.committed below).flushed)
       (λ free. gone m (subst (IsIn folder) (sym path.0) inside.path_in) free) path.1)
@@ -126,10 +126,10 @@ module _ (paths : List LeftPaths) (found : List Left) (lent : AreLent paths foun
   within k lt = subst (λ (n : ℕ). k < n) lent.as_many lt
 
   -- the files beside them are there
-  pub are_there : (disk : DiskState) → All (IsBesideThere disk.seen) paths → All (IsThere disk) found
+  pub are_there : (disk : DiskState) → All (IsStagingThere disk.seen) paths → All (IsThere disk) found
   are_there disk all k z lt =
       let is = lent.each k no_paths z (within k lt) in
-      subst (λ (m : List ℕ). IsSome (disk.seen m)) (sym is.beside) (all k no_paths (within k lt))
+      subst (λ (m : List ℕ). IsSome (disk.seen m)) (sym is.staging) (all k no_paths (within k lt))
 
   -- nothing has their paths
   pub are_free : (files : Files) → All (IsFreeFound files) paths → All (λ (l : Left). files l.path.now ≡ None) found
@@ -141,20 +141,20 @@ module _ (paths : List LeftPaths) (found : List Left) (lent : AreLent paths foun
   of_paths m (l, is, at) =
       let one : (w : LeftPaths) × Contains paths w × IsLent w l = All-contains (λ (x : Left). (w : LeftPaths) × Contains paths w × IsLent w x) found l
       (λ k z lt. (get_or paths k no_paths, Contains-get_or paths k no_paths (within k lt), lent.each k no_paths z (within k lt))) is in
-      (one.0, one.1, ⊎_elim (λ e. inl (e ∙ one.2.beside)) (λ e. inr (e ∙ one.2.path)) at)
+      (one.0, one.1, ⊎_elim (λ e. inl (e ∙ one.2.staging)) (λ e. inr (e ∙ one.2.path)) at)
 
-  module _ (Own : List ℕ → Type 0) (folder own : List ℕ) (named : List LeftPacket) (own_plain : All (λ b. b ≢ 47) own) (are : AreFound Own folder own named paths) where
+  module _ (Own : List ℕ → Type 0) (folder own : List ℕ) (named : List StagedPacket) (own_plain : All (λ b. b ≢ 47) own) (are : AreFound Own folder own named paths) where
     left_in : (k : ℕ) (z : Left) → k < length found → IsLeftIn folder (get_or found k z)
     left_in k z lt =
         let low = within k lt in
         let is = lent.each k no_paths z low in
         let (p, listed, like) = are.each k no_paths low in
         let path = is.path ∙ ap (λ (t : TwoPaths). t.path) like.two in
-        let beside = is.beside ∙ ap (λ (t : TwoPaths). t.beside) like.two in
+        let staging = is.staging ∙ ap (λ (t : TwoPaths). t.staging) like.two in
         record {
           path_in = subst (IsIn folder) (sym path) (name_in folder p.name like.plain);
-          beside_in = subst (IsIn folder) (sym beside) (name_beside_in folder own p.name like.plain own_plain);
-          other = λ e. beside_other (folder ++ p.name) own (sym beside ∙ e ∙ path);
+          staging_in = subst (IsIn folder) (sym staging) (name_staging_in folder own p.name like.plain own_plain);
+          other = λ e. staging_other (folder ++ p.name) own (sym staging ∙ e ∙ path);
         }
 
     two_away : (k j : ℕ) (z : Left) → k < j → j < length found → k < length found → AreAway (get_or found k z) (get_or found j z)
@@ -165,14 +165,14 @@ module _ (paths : List LeftPaths) (found : List Left) (lent : AreLent paths foun
         let (q, listed_q, like_q) = are.each j no_paths (within j hi) in
         let path_p = ap (λ (t : TwoPaths). t.path) like_p.two in
         let path_q = ap (λ (t : TwoPaths). t.path) like_q.two in
-        let beside_p = one.beside ∙ ap (λ (t : TwoPaths). t.beside) like_p.two in
-        let beside_q = other.beside ∙ ap (λ (t : TwoPaths). t.beside) like_q.two in
+        let staging_p = one.staging ∙ ap (λ (t : TwoPaths). t.staging) like_p.two in
+        let staging_q = other.staging ∙ ap (λ (t : TwoPaths). t.staging) like_q.two in
         let four = four_apart folder own p.name q.name like_p.plain like_q.plain (λ e. are.differ k j no_paths lt (within j hi) (path_p ∙ e ∙ sym path_q)) in
         record {
           paths = λ e. four.paths (sym (one.path ∙ path_p) ∙ e ∙ other.path ∙ path_q);
-          besides = λ e. four.besides (sym beside_p ∙ e ∙ beside_q);
-          path_beside = λ e. four.path_beside_other (sym (one.path ∙ path_p) ∙ e ∙ beside_q);
-          beside_path = λ e. four.beside_path (sym beside_p ∙ e ∙ other.path ∙ path_q);
+          stagings = λ e. four.stagings (sym staging_p ∙ e ∙ staging_q);
+          staging_path = λ e. four.path_staging_other (sym (one.path ∙ path_p) ∙ e ∙ staging_q);
+          staging_path = λ e. four.staging_path (sym staging_p ∙ e ∙ other.path ∙ path_q);
         }
 
     pub are_left_in : AreLeftIn folder found
@@ -187,15 +187,15 @@ module _ (paths : List LeftPaths) (found : List Left) (lent : AreLent paths foun
           p.name,
           record {
             path = is.path ∙ ap (λ (t : TwoPaths). t.path) like.two;
-            beside = is.beside ∙ ap (λ (t : TwoPaths). t.beside) like.two;
+            staging = is.staging ∙ ap (λ (t : TwoPaths). t.staging) like.two;
             plain = like.plain;
             off = subst (IsOffOwn Own) like.two like.off;
           },
-          λ truth. subst (λ (n : ℕ). IsNumbered n p.name) (sym (is.before ∙ like.before)) (All-contains (λ (l : LeftPacket). IsNumbered l.before l.name) named p (listed truth).each among),
+          λ truth. subst (λ (n : ℕ). IsNumbered n p.name) (sym (is.before ∙ like.before)) (All-contains (λ (l : StagedPacket). IsNumbered l.before l.name) named p (listed truth).each among),
         )
 
   -- and they are all
-  pub left_all : (is_true : Type 0) (Own : List ℕ → Type 0) (folder own : List ℕ) (files : Files) (named : List LeftPacket) → (is_true → AreListed folder own files named)
+  pub left_all : (is_true : Type 0) (Own : List ℕ → Type 0) (folder own : List ℕ) (files : Files) (named : List StagedPacket) → (is_true → AreListed folder own files named)
       → All (IsFoundWhere Own folder own files paths) named → AreAllLeft is_true Own folder own files found
   left_all is_true Own folder own files named listed all truth name before numbered to =
       let (p, among, same) = (listed truth).all name before numbered to.there in
@@ -207,26 +207,26 @@ module _ (paths : List LeftPaths) (found : List Left) (lent : AreLent paths foun
       )
 
 -- where nothing has the path of one that was left, nothing has the paths that were found
-pub free_found : (Own : List ℕ → Type 0) (folder own : List ℕ) (named : List LeftPacket) (paths : List LeftPaths) (files : Files) → AreFound Own folder own named paths → All (IsBesideThere files) paths
+pub free_found : (Own : List ℕ → Type 0) (folder own : List ℕ) (named : List StagedPacket) (paths : List LeftPaths) (files : Files) → AreFound Own folder own named paths → All (IsStagingThere files) paths
     → AreFreeLeft Own folder own files → All (IsFreeFound files) paths
 free_found Own folder own named paths files are there free k z lt =
     let (p, listed, like) = are.each k z lt in
     let path = ap (λ (t : TwoPaths). t.path) like.two in
-    let beside = ap (λ (t : TwoPaths). t.beside) like.two in
-    ap files path ∙ free p.name (record { plain = like.plain; off = subst (IsOffOwn Own) like.two like.off; there = subst (λ (m : List ℕ). IsSome (files m)) beside (there k z lt) })
+    let staging = ap (λ (t : TwoPaths). t.staging) like.two in
+    ap files path ∙ free p.name (record { plain = like.plain; off = subst (IsOffOwn Own) like.two like.off; there = subst (λ (m : List ℕ). IsSome (files m)) staging (there k z lt) })
 
 -- a path of one is that of a name
-pub left_of_name : (Own : List ℕ → Type 0) (folder own : List ℕ) (named : List LeftPacket) (paths : List LeftPaths) → AreFound Own folder own named paths → (m : List ℕ) → IsOfPaths paths m → IsOfNameOff Own folder own m
+pub left_of_name : (Own : List ℕ → Type 0) (folder own : List ℕ) (named : List StagedPacket) (paths : List LeftPaths) → AreFound Own folder own named paths → (m : List ℕ) → IsOfPaths paths m → IsOfNameOff Own folder own m
 left_of_name Own folder own named paths are m (w, is, at) =
     let (p, listed, like) = All-contains (IsFound Own folder own named) paths w are.each is in (
-      (p.name, like.plain, ⊎_elim (λ e. inl (e ∙ ap (λ (t : TwoPaths). t.beside) like.two)) (λ e. inr (e ∙ ap (λ (t : TwoPaths). t.path) like.two)) at),
-      λ o. ⊎_elim (λ (e : m ≡ w.two.beside). like.off.beside_path (subst Own e o)) (λ (e : m ≡ w.two.path). like.off.path (subst Own e o)) at,
+      (p.name, like.plain, ⊎_elim (λ e. inl (e ∙ ap (λ (t : TwoPaths). t.staging) like.two)) (λ e. inr (e ∙ ap (λ (t : TwoPaths). t.path) like.two)) at),
+      λ o. ⊎_elim (λ (e : m ≡ w.two.staging). like.off.staging_path (subst Own e o)) (λ (e : m ≡ w.two.path). like.off.path (subst Own e o)) at,
     )
 
 -- what was seen before is the same
 over_before : (cursor : ℕ) (d0 d1 d2 : DiskState) (l : Left) → ((m : List ℕ) → d1.seen m ≡ d0.seen m) → IsOver cursor d1 d2 l → IsOver cursor d0 d2 l
 over_before cursor d0 d1 d2 l same is = record {
-  committed = λ below. let moved = is.committed below in record { seen = moved.seen ∙ same l.beside.now; gone = moved.gone; named = moved.named; flushed = moved.flushed };
+  committed = λ below. let moved = is.committed below in record { seen = moved.seen ∙ same l.staging.now; gone = moved.gone; named = moved.named; flushed = moved.flushed };
   gone = is.gone;
   untouched = λ above. is.untouched above ∙ same l.path.now;
 }
@@ -266,7 +266,7 @@ module _ (is_true : Type 0) (Own : List ℕ → Type 0) (folder own : List ℕ) 
     changes = only_nothing (IsOfLeft []) d0 d1 quiet;
   }
 
-  module _ (named : List LeftPacket) (paths : List LeftPaths) (listed : is_true → AreListed folder own d0.seen named) (all : All (IsFoundWhere Own folder own d0.seen paths) named) where
+  module _ (named : List StagedPacket) (paths : List LeftPaths) (listed : is_true → AreListed folder own d0.seen named) (all : All (IsFoundWhere Own folder own d0.seen paths) named) where
     -- there was nothing
     pub none_left : length paths ≡ 0 → EndsLeft is_true Own folder own cursor d0 d1 (Ok tt)
     none_left none = record {

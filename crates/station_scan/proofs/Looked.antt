@@ -9,7 +9,7 @@ use Rattle.model_steps.specs.PacketFiles.{PacketFile}
 use Rattle.station_scan.specs.Left.{IsLeftOf}
 use Rattle.station_scan.specs.Publishing.{IsOnDisk}
 use Rattle.station_scan.specs.Scanning.{AreSentOut, CommitsScan, IsTaken, PreparesScan, SendsOut}
-use Rattle.station_scan.specs.declared.scan_stop.ScanStop.{ScanStop}
+use Rattle.station_scan.specs.declared.scan_error.ScanError.{ScanError}
 use Rattle.station_scan.proofs.Lefts.{finishes_none}
 use Rattle.station_scan.proofs.Stops.{put_wider}
 
@@ -34,7 +34,7 @@ module _ (Own : List ℕ → Type 0) (outbound own : List ℕ) (Stays Comes Stay
       record {
         between = at.between;
         ended = at.ended;
-        beside_them = at.beside_them;
+        staging_them = at.staging_them;
         others = λ m other on. at.others m other (⊎_elim (λ is. inl ((quiet.named m (λ h. h) is.0.0, quiet.flushed m (λ h. h) is.0.1), is.1)) (λ ended. inr ended) on);
         either = ⊎_elim (λ none. inl (stays c none.0, none.1)) (λ all. inr (comes c all.0, all.1, all.2)) at.either;
       }
@@ -50,7 +50,7 @@ module _ (Own : List ℕ → Type 0) (outbound own : List ℕ) (Stays Comes Stay
       (weaker_run d0 d1 d0.may_leave Before quiet.run (λ c left. inl (c, left, record { between = c; ends = finishes_none cursor found c; writes = λ m other. refl; stands = stood c left })))
       run looked_step
 
-  looked_sent : (is_true : Type 0) (result : Result (Unit {0}) ScanStop) → OnOk result (AreSentOut is_true Own outbound own Came cursor found files d1.seen d2) → OnOk result (AreSentOut is_true Own outbound own Comes cursor found files d0.seen d2)
+  looked_sent : (is_true : Type 0) (result : Result (Unit {0}) ScanError) → OnOk result (AreSentOut is_true Own outbound own Came cursor found files d1.seen d2) → OnOk result (AreSentOut is_true Own outbound own Comes cursor found files d0.seen d2)
   looked_sent is_true (Ok done) sent =
       let at : AreSentOut is_true Own outbound own Came cursor found files d0.seen d2 =
       subst (λ (f : Files). AreSentOut is_true Own outbound own Came cursor found files f d2) (same_seen d0 d1 quiet) sent in
@@ -58,7 +58,7 @@ module _ (Own : List ℕ → Type 0) (outbound own : List ℕ) (Stays Comes Stay
         all = at.all;
         between = at.between;
         ended = at.ended;
-        beside_them = at.beside_them;
+        staging_them = at.staging_them;
         packets = at.packets;
         gone = at.gone;
         shown = comes d2.seen at.shown;
@@ -70,7 +70,7 @@ module _ (Own : List ℕ → Type 0) (outbound own : List ℕ) (Stays Comes Stay
 
 -- then the packets were sent out
 pub looked_out : (Own : List ℕ → Type 0) (outbound own : List ℕ) (Stays Comes Stayed Came : Files → Type 0) (cursor : ℕ) (files : List PacketFile) (d0 d1 d2 : DiskState) → ChangesNothing d0 d1
-    → ((c : Files) → Stayed c → Stays c) → ((c : Files) → Came c → Comes c) → ((c : Files) → d0.may_leave c → Stays c) → (IsTrue : Files → Type 0) (some failed : Type 0) → (some → failed) → (result : Result (Unit {0}) ScanStop)
+    → ((c : Files) → Stayed c → Stays c) → ((c : Files) → Came c → Comes c) → ((c : Files) → d0.may_leave c → Stays c) → (IsTrue : Files → Type 0) (some failed : Type 0) → (some → failed) → (result : Result (Unit {0}) ScanError)
     → SendsOut (IsTrue d1.seen) some Own outbound own Stayed Came cursor files d1 d2 result → SendsOut (IsTrue d0.seen) failed Own outbound own Stays Comes cursor files d0 d2 result
 looked_out Own outbound own Stays Comes Stayed Came cursor files d0 d1 d2 quiet stays comes stood IsTrue some failed wider result sends =
     let found = sends.found in

@@ -12,7 +12,7 @@ use Rattle.disk_atomic.specs.Finishing.{FinishesEach, IsOfLeft, IsOver}
 use Rattle.disk_atomic.specs.declared.finishing.Left.{Left}
 use Rattle.disk_atomic.specs.declared.placing_error.PlacingError.{PlacingError}
 use Rattle.disk_atomic.specs.declared.placing_error.PlacingError.TheVariants.{Device, Taken}
-use Rattle.station.specs.Paths.{path_beside}
+use Rattle.station.specs.Paths.{staging_path}
 use Rattle.model_steps.specs.PacketFiles.{PacketFile}
 use Rattle.base_store.specs.Store.{StoreState}
 use Rattle.base_store.proofs.Runs.{same_twice}
@@ -24,9 +24,9 @@ use Rattle.station_scan.specs.Publishing.{IsOnDisk, KeepsStoreBut}
 use Rattle.station_scan.specs.Scanning.{AreSentOut, CommitsScan, IsTaken, IsTouched, PreparesScan, SendsOut}
 use Rattle.station_scan.specs.Sends.{AreSentOn, IsOfThese, SendsThese, WasTriedFor}
 use Rattle.station_scan.specs.Stops.{IsOfPlacing, most, scan_done}
-use Rattle.station_scan.specs.declared.scan_stop.ScanStop.{ScanStop}
-use Rattle.station_scan.specs.declared.scan_stop.ScanStop.TheVariants.{Placing}
-use Rattle.station_scan.specs.declared.unpublished.Unpublished.{Unpublished}
+use Rattle.station_scan.specs.declared.scan_error.ScanError.{ScanError}
+use Rattle.station_scan.specs.declared.scan_error.ScanError.TheVariants.{Placing}
+use Rattle.station_scan.specs.declared.publish_error.PublishError.{PublishError}
 use Rattle.station_scan.proofs.Published.{holds_still, keeps_only, keeps_then, keeps_wider}
 use Rattle.station_scan.proofs.Staged.{tried_after}
 use Rattle.station_scan.proofs.Stops.{placing_why, put_wider}
@@ -43,7 +43,7 @@ is_ended cursor d0 d1 l over = record {
 left_off : (Own : List ℕ → Type 0) (is_true : Type 0) (outbound own : List ℕ) (found : List Left) → All (IsLeftOf is_true Own outbound own) found → (m : List ℕ) → Own m → IsOfLeft found m → ⊥
 left_off Own is_true outbound own found each m is (l, among, at) =
     let (name, like, numbered) = All-contains (IsLeftOf is_true Own outbound own) found l each among in
-    ⊎_elim (λ e. like.off.beside_path (subst Own (e ∙ like.beside) is)) (λ e. like.off.path (subst Own (e ∙ like.path) is)) at
+    ⊎_elim (λ e. like.off.staging_path (subst Own (e ∙ like.staging) is)) (λ e. like.off.path (subst Own (e ∙ like.path) is)) at
 
 module _ (Own : List ℕ → Type 0) (outbound own : List ℕ) (is_true failed : Type 0) (cursor : ℕ) (files : List PacketFile) (s0 s1 : StoreState) (inside : (m : List ℕ) → s0.is_own m → Own m)
     (used : IsUsedAt (IsOfNameOff Own outbound own) s0 s1) (ready : s0.is_ready) (honest0 : s0.disk.is_honest) (first next : Base) (was : s0.committed first) where
@@ -95,7 +95,7 @@ module _ (Own : List ℕ → Type 0) (outbound own : List ℕ) (is_true failed :
     sent_moment c (inr with) = inr (record {
       between = s1.disk.seen;
       ended = all_ended;
-      beside_them = ends.changes.seen;
+      staging_them = ends.changes.seen;
       others = λ m other at.
           with.others m (λ of. other (of_these m of))
           (⊎_elim (λ on. (ends.changes.named m on.1 on.0.0, ends.changes.flushed m on.1 on.0.1))
@@ -114,7 +114,7 @@ module _ (Own : List ℕ → Type 0) (outbound own : List ℕ) (is_true failed :
           all = ends.all;
           between = s1.disk.seen;
           ended = all_ended;
-          beside_them = ends.changes.seen;
+          staging_them = ends.changes.seen;
           packets = sent.packets honest2;
           gone = sent.gone honest2;
           shown = back s2.disk.seen (s2.shown honest2 sent.committed.ready next now);
@@ -123,11 +123,11 @@ module _ (Own : List ℕ → Type 0) (outbound own : List ℕ) (is_true failed :
           bytes = sent.bytes;
         }
 
-    sent_if : (result : Result (Unit {0}) ScanStop) → OnOk result (AreSentOn outbound own files s1 s2) → OnOk result (AreSentOut is_true Own outbound own Comes cursor these files s0.disk.seen s2.disk)
+    sent_if : (result : Result (Unit {0}) ScanError) → OnOk result (AreSentOn outbound own files s1 s2) → OnOk result (AreSentOut is_true Own outbound own Comes cursor these files s0.disk.seen s2.disk)
     sent_if (Ok done) sent = sent_out sent
     sent_if (Err cause) sent = tt
 
-    pub sends_out : (result : Result (Unit {0}) ScanStop) → OnOk result (AreSentOn outbound own files s1 s2) → LeavesOnly s1.disk s2.disk (SendsThese s1 outbound own files first next)
+    pub sends_out : (result : Result (Unit {0}) ScanError) → OnOk result (AreSentOn outbound own files s1 s2) → LeavesOnly s1.disk s2.disk (SendsThese s1 outbound own files first next)
         → IfErr result (IsOfPlacing failed (AreTaken Own outbound own files s1.disk.seen) (most < cursor)) → SendsOut is_true failed Own outbound own Stays Comes cursor files s0.disk s2.disk result
     sends_out result sent run why = record {
       found = these;
@@ -144,13 +144,13 @@ tried_ended state Own outbound own files s0 s1 s2 used (inl holds) = inl (holds_
 tried_ended state Own outbound own files s0 s1 s2 used (inr (inl none)) = inr (inl none)
 tried_ended state Own outbound own files s0 s1 s2 used (inr (inr was)) =
     let at = IsOfNameOff Own outbound own in
-    inr (inr (tried_after state at at (path_beside outbound own) s0.disk s1.disk (λ m is. is) used.changes.seen was))
+    inr (inr (tried_after state at at (staging_path outbound own) s0.disk s1.disk (λ m is. is) used.changes.seen was))
 
 -- what it touches
 these_touched : (Own : List ℕ → Type 0) (outbound own : List ℕ) (files : List PacketFile) (m : List ℕ) → IsOfThese Own outbound own files m → IsTouched Own outbound m
 these_touched Own outbound own files m (inl o) = inl o
 these_touched Own outbound own files m (inr (inl (sent, has, plain, at))) = inr (own, (sent.name, plain, at))
-these_touched Own outbound own files m (inr (inr e)) = inr (own, ([], λ k d lt. absurd (omega (arith, lt)), inl (e ∙ ap (λ (l : List ℕ). path_beside l own) (sym (append-nil outbound)))))
+these_touched Own outbound own files m (inr (inr e)) = inr (own, ([], λ k d lt. absurd (omega (arith, lt)), inl (e ∙ ap (λ (l : List ℕ). staging_path l own) (sym (append-nil outbound)))))
 
 pub out_keeps : (Own : List ℕ → Type 0) (outbound own : List ℕ) (files : List PacketFile) (s0 s1 s2 : StoreState) → IsUsedAt (IsOfNameOff Own outbound own) s0 s1 → KeepsStoreBut (IsOfThese s1.is_own outbound own files) s1 s2
     → KeepsStoreBut (IsTouched s0.is_own outbound) s0 s2
@@ -164,6 +164,6 @@ out_keeps Own outbound own files s0 s1 s2 used kept =
     }
 
 -- what was sent where the publishing ended well was where the scan did
-pub scan_sent : (P : Type 0) (done : Result (Unit {0}) Unpublished) (result : Result (Unit {0}) ScanStop) → result ≡ scan_done done → OnOk done P → OnOk result P
-scan_sent P (Ok value) result is sent = subst (λ (r : Result (Unit {0}) ScanStop). OnOk r P) (sym is) sent
-scan_sent P (Err why) result is sent = subst (λ (r : Result (Unit {0}) ScanStop). OnOk r P) (sym is) tt
+pub scan_sent : (P : Type 0) (done : Result (Unit {0}) PublishError) (result : Result (Unit {0}) ScanError) → result ≡ scan_done done → OnOk done P → OnOk result P
+scan_sent P (Ok value) result is sent = subst (λ (r : Result (Unit {0}) ScanError). OnOk r P) (sym is) sent
+scan_sent P (Err why) result is sent = subst (λ (r : Result (Unit {0}) ScanError). OnOk r P) (sym is) tt

@@ -12,18 +12,18 @@ use Rattle.disk_atomic.specs.Naming.{HasItsPath, NamesEach}
 use Rattle.disk_atomic.specs.Outgoing.{IsAtStaging, IsFilled, IsOfOne, SendsBytes}
 use Rattle.disk_atomic.specs.Publishing.{IsApartFrom}
 use Rattle.disk_atomic.specs.declared.outgoing.Outgoing.{Outgoing}
-use Rattle.base_store.specs.Store.{Commits, MayCommit, StandsForEither, StoreState}
+use Rattle.base_store.specs.Store.{Commits, MayCommit, LeavesEither, StoreState}
 use Rattle.base_store.proofs.Runs.{same_twice}
 use Rattle.station.specs.Beneath.{HoldsAsBefore}
 use Rattle.station_scan.specs.Beneath.{IsUsedAt}
-use Rattle.station_scan.specs.Publishing.{AreGoing, ArePublished, AreStaged, CommitsWith, IsClear, IsGoingAt, IsNamedAs, IsPublishedAt, KeepsBut, KeepsStoreBut, PublishesOn}
-use Rattle.station_scan.specs.declared.unpublished.Unpublished.{Unpublished}
+use Rattle.station_scan.specs.Publishing.{AreGoing, ArePublished, AreStaged, CommitsWith, IsClear, IsGoingAt, IsNamedAs, IsPublishedAt, UnchangedExcept, KeepsStoreBut, PublishesOn}
+use Rattle.station_scan.specs.declared.publish_error.PublishError.{PublishError}
 
 -- none of the store's own paths is a packet's
 pub own_not_of : (s : StoreState) (packets : List Outgoing) → All (IsApartFrom s.is_own) packets → (m : List ℕ) → s.is_own m → IsOfOne packets m → ⊥
 own_not_of s packets apart m own (p, is, at) =
     let away : IsApartFrom s.is_own p = All-contains (IsApartFrom s.is_own) packets p apart is in
-    ⊎_elim (λ e. away.beside (subst s.is_own e own)) (λ e. away.path (subst s.is_own e own)) at
+    ⊎_elim (λ e. away.staging (subst s.is_own e own)) (λ e. away.path (subst s.is_own e own)) at
 
 pub own_not_staging : (s : StoreState) (outbound trial : List ℕ) (packets : List Outgoing) → AreGoing s.is_own outbound trial packets → (m : List ℕ) → s.is_own m → IsAtStaging packets trial m → ⊥
 own_not_staging s outbound trial packets going m own at = ⊎_elim (λ b. own_not_of s packets going.apart m own (b.0, b.1, inl b.2)) (λ e. going.off (subst s.is_own e own)) at
@@ -31,7 +31,7 @@ own_not_staging s outbound trial packets going m own at = ⊎_elim (λ b. own_no
 -- ---- what stands still
 
 -- but for these paths
-pub keeps_then : (paths : List ℕ → Type 0) (d0 d1 d2 : DiskState) → KeepsBut paths d0 d1 → KeepsBut paths d1 d2 → KeepsBut paths d0 d2
+pub keeps_then : (paths : List ℕ → Type 0) (d0 d1 d2 : DiskState) → UnchangedExcept paths d0 d1 → UnchangedExcept paths d1 d2 → UnchangedExcept paths d0 d2
 keeps_then paths d0 d1 d2 one two = record {
   seen = λ m other. two.seen m other ∙ one.seen m other;
   named = λ m other is. two.named m other (one.named m other is);
@@ -40,7 +40,7 @@ keeps_then paths d0 d1 d2 one two = record {
   honest = λ is. one.honest (two.honest is);
 }
 
-pub keeps_wider : (few many : List ℕ → Type 0) (d0 d1 : DiskState) → ((m : List ℕ) → few m → many m) → KeepsBut few d0 d1 → KeepsBut many d0 d1
+pub keeps_wider : (few many : List ℕ → Type 0) (d0 d1 : DiskState) → ((m : List ℕ) → few m → many m) → UnchangedExcept few d0 d1 → UnchangedExcept many d0 d1
 keeps_wider few many d0 d1 more run =
     let not : (m : List ℕ) → (many m → ⊥) → few m → ⊥ = λ m other is. other (more m is) in
     record {
@@ -51,10 +51,10 @@ keeps_wider few many d0 d1 more run =
       honest = run.honest;
     }
 
-pub keeps_only : (paths : List ℕ → Type 0) (d0 d1 : DiskState) → ChangesOnly paths d0 d1 → KeepsBut paths d0 d1
+pub keeps_only : (paths : List ℕ → Type 0) (d0 d1 : DiskState) → ChangesOnly paths d0 d1 → UnchangedExcept paths d0 d1
 keeps_only paths d0 d1 run = record { seen = run.seen; named = run.named; flushed = run.flushed; alone = run.alone; honest = run.honest }
 
-pub keeps_nothing : (paths : List ℕ → Type 0) (d0 d1 : DiskState) → ChangesNothing d0 d1 → KeepsBut paths d0 d1
+pub keeps_nothing : (paths : List ℕ → Type 0) (d0 d1 : DiskState) → ChangesNothing d0 d1 → UnchangedExcept paths d0 d1
 keeps_nothing paths d0 d1 quiet = record {
   seen = λ m other. quiet.seen m;
   named = λ m other. quiet.named m (λ h. h);
@@ -90,7 +90,7 @@ module _ (packets : List Outgoing) (s0 : StoreState) (apart : All (IsApartFrom s
   filled_still : (k : ℕ) (z : Outgoing) → k < length packets → IsFilled s1.disk (get_or packets k z)
   filled_still k z lt =
       let file = (staged.staged k z lt).file in
-      let off = (apart k z lt).beside in
+      let off = (apart k z lt).staging in
       record { seen = may.beside.seen _ off ∙ file.seen; named = may.beside.named _ off file.named; flushed = may.beside.flushed _ off file.flushed }
 
   -- where that failed they stay there
@@ -100,7 +100,7 @@ module _ (packets : List Outgoing) (s0 : StoreState) (apart : All (IsApartFrom s
   committing : s1.disk.is_honest → (first next : Base) → s0.committed first → s0.keeps next → LeavesOnly s0.disk s1.disk (CommitsWith s0 (IsOfOne packets) packets first next)
   committing honest first next was is =
       let clear : All (IsClear s0.disk) packets = staged.clear (may.beside.honest honest) in
-      weaker_run s0.disk s1.disk (StandsForEither s0 first next) (CommitsWith s0 (IsOfOne packets) packets first next) (may.any_moment honest first next was is)
+      weaker_run s0.disk s1.disk (LeavesEither s0 first next) (CommitsWith s0 (IsOfOne packets) packets first next) (may.any_moment honest first next was is)
       (λ c either. record {
         others = λ m out other on. either.beside m out on.0 on.1;
         either =
@@ -108,7 +108,7 @@ module _ (packets : List Outgoing) (s0 : StoreState) (apart : All (IsApartFrom s
             (λ stands. inl (stands, λ k z lt. let none = clear k z lt in either.beside (get_or packets k z).path.now (apart k z lt).path none.named none.flushed ∙ none.none))
             (λ stands. inr (
               stands,
-              λ k z lt. let file = (staged.staged k z lt).file in inr (either.beside (get_or packets k z).beside.now (apart k z lt).beside file.named file.flushed ∙ file.seen),
+              λ k z lt. let file = (staged.staged k z lt).file in inr (either.beside (get_or packets k z).staging.now (apart k z lt).staging file.named file.flushed ∙ file.seen),
               staged.bytes,
             ))
             either.stands;
@@ -178,9 +178,9 @@ module _ (outbound trial : List ℕ) (packets : List Outgoing) (s0 : StoreState)
   }
 
 -- whether all got their paths
-pub published_if : (packets : List Outgoing) (s0 s2 : StoreState) (named : Result Bool DiskError) (result : Result (Unit {0}) Unpublished) → IsNamedAs named result
+pub published_if : (packets : List Outgoing) (s0 s2 : StoreState) (named : Result Bool DiskError) (result : Result (Unit {0}) PublishError) → IsNamedAs named result
     → Honestly s2.disk (IfOk named (λ all. all ≡ true → All (HasItsPath s2.disk) packets)) → Commits s0 s2 → All SendsBytes packets → OnOk result (ArePublished packets s0 s2)
 published_if packets s0 s2 (Ok true) result is paths commits bytes =
-    subst (λ (r : Result (Unit {0}) Unpublished). OnOk r (ArePublished packets s0 s2)) (sym is) (record { committed = commits; named = λ honest. paths honest refl; bytes = bytes })
-published_if packets s0 s2 (Ok false) result is paths commits bytes = subst (λ (r : Result (Unit {0}) Unpublished). OnOk r (ArePublished packets s0 s2)) (sym is) tt
-published_if packets s0 s2 (Err cause) result is paths commits bytes = subst (λ (r : Result (Unit {0}) Unpublished). OnOk r (ArePublished packets s0 s2)) (sym is) tt
+    subst (λ (r : Result (Unit {0}) PublishError). OnOk r (ArePublished packets s0 s2)) (sym is) (record { committed = commits; named = λ honest. paths honest refl; bytes = bytes })
+published_if packets s0 s2 (Ok false) result is paths commits bytes = subst (λ (r : Result (Unit {0}) PublishError). OnOk r (ArePublished packets s0 s2)) (sym is) tt
+published_if packets s0 s2 (Err cause) result is paths commits bytes = subst (λ (r : Result (Unit {0}) PublishError). OnOk r (ArePublished packets s0 s2)) (sym is) tt

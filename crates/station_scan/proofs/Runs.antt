@@ -7,21 +7,21 @@ use Rattle.disk_io.specs.Runs.{ChangesNothing, LeavesOnly, OneStepOn}
 use Rattle.disk_io.proofs.Moments.{left_now, nothing_twice, then_nothing, then_run, weaker_run}
 use Rattle.echo_links.specs.Links.{LinkFile}
 use Rattle.disk_atomic.specs.declared.finishing.Left.{Left}
-use Rattle.station.specs.Paths.{dotted, path_beside}
+use Rattle.station.specs.Paths.{dotted, staging_path}
 use Rattle.cmd_status.specs.Devices.{Output}
 use Rattle.model_steps.specs.PacketFiles.{PacketFile}
 use Rattle.model_steps.specs.declared.stamp.Stamp.{Stamp}
 use Rattle.base_store.specs.Store.{StoreState, all_scanned}
-use Rattle.cmd_store.specs.declared.stop.Stop.{Stop}
+use Rattle.cmd_store.specs.declared.command_error.CommandError.{CommandError}
 use Rattle.station.specs.Opening.{IsOpenFor}
 use Rattle.station.specs.Place.{IsOfPlace, KeepsElsewhere, Place, StandsAlone, StandsOrWasLeft}
 use Rattle.station.proofs.Ran.{stopped_on}
 use Rattle.station_scan.specs.Fitting.{AreFit}
 use Rattle.station_scan.specs.Left.{AreAllLeft, IsLeftOf}
-use Rattle.station_scan.specs.Publishing.{IsOnDisk, KeepsBut, KeepsStoreBut}
+use Rattle.station_scan.specs.Publishing.{IsOnDisk, UnchangedExcept, KeepsStoreBut}
 use Rattle.station_scan.specs.Scanning.{AreSentOut, CommitsScan, IsPutAs, IsOnItsWay, IsPutIn, IsPutOn, IsScanOn, IsTaken, IsTouched, MayLeave, PreparesScan, ScansOnStore, SendsOut}
 use Rattle.station_scan.specs.Sends.{IsOfThese}
-use Rattle.station_scan.specs.declared.scan_stop.ScanStop.{ScanStop}
+use Rattle.station_scan.specs.declared.scan_error.ScanError.{ScanError}
 use Rattle.station_scan.proofs.Lefts.{finishes_none}
 use Rattle.station_scan.proofs.Looked.{same_seen}
 use Rattle.station_scan.proofs.Published.{keeps_nothing, keeps_then, keeps_wider}
@@ -34,9 +34,9 @@ module _ (Own Own2 : List ℕ → Type 0) (out : (m : List ℕ) → Own2 m → O
     name,
     record {
       path = like.path;
-      beside = like.beside;
+      staging = like.staging;
       plain = like.plain;
-      off = record { path = λ o. like.off.path (out _ o); beside_path = λ o. like.off.beside_path (out _ o) };
+      off = record { path = λ o. like.off.path (out _ o); staging_path = λ o. like.off.staging_path (out _ o) };
     },
     numbered,
   )
@@ -45,7 +45,7 @@ module _ (Own Own2 : List ℕ → Type 0) (out : (m : List ℕ) → Own2 m → O
   all_left_as is_true files found into all truth name before numbered to =
       all truth name before numbered (record {
         plain = to.plain;
-        off = record { path = λ o. to.off.path (into _ o); beside_path = λ o. to.off.beside_path (into _ o) };
+        off = record { path = λ o. to.off.path (into _ o); staging_path = λ o. to.off.staging_path (into _ o) };
         there = to.there;
       })
 
@@ -53,21 +53,21 @@ module _ (Own Own2 : List ℕ → Type 0) (out : (m : List ℕ) → Own2 m → O
   fit_as files fit into = record {
     names = fit.names;
     differ = fit.differ;
-    off = λ k z lt. let off = fit.off k z lt in record { path = λ o. off.path (into _ o); beside_path = λ o. off.beside_path (into _ o) };
+    off = λ k z lt. let off = fit.off k z lt in record { path = λ o. off.path (into _ o); staging_path = λ o. off.staging_path (into _ o) };
     trial = λ o. fit.trial (into _ o);
   }
 
   -- what has a path
   taken_as : (cursor : ℕ) (found : List Left) (files : List PacketFile) (seen : Files) → ((m : List ℕ) → Own m → Own2 m) → IsTaken Own outbound own cursor found files seen → IsTaken Own2 outbound own cursor found files seen
   taken_as cursor found files seen into (inl left) =
-      inl (λ free. left (λ name to. free name (record { plain = to.plain; off = record { path = λ o. to.off.path (out _ o); beside_path = λ o. to.off.beside_path (out _ o) }; there = to.there })))
+      inl (λ free. left (λ name to. free name (record { plain = to.plain; off = record { path = λ o. to.off.path (out _ o); staging_path = λ o. to.off.staging_path (out _ o) }; there = to.there })))
   taken_as cursor found files seen into (inr (between, ended, same, taken)) =
       inr (between, ended, same, ⊎_elim (λ held. inl held) (λ unfit. inr (λ fit. unfit (fit_as files fit into))) taken)
 
   these_as : (files : List PacketFile) → ((m : List ℕ) → Own m → Own2 m) → (m : List ℕ) → IsOfThese Own outbound own files m → IsOfThese Own2 outbound own files m
   these_as files into m of = ⊎_elim (λ o. inl (into m o)) (λ p. inr p) of
 
-pub elsewhere_keeps : (place : Place) (outbound : List ℕ) (d0 d1 : DiskState) → KeepsElsewhere place d0 d1 → KeepsBut (IsTouched place.is_own outbound) d0 d1
+pub elsewhere_keeps : (place : Place) (outbound : List ℕ) (d0 d1 : DiskState) → KeepsElsewhere place d0 d1 → UnchangedExcept (IsTouched place.is_own outbound) d0 d1
 elsewhere_keeps place outbound d0 d1 kept = record {
   seen = λ m other. kept.seen m (λ o. other (inl o));
   named = λ m other. kept.named m (λ o. other (inl o));
@@ -85,7 +85,7 @@ module _ (place : Place) (d0 d2 : DiskState) (s1 s2 : StoreState) (begun : IsOpe
     abbrev Comes : Files → Type 0
     Comes = place.stands_for (all_scanned base)
 
-    module _ (files : List PacketFile) (is_true : Type 0) (some : Type 0) (result : Result (Unit {0}) ScanStop) (sends : SendsOut is_true some Own outbound own (s1.stands base) (s1.stands (all_scanned base)) base.cursor files s1.disk s2.disk result) where
+    module _ (files : List PacketFile) (is_true : Type 0) (some : Type 0) (result : Result (Unit {0}) ScanError) (sends : SendsOut is_true some Own outbound own (s1.stands base) (s1.stands (all_scanned base)) base.cursor files s1.disk s2.disk result) where
       abbrev found : List Left
       found = sends.found
 
@@ -120,7 +120,7 @@ module _ (place : Place) (d0 d2 : DiskState) (s1 s2 : StoreState) (begun : IsOpe
       sent_on c (inr with) = inr (record {
         between = with.between;
         ended = with.ended;
-        beside_them = with.beside_them;
+        staging_them = with.staging_them;
         others = λ m other on.
             with.others m (λ these. other (these_as Own place.is_own in_own outbound own files own_in m these))
             (⊎_elim (λ is. inl (on_disk_still m (λ o. other (inl o)) is.0, is.1)) (λ ended. inr ended) on);
@@ -136,18 +136,18 @@ module _ (place : Place) (d0 d2 : DiskState) (s1 s2 : StoreState) (begun : IsOpe
       put_lasts : (c : Files) → d2.may_leave c → On_way c
       put_lasts c left = sent_on c (left_now s1.disk s2.disk Sends sends.crash c (quiet.no_more c left))
 
-      put_sent : (r : Result (Unit {0}) ScanStop) → OnOk r (AreSentOut is_true Own outbound own (s1.stands (all_scanned base)) base.cursor found files s1.disk.seen s2.disk)
+      put_sent : (r : Result (Unit {0}) ScanError) → OnOk r (AreSentOut is_true Own outbound own (s1.stands (all_scanned base)) base.cursor found files s1.disk.seen s2.disk)
           → OnOk r (AreSentOut is_true place.is_own outbound own Comes base.cursor found files s1.disk.seen d2)
       put_sent (Ok done) sent = record {
         all = all_left_as Own place.is_own in_own outbound own is_true s1.disk.seen found own_in sent.all;
         between = sent.between;
         ended = sent.ended;
-        beside_them = sent.beside_them;
+        staging_them = sent.staging_them;
         packets = λ k z lt.
             let at = sent.packets k z lt in
             let path = outbound ++ (get_or files k z).name in
             record { seen = quiet.seen path ∙ at.seen; named = quiet.named path (λ h. h) at.named; flushed = quiet.flushed path (λ h. h) at.flushed };
-        gone = λ k z lt. quiet.seen (path_beside (outbound ++ (get_or files k z).name) own) ∙ sent.gone k z lt;
+        gone = λ k z lt. quiet.seen (staging_path (outbound ++ (get_or files k z).name) own) ∙ sent.gone k z lt;
         shown = subst Comes (sym (same_seen s2.disk d2 quiet)) ((of.stands (all_scanned base) s2.disk.seen).0 sent.shown);
         on_disk = λ c left. (of.stands (all_scanned base) c).0 (sent.on_disk c (quiet.no_more c left));
         others = λ m other. quiet.seen m ∙ sent.others m (λ these. other (these_as Own place.is_own in_own outbound own files own_in m these));
@@ -155,7 +155,7 @@ module _ (place : Place) (d0 d2 : DiskState) (s1 s2 : StoreState) (begun : IsOpe
       }
       put_sent (Err why) sent = tt
 
-    put_in : (files : List PacketFile) (IsTrue : Files → Type 0) (some failed : Type 0) (result : Result (Unit {0}) ScanStop) → (some → failed)
+    put_in : (files : List PacketFile) (IsTrue : Files → Type 0) (some failed : Type 0) (result : Result (Unit {0}) ScanError) → (some → failed)
         → SendsOut (IsTrue s1.disk.seen) some Own outbound own (s1.stands base) (s1.stands (all_scanned base)) base.cursor files s1.disk s2.disk result → IsPutIn place outbound own IsTrue failed d0 d2 base files result
     put_in files IsTrue some failed result wider sends = record {
       opened = s1.disk.seen;
@@ -168,14 +168,14 @@ module _ (place : Place) (d0 d2 : DiskState) (s1 s2 : StoreState) (begun : IsOpe
       why = put_wider some failed _ _ _ result wider (taken_as Own place.is_own in_own outbound own base.cursor sends.found files s1.disk.seen own_in) sends.why;
     }
 
-    put_as : (IsTrue : Files → Type 0) (some failed : Type 0) (made : Result (List PacketFile) Stop) (result : Result (Unit {0}) ScanStop) → (some → failed) → s1.is_ready → s1.disk.is_honest
+    put_as : (IsTrue : Files → Type 0) (some failed : Type 0) (made : Result (List PacketFile) CommandError) (result : Result (Unit {0}) ScanError) → (some → failed) → s1.is_ready → s1.disk.is_honest
         → IsPutOn Own outbound own IsTrue some s1 s2 base made result → IsPutAs place outbound own IsTrue failed d0 d2 base made result
     put_as IsTrue some failed (Ok files) result wider ready honest sent = put_in files IsTrue some failed result wider sent
     put_as IsTrue some failed (Err why) result wider ready honest sent =
         (sent.0, stopped_on place d0 d2 s1 begun of (nothing_twice s1.disk s2.disk d2 sent.1 quiet) ready honest base stands)
 
   -- what is so of the scan
-  pub scanned_on : (stamp : Stamp) (IsTrue : Files → Type 0) (some failed : Type 0) (out now : Output) (file : LinkFile) (base : Base) (result : Result (Unit {0}) ScanStop) → place.stands_for base d0.seen → (some → failed)
+  pub scanned_on : (stamp : Stamp) (IsTrue : Files → Type 0) (some failed : Type 0) (out now : Output) (file : LinkFile) (base : Base) (result : Result (Unit {0}) ScanError) → place.stands_for base d0.seen → (some → failed)
       → s1.is_ready → s1.disk.is_honest → ScansOnStore stamp Own outbound IsTrue some s1 s2 out now file base result → IsScanOn stamp place outbound IsTrue failed d0 d2 out now file base result
   scanned_on stamp IsTrue some failed out now file base result stands wider ready honest scans = record {
     made = scans.made;
@@ -186,7 +186,7 @@ module _ (place : Place) (d0 d2 : DiskState) (s1 s2 : StoreState) (begun : IsOpe
 
 -- which paths a scan touched
 pub scan_keeps : (place : Place) (outbound : List ℕ) (d0 d2 : DiskState) (s1 s2 : StoreState) → IsOfPlace place d0 s1 → ChangesNothing s2.disk d2 → KeepsStoreBut (IsTouched s1.is_own outbound) s1 s2
-    → KeepsBut (IsTouched place.is_own outbound) d0 d2
+    → UnchangedExcept (IsTouched place.is_own outbound) d0 d2
 scan_keeps place outbound d0 d2 s1 s2 of quiet kept =
     let at = IsTouched place.is_own outbound in
     keeps_then at d0 s2.disk d2

@@ -15,13 +15,13 @@ use Rattle.cmd_store.specs.Scanned.{ScansOn}
 use Rattle.echo_toss.specs.PacketsIn.{state_in}
 use Rattle.station_scan.specs.Scanning.{IsTaken, ScansOnStore, SendsOut}
 use Rattle.station_scan.specs.Stops.{IsOfPlacing, most}
-use Rattle.station_scan.specs.declared.scan_stop.ScanStop.{ScanStop}
+use Rattle.station_scan.specs.declared.scan_error.ScanError.{ScanError}
 use Rattle.station_scan.proofs.Lefts.{finishes_none}
 use Rattle.station_scan.proofs.Looked.{looked_out}
 use Rattle.station_scan.proofs.Stops.{put_whole}
 
 -- nothing was sent
-pub sends_nothing : (is_true failed : Type 0) (Own : List ℕ → Type 0) (outbound own : List ℕ) (Stays Comes : Files → Type 0) (cursor : ℕ) (files : List PacketFile) (d : DiskState) (cause : ScanStop)
+pub sends_nothing : (is_true failed : Type 0) (Own : List ℕ → Type 0) (outbound own : List ℕ) (Stays Comes : Files → Type 0) (cursor : ℕ) (files : List PacketFile) (d : DiskState) (cause : ScanError)
     → ((c : Files) → d.may_leave c → Stays c) → IsOfPlacing failed (IsTaken Own outbound own cursor [] files d.seen) (most < cursor) cause → SendsOut is_true failed Own outbound own Stays Comes cursor files d d (Err cause)
 sends_nothing is_true failed Own outbound own Stays Comes cursor files d cause stays why = record {
   found = [];
@@ -33,7 +33,7 @@ sends_nothing is_true failed Own outbound own Stays Comes cursor files d cause s
 
 -- the packets that were made were sent out
 pub scans_ok : (stamp : Stamp) (Own : List ℕ → Type 0) (outbound : List ℕ) (IsTrue : Files → Type 0) (some failed : Type 0) → (some → failed) → (s1 sA s2 : StoreState) (out now : Output) (file : LinkFile) (base : Base) (files : List PacketFile)
-    (result : Result (Unit {0}) ScanStop) → s1.disk.is_honest → s1.is_ready → s1.committed base → IsSameStore s1 sA → ChangesNothing s1.disk sA.disk → ScansOn stamp (state_in file base) out now (Ok files) → (cursor : ℕ) → cursor ≡ base.cursor
+    (result : Result (Unit {0}) ScanError) → s1.disk.is_honest → s1.is_ready → s1.committed base → IsSameStore s1 sA → ChangesNothing s1.disk sA.disk → ScansOn stamp (state_in file base) out now (Ok files) → (cursor : ℕ) → cursor ≡ base.cursor
     → SendsOut (IsTrue sA.disk.seen) some Own outbound (dotted file.system) (sA.stands base) (sA.stands (all_scanned base)) cursor files sA.disk s2.disk result
     → ScansOnStore stamp Own outbound IsTrue failed s1 s2 out now file base result
 scans_ok stamp Own outbound IsTrue some failed wider s1 sA s2 out now file base files result honest ready is same quiet answer cursor at sends =

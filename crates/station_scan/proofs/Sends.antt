@@ -11,21 +11,21 @@ use Rattle.disk_atomic.specs.Outgoing.{ArePlaced, IsAtStaging, IsFree, IsOfOne}
 use Rattle.disk_atomic.specs.Trying.{WasTried}
 use Rattle.disk_atomic.specs.Publishing.{IsApartFrom}
 use Rattle.disk_atomic.specs.declared.outgoing.Outgoing.{Outgoing}
-use Rattle.station.specs.Paths.{path_beside}
+use Rattle.station.specs.Paths.{staging_path}
 use Rattle.model_steps.specs.PacketFiles.{PacketFile}
 use Rattle.base_store.specs.Store.{StoreState}
 use Rattle.station_scan.specs.declared.sending.TwoPaths.{TwoPaths}
 use Rattle.station_scan.specs.Fitting.{AreFitting, AreTaken}
 use Rattle.station_scan.specs.Left.{IsOfNameOff}
 use Rattle.station_scan.specs.Publishing.{AreGoing, ArePublished, IsGoingAt, IsPublishedAt, IsTriedWith, KeepsStoreBut, PublishesOn}
-use Rattle.station_scan.specs.Sending.{IsBesidePacket, IsNameByte, IsNamed, IsOfPacket, file_paths}
+use Rattle.station_scan.specs.Sending.{IsStagingOfPacket, IsNameByte, IsNamed, IsOfPacket, file_paths}
 use Rattle.station_scan.specs.Sends.{AreSentOn, IsOfThese, SendsThese, WasTriedFor}
-use Rattle.station_scan.proofs.Names.{trial_in, trial_no_path, trial_not_beside}
+use Rattle.station_scan.proofs.Names.{trial_in, trial_no_path, trial_not_staging}
 use Rattle.station_scan.proofs.Published.{store_wider}
-use Rattle.station_scan.proofs.Sent.{are_apart_from, are_placed, at_its_path, files_bytes, free_packets, have_none, is_beside_file, is_of_file, none_beside, stand_whole}
+use Rattle.station_scan.proofs.Sent.{are_apart_from, are_placed, at_its_path, files_bytes, free_packets, have_none, is_staging_file, is_of_file, none_staging, stand_whole}
 use Rattle.station_scan.proofs.Staged.{tried_after}
 
-module _ (Own : List ℕ → Type 0) (outbound own : List ℕ) (files : List PacketFile) (packets : List Outgoing) (fitting : AreFitting Own outbound own files packets) (trial : List ℕ) (at_end : trial ≡ path_beside outbound own) where
+module _ (Own : List ℕ → Type 0) (outbound own : List ℕ) (files : List PacketFile) (packets : List Outgoing) (fitting : AreFitting Own outbound own files packets) (trial : List ℕ) (at_end : trial ≡ staging_path outbound own) where
   abbrev paths : List TwoPaths
   paths = map (file_paths outbound own) files
 
@@ -39,24 +39,24 @@ module _ (Own : List ℕ → Type 0) (outbound own : List ℕ) (files : List Pac
   off_trial of =
       let (f, has, plain, at) = is_of_file outbound own files paths packets refl fitting.sent names trial of in
       let is : IsNamed f = All-contains IsNamed files f fitting.fit.names has in
-      ⊎_elim (λ (e : trial ≡ path_beside (outbound ++ f.name) own). trial_not_beside outbound own f.name is.some (sym at_end ∙ e)) (λ (e : trial ≡ outbound ++ f.name). trial_no_path outbound own f.name plain (sym at_end ∙ e)) at
+      ⊎_elim (λ (e : trial ≡ staging_path (outbound ++ f.name) own). trial_not_staging outbound own f.name is.some (sym at_end ∙ e)) (λ (e : trial ≡ outbound ++ f.name). trial_no_path outbound own f.name plain (sym at_end ∙ e)) at
 
   -- they may go there
   pub fit_going : (s : StoreState) → ((m : List ℕ) → s.is_own m → Own m) → All (λ b. b ≢ 47) own → AreGoing s.is_own outbound trial packets
   fit_going s inside plain = record {
     placed = are_placed outbound own files paths packets refl fitting.sent names plain fitting.fit.differ;
-    apart = λ k z lt. record { path = λ o. (apart k z lt).path (inside _ o); beside = λ o. (apart k z lt).beside (inside _ o) };
+    apart = λ k z lt. record { path = λ o. (apart k z lt).path (inside _ o); staging = λ o. (apart k z lt).staging (inside _ o) };
     is_trial = record { inside = subst (IsIn outbound) (sym at_end) (trial_in outbound own plain); off = off_trial };
     off = λ o. fitting.fit.trial (subst Own at_end (inside _ o));
   }
 
   of_name : (m : List ℕ) → IsAtStaging packets trial m → IsOfNameOff Own outbound own m
   of_name m (inl (p, is, at)) =
-      let (f, has, plain, e) = is_beside_file outbound own files paths packets refl fitting.sent names m (p, is, at) in
+      let (f, has, plain, e) = is_staging_file outbound own files paths packets refl fitting.sent names m (p, is, at) in
       let away : IsApartFrom Own p = All-contains (IsApartFrom Own) packets p apart is in
-      ((f.name, plain, inl e), λ o. away.beside (subst Own at o))
+      ((f.name, plain, inl e), λ o. away.staging (subst Own at o))
   of_name m (inr e) =
-      (([], λ k d lt. absurd (omega (arith, lt)), inl (e ∙ at_end ∙ ap (λ (l : List ℕ). path_beside l own) (sym (append-nil outbound)))), λ o. fitting.fit.trial (subst Own (e ∙ at_end) o))
+      (([], λ k d lt. absurd (omega (arith, lt)), inl (e ∙ at_end ∙ ap (λ (l : List ℕ). staging_path l own) (sym (append-nil outbound)))), λ o. fitting.fit.trial (subst Own (e ∙ at_end) o))
 
   pub fit_tried : {D : Type 0} (state : D → DiskState) (old : DiskState) → IsTriedWith state packets trial old → WasTriedFor state Own outbound own files old
   fit_tried state old tried =
@@ -70,7 +70,7 @@ module _ (Own : List ℕ → Type 0) (outbound own : List ℕ) (files : List Pac
   fit_sent s t are = record {
     committed = are.committed;
     packets = λ honest. at_its_path outbound own files paths packets refl fitting.sent t.disk (are.named honest);
-    gone = λ honest. none_beside outbound own files paths packets refl fitting.sent t.disk (are.named honest);
+    gone = λ honest. none_staging outbound own files paths packets refl fitting.sent t.disk (are.named honest);
     bytes = files_bytes outbound own files paths packets refl fitting.sent are.bytes;
   }
 
@@ -78,9 +78,9 @@ module _ (Own : List ℕ → Type 0) (outbound own : List ℕ) (files : List Pac
   of_packet m (inl of) = inl (is_of_file outbound own files paths packets refl fitting.sent names m of)
   of_packet m (inr e) = inr (e ∙ at_end)
 
-  beside_packet : (m : List ℕ) → IsAtStaging packets trial m → IsBesidePacket outbound own files m
-  beside_packet m (inl at) = inl (is_beside_file outbound own files paths packets refl fitting.sent names m at)
-  beside_packet m (inr e) = inr (e ∙ at_end)
+  staging_packet : (m : List ℕ) → IsAtStaging packets trial m → IsStagingOfPacket outbound own files m
+  staging_packet m (inl at) = inl (is_staging_file outbound own files paths packets refl fitting.sent names m at)
+  staging_packet m (inr e) = inr (e ∙ at_end)
 
   pub fit_keeps : (s t : StoreState) → KeepsStoreBut (IsPublishedAt s (IsGoingAt packets trial)) s t → KeepsStoreBut (IsOfThese s.is_own outbound own files) s t
   fit_keeps s t kept =
@@ -88,7 +88,7 @@ module _ (Own : List ℕ → Type 0) (outbound own : List ℕ) (files : List Pac
 
   fit_moment : (s : StoreState) (first next : Base) (c : Files) → PublishesOn s packets trial first next c → SendsThese s outbound own files first next c
   fit_moment s first next c (inl over) = inl (record {
-    writes = (over.staged.0, over.staged.1, λ m other. over.staged.2 m (λ at. other (beside_packet m at)));
+    writes = (over.staged.0, over.staged.1, λ m other. over.staged.2 m (λ at. other (staging_packet m at)));
     stands = over.stands;
   })
   fit_moment s first next c (inr with) = inr (record {

@@ -7,17 +7,17 @@ use Rattle.disk_io.specs.Fixed.{AreBytes}
 use Rattle.disk_io.specs.Disk.{DiskState, Files, IsIn}
 use Rattle.model_steps.specs.PacketFiles.{PacketFile}
 use Rattle.disk_atomic.specs.Naming.{HasItsPath, StandsWhole as outgoing_whole}
-use Rattle.disk_atomic.specs.Outgoing.{AreApart, ArePlaced, IsBesideOne, IsOfOne}
+use Rattle.disk_atomic.specs.Outgoing.{AreApart, ArePlaced, IsStagingOne, IsOfOne}
 use Rattle.disk_atomic.specs.Outgoing as outgoing
 use Rattle.disk_atomic.specs.Publishing.{IsApartFrom}
 use Rattle.disk_atomic.specs.declared.outgoing.Outgoing.{Outgoing}
 use Rattle.disk_atomic.proofs.Packets.{nobody}
-use Rattle.station.specs.Paths.{path_beside}
-use Rattle.station.proofs.BesidePaths.{beside_other}
+use Rattle.station.specs.Paths.{staging_path}
+use Rattle.station.proofs.StagingPaths.{staging_other}
 use Rattle.station_scan.specs.declared.sending.TwoPaths.{TwoPaths}
 use Rattle.station_scan.specs.Publishing.{IsFreeIn}
-use Rattle.station_scan.specs.Sending.{AreSent, HasBytes, HaveOtherPaths, IsAtItsPath, IsFreeAt, IsGoneBeside, IsNameByte, IsOffOwn, StandsWhole, file_paths}
-use Rattle.station_scan.proofs.Names.{four_apart, name_beside_in, name_in}
+use Rattle.station_scan.specs.Sending.{AreSent, HasBytes, HaveOtherPaths, IsAtItsPath, IsFreeAt, IsStagingGone, IsNameByte, IsOffOwn, StandsWhole, file_paths}
+use Rattle.station_scan.proofs.Names.{four_apart, name_staging_in, name_in}
 
 -- no file
 no_file : PacketFile
@@ -26,7 +26,7 @@ no_file = record { name = []; bytes = [] }
 -- the packet has the paths and the bytes of the file
 pub record Goes (folder own : List ℕ) (sent : PacketFile) (packet : Outgoing) : Type 0 where
   pub path : packet.path.now ≡ folder ++ sent.name
-  pub beside : packet.beside.now ≡ path_beside (folder ++ sent.name) own
+  pub staging : packet.staging.now ≡ staging_path (folder ++ sent.name) own
   pub bytes : packet.file.now.bytes ≡ sent.bytes
 
 module _ (folder own : List ℕ) (files : List PacketFile) (paths : List TwoPaths) (packets : List Outgoing) (are : paths ≡ map (file_paths folder own) files) (sent : AreSent files paths packets) where
@@ -40,7 +40,7 @@ module _ (folder own : List ℕ) (files : List PacketFile) (paths : List TwoPath
       let at = at_paths k f lt in
       record {
         path = one.path ∙ ap (λ (t : TwoPaths). t.path) at;
-        beside = one.beside ∙ ap (λ (t : TwoPaths). t.beside) at;
+        staging = one.staging ∙ ap (λ (t : TwoPaths). t.staging) at;
         bytes = ap (λ (file : PacketFile). file.bytes) one.file;
       }
 
@@ -66,9 +66,9 @@ module _ (folder own : List ℕ) (files : List PacketFile) (paths : List TwoPath
         let four = four_apart folder own n m (names k no_file (within k low)) (names j no_file (within j hi)) apart in
         record {
           paths = λ e. four.paths (sym one.path ∙ e ∙ other.path);
-          besides = λ e. four.besides (sym one.beside ∙ e ∙ other.beside);
-          path_beside = λ e. four.path_beside_other (sym one.path ∙ e ∙ other.beside);
-          beside_path = λ e. four.beside_path (sym one.beside ∙ e ∙ other.path);
+          stagings = λ e. four.stagings (sym one.staging ∙ e ∙ other.staging);
+          staging_path = λ e. four.path_staging_other (sym one.path ∙ e ∙ other.staging);
+          staging_path = λ e. four.staging_path (sym one.staging ∙ e ∙ other.path);
         }
 
     -- each goes to two paths of the folder
@@ -80,8 +80,8 @@ module _ (folder own : List ℕ) (files : List PacketFile) (paths : List TwoPath
           let fits = names k no_file (within k lt) in
           record {
             path_in = subst (IsIn folder) (sym is.path) (name_in folder name fits);
-            beside_in = subst (IsIn folder) (sym is.beside) (name_beside_in folder own name fits own_plain);
-            other = λ e. beside_other (folder ++ name) own (sym is.beside ∙ e ∙ is.path);
+            staging_in = subst (IsIn folder) (sym is.staging) (name_staging_in folder own name fits own_plain);
+            other = λ e. staging_other (folder ++ name) own (sym is.staging ∙ e ∙ is.path);
           };
       apart = λ k j z lt hi. two_apart k j z lt hi (omega arith);
     }
@@ -95,7 +95,7 @@ module _ (folder own : List ℕ) (files : List PacketFile) (paths : List TwoPath
       let at : IsOffOwn Own (file_paths folder own (get_or files k no_file)) = subst (IsOffOwn Own) (at_paths k no_file high) (off k t (has_paths k high)) in
       record {
         path = λ o. at.path (subst Own is.path o);
-        beside = λ o. at.beside_path (subst Own is.beside o);
+        staging = λ o. at.staging_path (subst Own is.staging o);
       }
 
   -- what has its path
@@ -115,25 +115,25 @@ module _ (folder own : List ℕ) (files : List PacketFile) (paths : List TwoPath
 
   -- a path of a packet is one of a file
   pub is_of_file : All (λ (file : PacketFile). All IsNameByte file.name) files → (m : List ℕ) → IsOfOne packets m
-      → (f : PacketFile) × Contains files f × All IsNameByte f.name × ((m ≡ path_beside (folder ++ f.name) own) ⊎ (m ≡ folder ++ f.name))
+      → (f : PacketFile) × Contains files f × All IsNameByte f.name × ((m ≡ staging_path (folder ++ f.name) own) ⊎ (m ≡ folder ++ f.name))
   is_of_file names m (p, is, at) =
-      let found : (f : PacketFile) × Contains files f × All IsNameByte f.name × (p.beside.now ≡ path_beside (folder ++ f.name) own) × (p.path.now ≡ folder ++ f.name) =
-      All-contains (λ (q : Outgoing). (f : PacketFile) × Contains files f × All IsNameByte f.name × (q.beside.now ≡ path_beside (folder ++ f.name) own) × (q.path.now ≡ folder ++ f.name)) packets p
+      let found : (f : PacketFile) × Contains files f × All IsNameByte f.name × (p.staging.now ≡ staging_path (folder ++ f.name) own) × (p.path.now ≡ folder ++ f.name) =
+      All-contains (λ (q : Outgoing). (f : PacketFile) × Contains files f × All IsNameByte f.name × (q.staging.now ≡ staging_path (folder ++ f.name) own) × (q.path.now ≡ folder ++ f.name)) packets p
       (λ k z lt.
       let low = within k lt in
       let one = goes k no_file z low in
-      (get_or files k no_file, Contains-get_or files k no_file low, names k no_file low, one.beside, one.path)) is in
+      (get_or files k no_file, Contains-get_or files k no_file low, names k no_file low, one.staging, one.path)) is in
       (found.0, found.1, found.2, ⊎_elim (λ e. inl (e ∙ found.3)) (λ e. inr (e ∙ found.4)) at)
 
   -- and one beside is beside a file
-  pub is_beside_file : All (λ (file : PacketFile). All IsNameByte file.name) files → (m : List ℕ) → IsBesideOne packets m
-      → (f : PacketFile) × Contains files f × All IsNameByte f.name × (m ≡ path_beside (folder ++ f.name) own)
-  is_beside_file names m (p, is, at) =
-      let found : (f : PacketFile) × Contains files f × All IsNameByte f.name × (p.beside.now ≡ path_beside (folder ++ f.name) own) =
-      All-contains (λ (q : Outgoing). (f : PacketFile) × Contains files f × All IsNameByte f.name × (q.beside.now ≡ path_beside (folder ++ f.name) own)) packets p
+  pub is_staging_file : All (λ (file : PacketFile). All IsNameByte file.name) files → (m : List ℕ) → IsStagingOne packets m
+      → (f : PacketFile) × Contains files f × All IsNameByte f.name × (m ≡ staging_path (folder ++ f.name) own)
+  is_staging_file names m (p, is, at) =
+      let found : (f : PacketFile) × Contains files f × All IsNameByte f.name × (p.staging.now ≡ staging_path (folder ++ f.name) own) =
+      All-contains (λ (q : Outgoing). (f : PacketFile) × Contains files f × All IsNameByte f.name × (q.staging.now ≡ staging_path (folder ++ f.name) own)) packets p
       (λ k z lt.
       let low = within k lt in
-      (get_or files k no_file, Contains-get_or files k no_file low, names k no_file low, (goes k no_file z low).beside)) is in
+      (get_or files k no_file, Contains-get_or files k no_file low, names k no_file low, (goes k no_file z low).staging)) is in
       (found.0, found.1, found.2, at ∙ found.3)
 
   -- what stands whole, and what has none at its path
@@ -142,11 +142,11 @@ module _ (folder own : List ℕ) (files : List PacketFile) (paths : List TwoPath
       let is = goes k f nobody lt in
       ⊎_elim
       (λ (e : c (get_or packets k nobody).path.now ≡ Some (get_or packets k nobody).file.now.bytes). inl (ap c (sym is.path) ∙ e ∙ ap (λ (b : List ℕ). Some b) is.bytes))
-      (λ (e : c (get_or packets k nobody).beside.now ≡ Some (get_or packets k nobody).file.now.bytes). inr (ap c (sym is.beside) ∙ e ∙ ap (λ (b : List ℕ). Some b) is.bytes))
+      (λ (e : c (get_or packets k nobody).staging.now ≡ Some (get_or packets k nobody).file.now.bytes). inr (ap c (sym is.staging) ∙ e ∙ ap (λ (b : List ℕ). Some b) is.bytes))
       (all k nobody (back k lt))
 
-  pub none_beside : (disk : DiskState) → All (HasItsPath disk) packets → All (IsGoneBeside folder own disk.seen) files
-  none_beside disk all k f lt = ap disk.seen (sym (goes k f nobody lt).beside) ∙ (all k nobody (back k lt)).gone
+  pub none_staging : (disk : DiskState) → All (HasItsPath disk) packets → All (IsStagingGone folder own disk.seen) files
+  none_staging disk all k f lt = ap disk.seen (sym (goes k f nobody lt).staging) ∙ (all k nobody (back k lt)).gone
 
   pub free_packets : (disk : DiskState) → All (IsFreeAt folder disk.seen) files → All (outgoing.IsFree disk) packets
   free_packets disk all k z lt = let high = within k lt in ap disk.seen (goes k no_file z high).path ∙ all k no_file high

@@ -10,7 +10,7 @@ use Rattle.disk_atomic.specs.Outgoing.{ArePlaced, IsAtStaging, IsStaged}
 use Rattle.disk_atomic.specs.Trying.{Tries, WasTried}
 use Rattle.disk_atomic.specs.declared.outgoing.Outgoing.{Outgoing}
 use Rattle.disk_atomic.proofs.Changes.{stays_on_disk, wider}
-use Rattle.disk_atomic.proofs.Packets.{path_not_beside}
+use Rattle.disk_atomic.proofs.Packets.{path_not_staging}
 use Rattle.station_scan.specs.Publishing.{IsTrial}
 
 -- it was tried after a run at these paths
@@ -30,39 +30,39 @@ tried_after state few paths trial d0 d1 more run was = record {
 module _ (outbound trial : List ℕ) (packets : List Outgoing) (placed : ArePlaced outbound packets) (of : IsTrial outbound packets trial) where
   -- the path of one is none at which packets are staged
   pub path_off : (k : ℕ) (z : Outgoing) → k < length packets → IsAtStaging packets trial (get_or packets k z).path.now → ⊥
-  path_off k z lt at = ⊎_elim (λ b. path_not_beside outbound packets placed k z lt b) (λ t. of.off (get_or packets k z, Contains-get_or packets k z lt, inr (sym t))) at
+  path_off k z lt at = ⊎_elim (λ b. path_not_staging outbound packets placed k z lt b) (λ t. of.off (get_or packets k z, Contains-get_or packets k z lt, inr (sym t))) at
 
   module _ (x : Outgoing) (is : x ≡ get_or packets 0 x) (some : 0 < length packets) where
     has : Contains packets x
     has = (0, some, sym is)
 
-    pub first_other : x.beside.now ≢ trial
+    pub first_other : x.staging.now ≢ trial
     first_other e = of.off (x, has, inl (sym e))
 
     pub first_staged : (d : DiskState) → All (IsStaged d) packets → IsStaged d x
     first_staged d all = All-contains (IsStaged d) packets x all has
 
-    pub at_staging : (m : List ℕ) → (m ≡ x.beside.now) ⊎ (m ≡ trial) → IsAtStaging packets trial m
+    pub at_staging : (m : List ℕ) → (m ≡ x.staging.now) ⊎ (m ≡ trial) → IsAtStaging packets trial m
     at_staging m at = ⊎_elim (λ b. inl (x, has, b)) (λ t. inr t) at
 
-    module _ (d e : DiskState) (tries : Tries d e trial x.beside.now) where
+    module _ (d e : DiskState) (tries : Tries d e trial x.staging.now) where
       pub tried_changes : ChangesOnly (IsAtStaging packets trial) d e
-      tried_changes = wider (λ m. (m ≡ x.beside.now) ⊎ (m ≡ trial)) (IsAtStaging packets trial) d e at_staging tries.changes
+      tried_changes = wider (λ m. (m ≡ x.staging.now) ⊎ (m ≡ trial)) (IsAtStaging packets trial) d e at_staging tries.changes
 
-      file_still : All (IsStaged d) packets → (k : ℕ) (z : Outgoing) → k < length packets → HasOnDisk e (get_or packets k z).beside.now (get_or packets k z).file.now.bytes
+      file_still : All (IsStaged d) packets → (k : ℕ) (z : Outgoing) → k < length packets → HasOnDisk e (get_or packets k z).staging.now (get_or packets k z).file.now.bytes
       file_still all k z lt =
           let p = get_or packets k z in
           let first : get_or packets 0 z ≡ x = get_or_default packets 0 z x some ∙ sym is in
           let was = (first_staged d all).file in
           ⊎_elim
           (λ (later : 0 < k).
-          stays_on_disk (λ m. (m ≡ x.beside.now) ⊎ (m ≡ trial)) d e p.beside.now p.file.now.bytes tries.changes
+          stays_on_disk (λ m. (m ≡ x.staging.now) ⊎ (m ≡ trial)) d e p.staging.now p.file.now.bytes tries.changes
           (λ at.
-          ⊎_elim (λ b. (placed.apart 0 k z later lt).besides (ap (λ (q : Outgoing). q.beside.now) first ∙ sym b)) (λ t. of.off (p, Contains-get_or packets k z lt, inl (sym t))) at)
+          ⊎_elim (λ b. (placed.apart 0 k z later lt).stagings (ap (λ (q : Outgoing). q.staging.now) first ∙ sym b)) (λ t. of.off (p, Contains-get_or packets k z lt, inl (sym t))) at)
           (all k z lt).file)
           (λ (low : k ≤ 0).
           let zero : k ≡ 0 = omega arith in
-          subst (λ (q : Outgoing). HasOnDisk e q.beside.now q.file.now.bytes) (sym (ap (λ (n : ℕ). get_or packets n z) zero ∙ first))
+          subst (λ (q : Outgoing). HasOnDisk e q.staging.now q.file.now.bytes) (sym (ap (λ (n : ℕ). get_or packets n z) zero ∙ first))
           (record { seen = tries.stays.seen ∙ was.seen; named = tries.stays.named was.named; flushed = tries.stays.flushed was.flushed }))
           (cases_lt 0 k)
 

@@ -15,8 +15,8 @@ use Rattle.disk_atomic.proofs.Changes.{left_there, only_nothing, then_only}
 use Rattle.disk_atomic.proofs.Ended.{quiet_then}
 use Rattle.station_scan.specs.Left.{AreAllLeft, EndsLeft, IsEndedAt, IsLeftOf}
 use Rattle.station_scan.specs.Publishing.{AreStaged, NoneStays}
-use Rattle.station_scan.specs.declared.unpublished.Unpublished.{Unpublished}
-use Rattle.station_scan.specs.declared.unpublished.Unpublished.TheVariants.{Base, Beside, Packets}
+use Rattle.station_scan.specs.declared.publish_error.PublishError.{PublishError}
+use Rattle.station_scan.specs.declared.publish_error.PublishError.TheVariants.{Base, Staging, Packets}
 use Rattle.station_scan.proofs.Lefts.{finishes_none, on_ok_over, over_still}
 use Rattle.station_scan.proofs.Looked.{same_seen}
 
@@ -35,7 +35,7 @@ module _ (d e : DiskState) (quiet : ChangesNothing d e) where
   pub are_staged : (packets : List Outgoing) → All (IsStaged d) packets → All (IsStaged e) packets
   are_staged packets all k z lt =
       let p = get_or packets k z in
-      record { file = file_through p.beside.now p.file.now.bytes (all k z lt).file; named = quiet.named p.path.now (λ h. h) (all k z lt).named }
+      record { file = file_through p.staging.now p.file.now.bytes (all k z lt).file; named = quiet.named p.path.now (λ h. h) (all k z lt).named }
 
   pub staged_through : (packets : List Outgoing) → AreStaged packets d → AreStaged packets e
   staged_through packets was = record {
@@ -50,15 +50,15 @@ module _ (d e : DiskState) (quiet : ChangesNothing d e) where
   pub have_their_paths : (packets : List Outgoing) → All (HasItsPath d) packets → All (HasItsPath e) packets
   have_their_paths packets all k z lt =
       let p = get_or packets k z in
-      record { file = file_through p.path.now p.file.now.bytes (all k z lt).file; gone = quiet.seen p.beside.now ∙ (all k z lt).gone }
+      record { file = file_through p.path.now p.file.now.bytes (all k z lt).file; gone = quiet.seen p.staging.now ∙ (all k z lt).gone }
 
   -- what was removed is gone still
-  none_through : (packets : List Outgoing) (trial : List ℕ) (why : Unpublished) → NoneStays packets trial d why → NoneStays packets trial e why
-  none_through packets trial (Packets cause) gone = (λ k z lt. quiet.seen (get_or packets k z).beside.now ∙ gone.0 k z lt, quiet.seen trial ∙ gone.1)
-  none_through packets trial (Beside cause) gone = tt
+  none_through : (packets : List Outgoing) (trial : List ℕ) (why : PublishError) → NoneStays packets trial d why → NoneStays packets trial e why
+  none_through packets trial (Packets cause) gone = (λ k z lt. quiet.seen (get_or packets k z).staging.now ∙ gone.0 k z lt, quiet.seen trial ∙ gone.1)
+  none_through packets trial (Staging cause) gone = tt
   none_through packets trial (Base cause) gone = gone
 
-  pub gone_through : (packets : List Outgoing) (trial : List ℕ) (r : Result Bool Unpublished) → IfErr r (NoneStays packets trial d) → IfErr r (NoneStays packets trial e)
+  pub gone_through : (packets : List Outgoing) (trial : List ℕ) (r : Result Bool PublishError) → IfErr r (NoneStays packets trial d) → IfErr r (NoneStays packets trial e)
   gone_through packets trial (Ok free) gone = tt
   gone_through packets trial (Err why) gone = none_through packets trial why gone
 
@@ -72,7 +72,7 @@ module _ (a d e b : DiskState) (before : ChangesNothing a d) (after : ChangesNot
       (λ c left. (
         c,
         left,
-        record { others = λ m other. refl; whole = λ k z lt. inr (left_there a (get_or packets k z).beside.now (get_or packets k z).file.now.bytes (staged k z lt).file c left) },
+        record { others = λ m other. refl; whole = λ k z lt. inr (left_there a (get_or packets k z).staging.now (get_or packets k z).file.now.bytes (staged k z lt).file c left) },
       )))
       run (λ c step. (step.0, before.no_more step.0 step.1, step.2)))
       after

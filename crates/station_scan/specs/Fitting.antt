@@ -3,18 +3,18 @@ use Rattle.std.specs.Prelude.{◌≡◌, ◌⊎◌, ℕ, List, All, AllPairs, ma
 use Rattle.disk_io.specs.Disk.{Files}
 use Rattle.disk_atomic.specs.declared.outgoing.Outgoing.{Outgoing}
 use Rattle.disk_atomic.specs.declared.placing_error.PlacingError.TheVariants.{Memory, Taken}
-use Rattle.station.specs.Paths.{path_beside}
+use Rattle.station.specs.Paths.{staging_path}
 use Rattle.model_steps.specs.PacketFiles.{PacketFile}
 use Rattle.station_scan.specs.Sending.{AreSent, HaveOtherPaths, IsFreeAt, IsNamed, IsOffOwn, file_paths}
-use Rattle.station_scan.specs.declared.unpublished.Unpublished.{Unpublished}
-use Rattle.station_scan.specs.declared.unpublished.Unpublished.TheVariants.{Packets}
+use Rattle.station_scan.specs.declared.publish_error.PublishError.{PublishError}
+use Rattle.station_scan.specs.declared.publish_error.PublishError.TheVariants.{Packets}
 
 -- Each file goes to two paths of its own. Neither they nor the path that is tried are of the station's own files.
 pub record AreFit (Own : List ℕ → Type 0) (outbound own : List ℕ) (files : List PacketFile) : Type 0 where
   pub names : All IsNamed files
   pub differ : AllPairs HaveOtherPaths (map (file_paths outbound own) files)
   pub off : All (IsOffOwn Own) (map (file_paths outbound own) files)
-  pub trial : Own (path_beside outbound own) → ⊥
+  pub trial : Own (staging_path outbound own) → ⊥
 
 -- and the packets are these files
 pub record AreFitting (Own : List ℕ → Type 0) (outbound own : List ℕ) (files : List PacketFile) (packets : List Outgoing) : Type 0 where
@@ -22,7 +22,7 @@ pub record AreFitting (Own : List ℕ → Type 0) (outbound own : List ℕ) (fil
   pub sent : AreSent files (map (file_paths outbound own) files) packets
 
 -- they have no paths of their own, or there is no memory
-abbrev pub IsUnfit : (List ℕ → Type 0) → List ℕ → List ℕ → List PacketFile → Unpublished → Type 0
+abbrev pub IsUnfit : (List ℕ → Type 0) → List ℕ → List ℕ → List PacketFile → PublishError → Type 0
 IsUnfit Own outbound own files why = ((why ≡ Packets Taken) × (AreFit Own outbound own files → ⊥)) ⊎ (why ≡ Packets Memory)
 
 -- a file has the path of a packet, or the packets have no paths of their own

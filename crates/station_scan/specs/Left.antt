@@ -6,26 +6,26 @@ use Rattle.disk_atomic.specs.Changes.{ChangesOnly}
 use Rattle.disk_atomic.specs.Finishing.{FinishesEach, IsOfLeft, IsOver}
 use Rattle.disk_atomic.specs.declared.finishing.Left.{Left}
 use Rattle.disk_atomic.specs.declared.placing_error.PlacingError.{PlacingError}
-use Rattle.station.specs.Paths.{path_beside}
-use Rattle.station_scan.specs.declared.listing.LeftPacket.{LeftPacket}
+use Rattle.station.specs.Paths.{staging_path}
+use Rattle.station_scan.specs.declared.listing.StagedPacket.{StagedPacket}
 use Rattle.station_scan.specs.declared.finding.LeftPaths.{LeftPaths}
-use Rattle.station_scan.specs.Listing.{IsNumbered, StandsBeside}
+use Rattle.station_scan.specs.ListStaged.{IsNumbered, HasStagingFile}
 use Rattle.station_scan.specs.Sending.{IsNameByte, IsOffOwn, two_paths}
 
 -- It has the two paths of what was listed, and its number; neither path is the station's own.
-pub record IsFoundAs (Own : List ℕ → Type 0) (folder own : List ℕ) (packet : LeftPacket) (l : LeftPaths) : Type 0 where
+pub record IsFoundAs (Own : List ℕ → Type 0) (folder own : List ℕ) (packet : StagedPacket) (l : LeftPaths) : Type 0 where
   pub two : l.two ≡ two_paths folder own packet.name
   pub before : l.before ≡ packet.before
   pub plain : All IsNameByte packet.name
   pub off : IsOffOwn Own l.two
 
 -- some packet that was listed is found so
-abbrev pub IsFound : (List ℕ → Type 0) → List ℕ → List ℕ → List LeftPacket → LeftPaths → Type 0
-IsFound Own folder own named l = (packet : LeftPacket) × Contains named packet × IsFoundAs Own folder own packet l
+abbrev pub IsFound : (List ℕ → Type 0) → List ℕ → List ℕ → List StagedPacket → LeftPaths → Type 0
+IsFound Own folder own named l = (packet : StagedPacket) × Contains named packet × IsFoundAs Own folder own packet l
 
 -- a file stands beside its path
-abbrev pub IsBesideThere : Files → LeftPaths → Type 0
-IsBesideThere files l = IsSome (files l.two.beside)
+abbrev pub IsStagingThere : Files → LeftPaths → Type 0
+IsStagingThere files l = IsSome (files l.two.staging)
 
 -- nothing has its path
 abbrev pub IsFreeFound : Files → LeftPaths → Type 0
@@ -43,30 +43,30 @@ IsAmong path found = (l : LeftPaths) × Contains found l × (l.two.path ≡ path
 pub record IsToFind (Own : List ℕ → Type 0) (folder own : List ℕ) (files : Files) (name : List ℕ) : Type 0 where
   pub plain : All IsNameByte name
   pub off : IsOffOwn Own (two_paths folder own name)
-  pub there : StandsBeside folder own files name
+  pub there : HasStagingFile folder own files name
 
 -- nothing has the path of one of these
 abbrev pub AreFreeLeft : (List ℕ → Type 0) → List ℕ → List ℕ → Files → Type 0
 AreFreeLeft Own folder own files = (name : List ℕ) → IsToFind Own folder own files name → files (folder ++ name) ≡ None
 
 -- what was to be found was
-abbrev pub IsFoundWhere : (List ℕ → Type 0) → List ℕ → List ℕ → Files → List LeftPaths → LeftPacket → Type 0
+abbrev pub IsFoundWhere : (List ℕ → Type 0) → List ℕ → List ℕ → Files → List LeftPaths → StagedPacket → Type 0
 IsFoundWhere Own folder own files found packet = IsToFind Own folder own files packet.name → IsAmong (folder ++ packet.name) found
 
 -- What was listed is found: which packets, each once, and whether they are all.
-pub record AreFound (Own : List ℕ → Type 0) (folder own : List ℕ) (named : List LeftPacket) (found : List LeftPaths) : Type 0 where
+pub record AreFound (Own : List ℕ → Type 0) (folder own : List ℕ) (named : List StagedPacket) (found : List LeftPaths) : Type 0 where
   pub each : All (IsFound Own folder own named) found
   pub differ : AllPairs HaveOtherLeft found
 
 -- None is added, or this one, of what was listed, whose path none has.
-abbrev pub Adds : (List ℕ → Type 0) → List ℕ → List ℕ → LeftPacket → List LeftPaths → List LeftPaths → Type 0
+abbrev pub Adds : (List ℕ → Type 0) → List ℕ → List ℕ → StagedPacket → List LeftPaths → List LeftPaths → Type 0
 Adds Own folder own packet before after =
     (after ≡ before) ⊎ ((l : LeftPaths) × (after ≡ before ++ l ∷ []) × IsFoundAs Own folder own packet l × All (HaveOtherLeft l) before)
 
 -- the same packet, by what is lent of its paths
 pub record IsLent (two : LeftPaths) (l : Left) : Type 0 where
   pub path : l.path.now ≡ two.two.path
-  pub beside : l.beside.now ≡ two.two.beside
+  pub staging : l.staging.now ≡ two.two.staging
   pub before : l.before ≡ two.before
 
 -- so are these, one by one
@@ -76,7 +76,7 @@ pub record AreLent (paths : List LeftPaths) (found : List Left) : Type 0 where
 
 -- the path beside one of these, or that of one past which the cursor was moved, or one that leads to no file
 abbrev pub IsEndedAt : ℕ → List Left → Files → List ℕ → Type 0
-IsEndedAt cursor found c m = (l : Left) × Contains found l × ((m ≡ l.beside.now) ⊎ ((m ≡ l.path.now) × ((l.before < cursor) ⊎ (c m ≡ None))))
+IsEndedAt cursor found c m = (l : Left) × Contains found l × ((m ≡ l.staging.now) ⊎ ((m ≡ l.path.now) × ((l.before < cursor) ⊎ (c m ≡ None))))
 
 -- These are brought to their end, and that is on the disk. A crash at any moment leaves each packet of a committed scan at one of its two paths at least, and
 -- none other at its path.
@@ -91,12 +91,12 @@ pub record EndsThese (cursor : ℕ) (paths : List LeftPaths) (old new : DiskStat
 
 -- one of the two paths of one of these
 abbrev pub IsOfPaths : List LeftPaths → List ℕ → Type 0
-IsOfPaths paths m = (w : LeftPaths) × Contains paths w × ((m ≡ w.two.beside) ⊎ (m ≡ w.two.path))
+IsOfPaths paths m = (w : LeftPaths) × Contains paths w × ((m ≡ w.two.staging) ⊎ (m ≡ w.two.path))
 
 -- it is a packet of the own system of this name, of which neither path is the station's own
 pub record IsLeftAs (Own : List ℕ → Type 0) (folder own name : List ℕ) (l : Left) : Type 0 where
   pub path : l.path.now ≡ folder ++ name
-  pub beside : l.beside.now ≡ path_beside (folder ++ name) own
+  pub staging : l.staging.now ≡ staging_path (folder ++ name) own
   pub plain : All IsNameByte name
   pub off : IsOffOwn Own (two_paths folder own name)
 
@@ -112,9 +112,9 @@ AreAllLeft is_true Own folder own files found =
 -- Where the cursor was moved past it, its path has what stood beside it, and that is there no more; else it is gone, and its path has
 -- what it had.
 pub record IsEnded (cursor : ℕ) (before after : Files) (l : Left) : Type 0 where
-  pub committed : l.before < cursor → after l.path.now ≡ before l.beside.now
+  pub committed : l.before < cursor → after l.path.now ≡ before l.staging.now
   pub untouched : cursor ≤ l.before → after l.path.now ≡ before l.path.now
-  pub gone : after l.beside.now ≡ None
+  pub gone : after l.staging.now ≡ None
 
 -- What earlier scans left is brought to its end, as far as it was listed.
 pub record EndsLeft (is_true : Type 0) (Own : List ℕ → Type 0) (folder own : List ℕ) (cursor : ℕ) (old new : DiskState) (result : Result (Unit {0}) PlacingError) : Type 0 where
@@ -129,7 +129,7 @@ pub record EndsLeft (is_true : Type 0) (Own : List ℕ → Type 0) (folder own :
 
 -- the path of a packet's name in the folder, or the one beside it
 abbrev pub IsOfName : List ℕ → List ℕ → List ℕ → Type 0
-IsOfName folder own m = (name : List ℕ) × All IsNameByte name × ((m ≡ path_beside (folder ++ name) own) ⊎ (m ≡ folder ++ name))
+IsOfName folder own m = (name : List ℕ) × All IsNameByte name × ((m ≡ staging_path (folder ++ name) own) ⊎ (m ≡ folder ++ name))
 
 -- one that is not of the station's own files
 abbrev pub IsOfNameOff : (List ℕ → Type 0) → List ℕ → List ℕ → List ℕ → Type 0

@@ -1,6 +1,6 @@
 pub mod Sending
 pub mod Fitting
-pub mod Listing
+pub mod ListStaged
 pub mod Left
 pub mod Beneath
 pub mod Publishing

@@ -8,7 +8,7 @@ use Rattle.disk_io.specs.declared.disk_error.DiskError.TheVariants as disk_error
 use Rattle.disk_io.specs.Runs.{KeepsAlone, KeepsFlushed, KeepsNamed, LeavesOnly, OneStepOn}
 use Rattle.disk_atomic.specs.Changes.{DifferAt}
 use Rattle.disk_atomic.specs.Naming.{HasItsPath, StandsWhole}
-use Rattle.disk_atomic.specs.Outgoing.{ArePlaced, IsAtStaging, IsFilled, IsFree, IsGoneBeside, IsOfOne, IsStaged, SendsBytes}
+use Rattle.disk_atomic.specs.Outgoing.{ArePlaced, IsAtStaging, IsFilled, IsFree, IsStagingGone, IsOfOne, IsStaged, SendsBytes}
 use Rattle.disk_atomic.specs.Publishing.{IsApartFrom, placing_cause}
 use Rattle.disk_atomic.specs.Trying.{WasTried}
 use Rattle.disk_atomic.specs.declared.outgoing.Outgoing.{Outgoing}
@@ -17,15 +17,15 @@ use Rattle.base_store.specs.Store.{Commits, IsSameStore, StoreState}
 use Rattle.base_store.specs.declared.store_error.StoreError.{StoreError}
 use Rattle.base_store.specs.declared.store_error.StoreError.TheVariants as store
 use Rattle.station.specs.Beneath.{HoldsAsBefore}
-use Rattle.station_scan.specs.declared.unpublished.Unpublished.{Unpublished}
-use Rattle.station_scan.specs.declared.unpublished.Unpublished.TheVariants.{Base as OfBase, Beside, Packets}
+use Rattle.station_scan.specs.declared.publish_error.PublishError.{PublishError}
+use Rattle.station_scan.specs.declared.publish_error.PublishError.TheVariants.{Base as OfBase, Staging, Packets}
 
 -- what the path leads to is on the disk
 abbrev pub IsOnDisk : DiskState → List ℕ → Type 0
 IsOnDisk disk m = disk.is_named m × disk.is_flushed m
 
 -- but for these paths, what was seen and on the disk is so still
-pub record KeepsBut (paths : List ℕ → Type 0) (old new : DiskState) : Type 0 where
+pub record UnchangedExcept (paths : List ℕ → Type 0) (old new : DiskState) : Type 0 where
   pub seen : DifferAt paths old.seen new.seen
   pub named : KeepsNamed paths old new
   pub flushed : KeepsFlushed paths old new
@@ -78,22 +78,22 @@ MayPublish packets trial old new =
 
 -- nothing stands beside their paths, nor at the path that was tried
 abbrev pub AreGone : List Outgoing → List ℕ → DiskState → Type 0
-AreGone packets trial disk = All (IsGoneBeside disk) packets × (disk.seen trial ≡ None)
+AreGone packets trial disk = All (IsStagingGone disk) packets × (disk.seen trial ≡ None)
 
 -- What stands where it failed. Where a packet stopped it the base is as it was, with none beside its path unless this one was taken, or is
 -- committed; where packets stay beside their paths that is said. Where the base stopped it each stays whole there, since it may be committed.
-abbrev pub StopsPublishing : List Outgoing → List ℕ → StoreState → StoreState → Unpublished → Type 0
+abbrev pub StopsPublishing : List Outgoing → List ℕ → StoreState → StoreState → PublishError → Type 0
 StopsPublishing packets trial old new (Packets placing.Taken) = HoldsAsBefore old new ⊎ Commits old new
 StopsPublishing packets trial old new (Packets cause) = (HoldsAsBefore old new × AreGone packets trial new.disk) ⊎ Commits old new
-StopsPublishing packets trial old new (Beside cause) = HoldsAsBefore old new
+StopsPublishing packets trial old new (Staging cause) = HoldsAsBefore old new
 StopsPublishing packets trial old new (OfBase cause) = All (IsFilled new.disk) packets
 
 -- A failure of the device is answered only where its count of failures rose, and damage, on an honest disk, only of a store that holds no
 -- base.
-pub record HasPublishCause {T : Type 0} (old new : StoreState) (before now : ℕ) (result : Result T Unpublished) : Type 0 where
+pub record HasPublishCause {T : Type 0} (old new : StoreState) (before now : ℕ) (result : Result T PublishError) : Type 0 where
   pub later : before ≤ now
   pub packets : IsErrOf result (Packets placing.Device) → Failed before now
-  pub beside : IsErrOf result (Beside disk_error.Device) → Failed before now
+  pub staging : IsErrOf result (Staging disk_error.Device) → Failed before now
   pub base : IsErrOf result (OfBase store.Device) → Failed before now
   pub damaged : Honestly new.disk (IsErrOf result (OfBase store.Damaged) → (base : Base) → old.keeps base → ⊥)
 
@@ -110,16 +110,16 @@ pub record AreStaged (packets : List Outgoing) (disk : DiskState) : Type 0 where
   pub clear : Honestly disk (All (IsClear disk) packets)
 
 -- where a packet was not staged none stays beside its path, unless that is said
-abbrev pub NoneStays : List Outgoing → List ℕ → DiskState → Unpublished → Type 0
+abbrev pub NoneStays : List Outgoing → List ℕ → DiskState → PublishError → Type 0
 NoneStays packets trial new (Packets cause) = AreGone packets trial new
-NoneStays packets trial new (Beside cause) = Unit {0}
+NoneStays packets trial new (Staging cause) = Unit {0}
 NoneStays packets trial new (OfBase cause) = ⊥
 
 -- A failure of the device is answered only where its count of failures rose; neither that a path is taken nor a failure of the base is.
-pub record HasStageCause {T : Type 0} (before now : ℕ) (result : Result T Unpublished) : Type 0 where
+pub record HasStageCause {T : Type 0} (before now : ℕ) (result : Result T PublishError) : Type 0 where
   pub later : before ≤ now
   pub packets : IsErrOf result (Packets placing.Device) → Failed before now
-  pub beside : IsErrOf result (Beside disk_error.Device) → Failed before now
+  pub staging : IsErrOf result (Staging disk_error.Device) → Failed before now
   pub free : IsErrOf result (Packets placing.Taken) → ⊥
   pub staging : (cause : StoreError) → IsErrOf result (OfBase cause) → ⊥
 
@@ -132,7 +132,7 @@ pub record ArePublished (packets : List Outgoing) (old new : StoreState) : Type 
 -- but for these paths, what was seen and on the disk is so still, and it is the same store
 pub record KeepsStoreBut (paths : List ℕ → Type 0) (old new : StoreState) : Type 0 where
   pub same : IsSameStore old new
-  pub keeps : KeepsBut paths old.disk new.disk
+  pub keeps : UnchangedExcept paths old.disk new.disk
 
 -- one of the store's own paths, or one of these
 abbrev pub IsPublishedAt : StoreState → (List ℕ → Type 0) → List ℕ → Type 0
@@ -144,18 +144,18 @@ MayCommitWith packets old new =
     Honestly new.disk ((first next : Base) → old.committed first → old.keeps next → LeavesOnly old.disk new.disk (CommitsWith old (IsOfOne packets) packets first next))
 
 -- where a packet stopped it the base is committed, and where the base did each packet stays beside its path
-abbrev pub StopsCommitting : List Outgoing → StoreState → StoreState → Unpublished → Type 0
+abbrev pub StopsCommitting : List Outgoing → StoreState → StoreState → PublishError → Type 0
 StopsCommitting packets old new (Packets cause) = Commits old new
-StopsCommitting packets old new (Beside cause) = ⊥
+StopsCommitting packets old new (Staging cause) = ⊥
 StopsCommitting packets old new (OfBase cause) = All (IsFilled new.disk) packets
 
 -- whether all packets got their paths, as it is answered
-abbrev pub IsNamedAs : Result Bool DiskError → Result (Unit {0}) Unpublished → Type 0
+abbrev pub IsNamedAs : Result Bool DiskError → Result (Unit {0}) PublishError → Type 0
 IsNamedAs (Ok true) result = result ≡ Ok tt
 IsNamedAs (Ok false) result = result ≡ Err (Packets placing.Taken)
 IsNamedAs (Err cause) result = result ≡ Err (Packets (placing_cause cause))
 
 -- Why it failed from the commit on: that a path is taken is answered only where one was.
-pub record HasCommitCause {T : Type 0} (packets : List Outgoing) (old new : StoreState) (before now : ℕ) (result : Result T Unpublished) : Type 0 where
+pub record HasCommitCause {T : Type 0} (packets : List Outgoing) (old new : StoreState) (before now : ℕ) (result : Result T PublishError) : Type 0 where
   pub causes : HasPublishCause old new before now result
   pub taken : Honestly new.disk (IsErrOf result (Packets placing.Taken) → All (IsFree old.disk) packets → ⊥)

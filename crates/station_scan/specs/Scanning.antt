@@ -15,19 +15,19 @@ use Rattle.model_steps.specs.declared.stamp.Stamp.{Stamp}
 use Rattle.base_store.specs.Store.{StoreState, all_scanned}
 use Rattle.base_store.specs.declared.store_error.StoreError.TheVariants.{Damaged, Device}
 use Rattle.cmd_store.specs.Scanned.{ScansOn}
-use Rattle.cmd_store.specs.declared.stop.Stop.{Stop}
-use Rattle.cmd_store.specs.declared.stop.Stop.TheVariants.{Store}
+use Rattle.cmd_store.specs.declared.command_error.CommandError.{CommandError}
+use Rattle.cmd_store.specs.declared.command_error.CommandError.TheVariants.{Store}
 use Rattle.echo_toss.specs.PacketsIn.{state_in}
 use Rattle.station.specs.Place.{Place, StandsOrWasLeft}
 use Rattle.station.specs.Running.{IsNotRun, IsStopped, StandsAsBefore}
 use Rattle.station_scan.specs.Fitting.{AreTaken}
 use Rattle.station_scan.specs.Left.{AreAllLeft, AreFreeLeft, IsEnded, IsEndedAt, IsLeftOf, IsOfName}
 use Rattle.station_scan.specs.Publishing.{IsOnDisk}
-use Rattle.station_scan.specs.Sending.{HasBytes, IsAtItsPath, IsBesidePacket, IsFreeAt, IsGoneBeside, StandsWhole}
+use Rattle.station_scan.specs.Sending.{HasBytes, IsAtItsPath, IsStagingOfPacket, IsFreeAt, IsStagingGone, StandsWhole}
 use Rattle.station_scan.specs.Sends.{IsOfThese}
 use Rattle.station_scan.specs.Stops.{IsOfPlacing, as_scan, most}
-use Rattle.station_scan.specs.declared.scan_stop.ScanStop.{ScanStop}
-use Rattle.station_scan.specs.declared.scan_stop.ScanStop.TheVariants.{Command}
+use Rattle.station_scan.specs.declared.scan_error.ScanError.{ScanError}
+use Rattle.station_scan.specs.declared.scan_error.ScanError.TheVariants.{Command}
 
 -- one of the station's own paths, or that of a packet's name in the folder of packets, or the one beside it
 abbrev pub IsTouched : (List ℕ → Type 0) → List ℕ → List ℕ → Type 0
@@ -38,7 +38,7 @@ IsTouched Own outbound m = Own m ⊎ ((own : List ℕ) × IsOfName outbound own 
 pub record PreparesScan (outbound own : List ℕ) (Stays : Files → Type 0) (cursor : ℕ) (found : List Left) (files : List PacketFile) (before after : Files) : Type 0 where
   pub between : Files
   pub ends : FinishesEach cursor found before between
-  pub writes : DifferAt (IsBesidePacket outbound own files) between after
+  pub writes : DifferAt (IsStagingOfPacket outbound own files) between after
   pub stands : Stays after
 
 -- From the commit on, where these files were seen before the scan: what earlier scans left is at its end. The base stands that was
@@ -48,7 +48,7 @@ pub record CommitsScan (Own : List ℕ → Type 0) (outbound own : List ℕ) (On
   -- what was seen once they were at their end
   pub between : Files
   pub ended : All (IsEnded cursor seen between) found
-  pub beside_them : DifferAt (IsOfLeft found) seen between
+  pub staging_them : DifferAt (IsOfLeft found) seen between
   pub others : (m : List ℕ) → (IsOfThese Own outbound own files m → ⊥) → (OnDisk m × (IsOfLeft found m → ⊥)) ⊎ IsEndedAt cursor found between m → after m ≡ between m
   pub either : (Stays after × All (IsFreeAt outbound after) files) ⊎ (Comes after × All (StandsWhole outbound own after) files × All HasBytes files)
 
@@ -59,10 +59,10 @@ pub record AreSentOut (is_true : Type 0) (Own : List ℕ → Type 0) (outbound o
   -- what was seen once they were at their end
   pub between : Files
   pub ended : All (IsEnded cursor seen between) found
-  pub beside_them : DifferAt (IsOfLeft found) seen between
+  pub staging_them : DifferAt (IsOfLeft found) seen between
   -- each packet of this scan is on the disk, at its path alone
   pub packets : All (IsAtItsPath outbound new) files
-  pub gone : All (IsGoneBeside outbound own new.seen) files
+  pub gone : All (IsStagingGone outbound own new.seen) files
   -- the new base stands, as it is seen and whatever a crash leaves
   pub shown : Comes new.seen
   pub on_disk : (c : Files) → new.may_leave c → Comes c
@@ -76,7 +76,7 @@ IsTaken Own outbound own cursor found files seen =
     ⊎ ((between : Files) × All (IsEnded cursor seen between) found × DifferAt (IsOfLeft found) seen between × AreTaken Own outbound own files between)
 
 -- These packets and the new base are sent out: found is what earlier scans left.
-pub record SendsOut (is_true failed : Type 0) (Own : List ℕ → Type 0) (outbound own : List ℕ) (Stays Comes : Files → Type 0) (cursor : ℕ) (files : List PacketFile) (old new : DiskState) (result : Result (Unit {0}) ScanStop) : Type 0 where
+pub record SendsOut (is_true failed : Type 0) (Own : List ℕ → Type 0) (outbound own : List ℕ) (Stays Comes : Files → Type 0) (cursor : ℕ) (files : List PacketFile) (old new : DiskState) (result : Result (Unit {0}) ScanError) : Type 0 where
   pub found : List Left
   pub each : All (IsLeftOf is_true Own outbound own) found
   pub sent : OnOk result (AreSentOut is_true Own outbound own Comes cursor found files old.seen new)
@@ -84,14 +84,14 @@ pub record SendsOut (is_true failed : Type 0) (Own : List ℕ → Type 0) (outbo
   pub why : IfErr result (IsOfPlacing failed (IsTaken Own outbound own cursor found files old.seen) (most < cursor))
 
 -- The packets that a scan of a store answered are sent out, once the store was looked through; where the scan stopped nothing has changed.
-abbrev pub IsPutOn : (List ℕ → Type 0) → List ℕ → List ℕ → (Files → Type 0) → Type 0 → StoreState → StoreState → Base → Result (List PacketFile) Stop → Result (Unit {0}) ScanStop → Type 0
+abbrev pub IsPutOn : (List ℕ → Type 0) → List ℕ → List ℕ → (Files → Type 0) → Type 0 → StoreState → StoreState → Base → Result (List PacketFile) CommandError → Result (Unit {0}) ScanError → Type 0
 IsPutOn Own outbound own IsTrue failed old new base (Ok files) result =
     SendsOut (IsTrue old.disk.seen) failed Own outbound own (old.stands base) (old.stands (all_scanned base)) base.cursor files old.disk new.disk result
 IsPutOn Own outbound own IsTrue failed old new base (Err why) result = (result ≡ Err (Command why)) × ChangesNothing old.disk new.disk
 
 -- What is so of a scan of a store that held this base, and had committed it.
-pub record ScansOnStore (stamp : Stamp) (Own : List ℕ → Type 0) (outbound : List ℕ) (IsTrue : Files → Type 0) (failed : Type 0) (old new : StoreState) (old_out new_out : Output) (file : LinkFile) (base : Base) (result : Result (Unit {0}) ScanStop) : Type 0 where
-  pub made : Result (List PacketFile) Stop
+pub record ScansOnStore (stamp : Stamp) (Own : List ℕ → Type 0) (outbound : List ℕ) (IsTrue : Files → Type 0) (failed : Type 0) (old new : StoreState) (old_out new_out : Output) (file : LinkFile) (base : Base) (result : Result (Unit {0}) ScanError) : Type 0 where
+  pub made : Result (List PacketFile) CommandError
   pub answer : ScansOn stamp (state_in file base) old_out new_out made
   pub put : IsPutOn Own outbound (dotted file.system) IsTrue failed old new base made result
   pub whole : IsErrOf result (Command (Store Damaged)) → ⊥
@@ -108,7 +108,7 @@ MayLeave place outbound own old base found files opened c = old.may_leave c ⊎ 
 
 -- The packets that were made of this base, and the base with its cursor at the end, are put in place, once what earlier scans left is at
 -- its end.
-pub record IsPutIn (place : Place) (outbound own : List ℕ) (IsTrue : Files → Type 0) (failed : Type 0) (old new : DiskState) (base : Base) (files : List PacketFile) (result : Result (Unit {0}) ScanStop) : Type 0 where
+pub record IsPutIn (place : Place) (outbound own : List ℕ) (IsTrue : Files → Type 0) (failed : Type 0) (old new : DiskState) (base : Base) (files : List PacketFile) (result : Result (Unit {0}) ScanError) : Type 0 where
   -- what was seen once the station was open
   pub opened : Files
   pub elsewhere : (m : List ℕ) → (place.is_own m → ⊥) → opened m ≡ old.seen m
@@ -121,32 +121,32 @@ pub record IsPutIn (place : Place) (outbound own : List ℕ) (IsTrue : Files →
   pub why : IfErr result (IsOfPlacing failed (IsTaken place.is_own outbound own base.cursor found files opened) (most < base.cursor))
 
 -- What the scan answered is put in place; where it stopped that is answered, and the files stand for the base from before.
-abbrev pub IsPutAs : Place → List ℕ → List ℕ → (Files → Type 0) → Type 0 → DiskState → DiskState → Base → Result (List PacketFile) Stop → Result (Unit {0}) ScanStop → Type 0
+abbrev pub IsPutAs : Place → List ℕ → List ℕ → (Files → Type 0) → Type 0 → DiskState → DiskState → Base → Result (List PacketFile) CommandError → Result (Unit {0}) ScanError → Type 0
 IsPutAs place outbound own IsTrue failed old new base (Ok files) result = IsPutIn place outbound own IsTrue failed old new base files result
 IsPutAs place outbound own IsTrue failed old new base (Err why) result = (result ≡ Err (Command why)) × StandsAsBefore place old new base
 
 -- what is so of a scan of a station whose files stood for this base
-pub record IsScanOn (stamp : Stamp) (place : Place) (outbound : List ℕ) (IsTrue : Files → Type 0) (failed : Type 0) (old new : DiskState) (old_out new_out : Output) (file : LinkFile) (base : Base) (result : Result (Unit {0}) ScanStop) : Type 0 where
-  pub made : Result (List PacketFile) Stop
+pub record IsScanOn (stamp : Stamp) (place : Place) (outbound : List ℕ) (IsTrue : Files → Type 0) (failed : Type 0) (old new : DiskState) (old_out new_out : Output) (file : LinkFile) (base : Base) (result : Result (Unit {0}) ScanError) : Type 0 where
+  pub made : Result (List PacketFile) CommandError
   pub answer : ScansOn stamp (state_in file base) old_out new_out made
   pub put : IsPutAs place outbound (dotted file.system) IsTrue failed old new base made result
   pub whole : IsErrOf result (Command (Store Damaged)) → ⊥
 
 -- the scan was run with this link file, for whatever base the files stood
-pub record IsScanRun (stamp : Stamp) (place : Place) (outbound : List ℕ) (IsTrue : Files → Type 0) (Reads : LinkFile → Type 0) (failed : Type 0) (old new : DiskState) (old_out new_out : Output) (result : Result (Unit {0}) ScanStop) : Type 0 where
+pub record IsScanRun (stamp : Stamp) (place : Place) (outbound : List ℕ) (IsTrue : Files → Type 0) (Reads : LinkFile → Type 0) (failed : Type 0) (old new : DiskState) (old_out new_out : Output) (result : Result (Unit {0}) ScanError) : Type 0 where
   pub file : LinkFile
   pub read : Reads file
   pub runs : (base : Base) → place.stands_for base old.seen → IsScanOn stamp place outbound IsTrue failed old new old_out new_out file base result
   pub cause : IsErrOf result (Command (Store Device)) → failed
 
 -- the scan was not run: the station is shut, or the program stopped it
-pub record IsScanNotRun (place : Place) (Shut Stops : Fault → Type 0) (old new : DiskState) (old_out new_out : Output) (result : Result (Unit {0}) ScanStop) : Type 0 where
-  pub stopped : Result (Unit {0}) Stop
+pub record IsScanNotRun (place : Place) (Shut Stops : Fault → Type 0) (old new : DiskState) (old_out new_out : Output) (result : Result (Unit {0}) ScanError) : Type 0 where
+  pub stopped : Result (Unit {0}) CommandError
   pub is : result ≡ as_scan stopped
   pub not_run : IsNotRun place Shut old new old_out new_out stopped ⊎ IsStopped place Stops old new old_out new_out stopped
 
 -- What comes of a scan of a station into this folder of packets, of which it was listed so what earlier scans left. It is not run where the
 -- station is shut, as is said of the fault, or where the program stops it.
-abbrev pub ScansIn : Stamp → Place → List ℕ → (Files → Type 0) → (LinkFile → Type 0) → (Fault → Type 0) → (Fault → Type 0) → Type 0 → DiskState → DiskState → Output → Output → Result (Unit {0}) ScanStop → Type 0
+abbrev pub ScansIn : Stamp → Place → List ℕ → (Files → Type 0) → (LinkFile → Type 0) → (Fault → Type 0) → (Fault → Type 0) → Type 0 → DiskState → DiskState → Output → Output → Result (Unit {0}) ScanError → Type 0
 ScansIn stamp place outbound IsTrue Reads Shut Stops failed old new old_out new_out result =
     IsScanRun stamp place outbound IsTrue Reads failed old new old_out new_out result ⊎ IsScanNotRun place Shut Stops old new old_out new_out result

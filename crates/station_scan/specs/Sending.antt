@@ -5,7 +5,7 @@ use Rattle.disk_io.specs.Disk.{DiskState, Files}
 use Rattle.model_steps.specs.PacketFiles.{PacketFile}
 use Rattle.disk_atomic.specs.Changes.{HasOnDisk}
 use Rattle.disk_atomic.specs.declared.outgoing.Outgoing.{Outgoing}
-use Rattle.station.specs.Paths.{path_beside}
+use Rattle.station.specs.Paths.{staging_path}
 use Rattle.station_scan.specs.declared.sending.TwoPaths.{TwoPaths}
 
 -- a byte of a packet's name: no slash, and no tilde, which stands in what is beside a name
@@ -15,7 +15,7 @@ pub record IsNameByte (b : ℕ) : Type 0 where
 
 -- the path that a packet of this name is to have in the folder, and the one beside it, at which it stands before
 abbrev pub two_paths : List ℕ → List ℕ → List ℕ → TwoPaths
-two_paths folder own name = record { path = folder ++ name; beside = path_beside (folder ++ name) own }
+two_paths folder own name = record { path = folder ++ name; staging = staging_path (folder ++ name) own }
 
 -- a packet's name: it is not empty
 pub record IsNamed (sent : PacketFile) : Type 0 where
@@ -33,12 +33,12 @@ HaveOtherPaths one other = one.path ≢ other.path
 -- neither path is one of these, which are of the station's own files
 pub record IsOffOwn (Own : List ℕ → Type 0) (two : TwoPaths) : Type 0 where
   pub path : Own two.path → ⊥
-  pub beside_path : Own two.beside → ⊥
+  pub staging_path : Own two.staging → ⊥
 
 -- the packet that goes to these paths is this file
 pub record IsSent (sent : PacketFile) (two : TwoPaths) (packet : Outgoing) : Type 0 where
   pub path : packet.path.now ≡ two.path
-  pub beside : packet.beside.now ≡ two.beside
+  pub staging : packet.staging.now ≡ two.staging
   pub file : packet.file.now ≡ sent
 
 -- so are the packets these files, one by one
@@ -56,20 +56,20 @@ HasBytes sent = AreBytes sent.bytes
 
 -- it stands whole at one of its two paths
 abbrev pub StandsWhole : List ℕ → List ℕ → Files → PacketFile → Type 0
-StandsWhole folder own c sent = (c (folder ++ sent.name) ≡ Some sent.bytes) ⊎ (c (path_beside (folder ++ sent.name) own) ≡ Some sent.bytes)
+StandsWhole folder own c sent = (c (folder ++ sent.name) ≡ Some sent.bytes) ⊎ (c (staging_path (folder ++ sent.name) own) ≡ Some sent.bytes)
 
 -- nothing has its path
 abbrev pub IsFreeAt : List ℕ → Files → PacketFile → Type 0
 IsFreeAt folder c sent = c (folder ++ sent.name) ≡ None
 
 -- nothing stands beside its path
-abbrev pub IsGoneBeside : List ℕ → List ℕ → Files → PacketFile → Type 0
-IsGoneBeside folder own c sent = c (path_beside (folder ++ sent.name) own) ≡ None
+abbrev pub IsStagingGone : List ℕ → List ℕ → Files → PacketFile → Type 0
+IsStagingGone folder own c sent = c (staging_path (folder ++ sent.name) own) ≡ None
 
 -- one of the two paths of a packet, or that which is tried: it stands beside no name
 abbrev pub IsOfPacket : List ℕ → List ℕ → List PacketFile → List ℕ → Type 0
-IsOfPacket folder own files m = ((sent : PacketFile) × Contains files sent × All IsNameByte sent.name × ((m ≡ path_beside (folder ++ sent.name) own) ⊎ (m ≡ folder ++ sent.name))) ⊎ (m ≡ path_beside folder own)
+IsOfPacket folder own files m = ((sent : PacketFile) × Contains files sent × All IsNameByte sent.name × ((m ≡ staging_path (folder ++ sent.name) own) ⊎ (m ≡ folder ++ sent.name))) ⊎ (m ≡ staging_path folder own)
 
 -- the path beside that of a packet, or that which is tried
-abbrev pub IsBesidePacket : List ℕ → List ℕ → List PacketFile → List ℕ → Type 0
-IsBesidePacket folder own files m = ((sent : PacketFile) × Contains files sent × All IsNameByte sent.name × (m ≡ path_beside (folder ++ sent.name) own)) ⊎ (m ≡ path_beside folder own)
+abbrev pub IsStagingOfPacket : List ℕ → List ℕ → List PacketFile → List ℕ → Type 0
+IsStagingOfPacket folder own files m = ((sent : PacketFile) × Contains files sent × All IsNameByte sent.name × (m ≡ staging_path (folder ++ sent.name) own)) ⊎ (m ≡ staging_path folder own)

@@ -6,15 +6,15 @@ use Rattle.disk_io.specs.Runs.{LeavesOnly, OneStepOn}
 use Rattle.disk_atomic.specs.Changes.{DifferAt}
 use Rattle.disk_atomic.specs.Trying.{WasTried}
 use Rattle.disk_atomic.specs.declared.placing_error.PlacingError.TheVariants as placing
-use Rattle.station.specs.Paths.{path_beside}
+use Rattle.station.specs.Paths.{staging_path}
 use Rattle.model_steps.specs.PacketFiles.{PacketFile}
 use Rattle.base_store.specs.Store.{Commits, StoreState}
 use Rattle.station_scan.specs.Fitting.{AreTaken}
 use Rattle.station_scan.specs.Left.{IsOfNameOff}
 use Rattle.station_scan.specs.Publishing.{HasPublishCause, IsOnDisk}
-use Rattle.station_scan.specs.Sending.{HasBytes, IsAtItsPath, IsBesidePacket, IsFreeAt, IsGoneBeside, IsOfPacket, StandsWhole}
-use Rattle.station_scan.specs.declared.unpublished.Unpublished.{Unpublished}
-use Rattle.station_scan.specs.declared.unpublished.Unpublished.TheVariants.{Packets}
+use Rattle.station_scan.specs.Sending.{HasBytes, IsAtItsPath, IsStagingOfPacket, IsFreeAt, IsStagingGone, IsOfPacket, StandsWhole}
+use Rattle.station_scan.specs.declared.publish_error.PublishError.{PublishError}
+use Rattle.station_scan.specs.declared.publish_error.PublishError.TheVariants.{Packets}
 
 -- one of these paths, or one of the two paths of a packet
 abbrev pub IsOfThese : (List ℕ → Type 0) → List ℕ → List ℕ → List PacketFile → List ℕ → Type 0
@@ -22,7 +22,7 @@ IsOfThese Own outbound own files m = Own m ⊎ IsOfPacket outbound own files m
 
 -- before the commit: packets are written beside their paths, and the base that was committed stands
 pub record WritesBeside (old : StoreState) (outbound own : List ℕ) (files : List PacketFile) (first : Base) (c : Files) : Type 0 where
-  pub writes : OneStepOn (DifferAt (IsBesidePacket outbound own files)) old.disk c
+  pub writes : OneStepOn (DifferAt (IsStagingOfPacket outbound own files)) old.disk c
   pub stands : old.stands first c
 
 -- From the commit on: the base that was committed before, and nothing has the path of a packet; or the one that was held, and each packet,
@@ -44,14 +44,14 @@ MaySendThese outbound own files old new =
 pub record AreSentOn (outbound own : List ℕ) (files : List PacketFile) (old new : StoreState) : Type 0 where
   pub committed : Commits old new
   pub packets : Honestly new.disk (All (IsAtItsPath outbound new.disk) files)
-  pub gone : Honestly new.disk (All (IsGoneBeside outbound own new.disk.seen) files)
+  pub gone : Honestly new.disk (All (IsStagingGone outbound own new.disk.seen) files)
   pub bytes : All HasBytes files
 
 -- where there are packets it was tried whether a file of the folder gets a second path, before anything but that was done there
 abbrev pub WasTriedFor : {D : Type 0} → (D → DiskState) → (List ℕ → Type 0) → List ℕ → List ℕ → List PacketFile → DiskState → Type 0
-WasTriedFor state Own outbound own files old = (length files ≡ 0) ⊎ WasTried state (IsOfNameOff Own outbound own) (path_beside outbound own) old
+WasTriedFor state Own outbound own files old = (length files ≡ 0) ⊎ WasTried state (IsOfNameOff Own outbound own) (staging_path outbound own) old
 
 -- Why the packets were not sent: that a path is taken is answered only where one was.
-pub record HasSendCause {T : Type 0} (Own : List ℕ → Type 0) (outbound own : List ℕ) (files : List PacketFile) (old new : StoreState) (before now : ℕ) (result : Result T Unpublished) : Type 0 where
+pub record HasSendCause {T : Type 0} (Own : List ℕ → Type 0) (outbound own : List ℕ) (files : List PacketFile) (old new : StoreState) (before now : ℕ) (result : Result T PublishError) : Type 0 where
   pub causes : HasPublishCause old new before now result
   pub taken : Honestly new.disk (IsErrOf result (Packets placing.Taken) → AreTaken Own outbound own files old.disk.seen)

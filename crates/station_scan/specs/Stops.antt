@@ -3,21 +3,21 @@ use Rattle.std.specs.Prelude.{ℕ, Result, Ok, Err}
 use Rattle.disk_io.specs.declared.disk_error.DiskError.TheVariants as disk
 use Rattle.disk_atomic.specs.declared.placing_error.PlacingError.TheVariants as placing
 use Rattle.base_store.specs.declared.store_error.StoreError.TheVariants as store
-use Rattle.cmd_store.specs.declared.stop.Stop.{Stop}
-use Rattle.cmd_store.specs.declared.stop.Stop.TheVariants.{Met, Store}
-use Rattle.station_scan.specs.declared.scan_stop.ScanStop.{ScanStop}
-use Rattle.station_scan.specs.declared.scan_stop.ScanStop.TheVariants.{Command, Placing, Staying, TooFar}
-use Rattle.station_scan.specs.declared.unpublished.Unpublished.{Unpublished}
-use Rattle.station_scan.specs.declared.unpublished.Unpublished.TheVariants.{Base, Beside, Packets}
+use Rattle.cmd_store.specs.declared.command_error.CommandError.{CommandError}
+use Rattle.cmd_store.specs.declared.command_error.CommandError.TheVariants.{Met, Store}
+use Rattle.station_scan.specs.declared.scan_error.ScanError.{ScanError}
+use Rattle.station_scan.specs.declared.scan_error.ScanError.TheVariants.{Command, Placing, Staying, TooFar}
+use Rattle.station_scan.specs.declared.publish_error.PublishError.{PublishError}
+use Rattle.station_scan.specs.declared.publish_error.PublishError.TheVariants.{Base, Staging, Packets}
 
 -- why packets and a base were not put on the disk, as why a scan stopped
-abbrev pub stop_of : Unpublished → ScanStop
+abbrev pub stop_of : PublishError → ScanError
 stop_of (Packets cause) = Placing cause
-stop_of (Beside cause) = Staying cause
+stop_of (Staging cause) = Staying cause
 stop_of (Base cause) = Command (Store cause)
 
 -- the base was not committed
-abbrev pub IsOfBase : Unpublished → Type 0
+abbrev pub IsOfBase : PublishError → Type 0
 IsOfBase (Base cause) = Unit {0}
 IsOfBase _ = ⊥
 
@@ -27,7 +27,7 @@ most = 4294967295
 
 -- Its packets were not put in place, or its base was not committed: a device failed, there was no memory, a path is taken, too many
 -- messages were scanned before, or the store has too many bytes.
-abbrev pub IsOfPlacing : Type 0 → Type 0 → Type 0 → ScanStop → Type 0
+abbrev pub IsOfPlacing : Type 0 → Type 0 → Type 0 → ScanError → Type 0
 IsOfPlacing failed taken far (Command (Met fault)) = ⊥
 IsOfPlacing failed taken far (Command (Store store.Device)) = failed
 IsOfPlacing failed taken far (Command (Store store.Damaged)) = ⊥
@@ -40,11 +40,11 @@ IsOfPlacing failed taken far (Staying disk.Memory) = Unit {0}
 IsOfPlacing failed taken far TooFar = far
 
 -- how a scan ended, where it was published so
-abbrev pub scan_done : Result (Unit {0}) Unpublished → Result (Unit {0}) ScanStop
+abbrev pub scan_done : Result (Unit {0}) PublishError → Result (Unit {0}) ScanError
 scan_done (Ok done) = Ok done
 scan_done (Err why) = Err (stop_of why)
 
 -- what a command answered, as a scan answers it
-abbrev pub as_scan : Result (Unit {0}) Stop → Result (Unit {0}) ScanStop
+abbrev pub as_scan : Result (Unit {0}) CommandError → Result (Unit {0}) ScanError
 as_scan (Ok done) = Ok done
 as_scan (Err why) = Err (Command why)

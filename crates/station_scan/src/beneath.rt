@@ -11,10 +11,10 @@ ghost use Rattle.station_scan.specs.Left.{AreFreeLeft, EndsLeft, IsOfNameOff};
 ghost use Rattle.station_scan.specs.Publishing.{AreGoing, AreStaged, HasStageCause, IsTriedWith, NoneStays};
 
 use crate::finishing::finish_left;
-use crate::listing::Listing;
+use crate::listing::ListStaged;
+use crate::publish_error::PublishError;
 use crate::sending::Sending;
 use crate::staging::stage_or_drop;
-use crate::unpublished::Unpublished;
 use base_store::Store;
 use disk_atomic::{Outgoing, PlacingError, name_packets};
 use disk_io::{Disk, DiskError};
@@ -35,7 +35,7 @@ pub(crate) fn stage_on<'a, D: Disk, P: LendStation<'a, D>>(
     outbound: &[u8],
     trial: &[u8],
     packets: &[Outgoing<'_>],
-) -> Used<P::Kept, Result<bool, Unpublished>>
+) -> Used<P::Kept, Result<bool, PublishError>>
     requires ready { (P.Kept.state store).is_ready }
     requires going { AreGoing (P.Kept.state store).is_own outbound.now trial.now packets.now }
     ensures used { IsUsedAt (IsAtStaging packets.now trial.now) (P.Kept.state store) (P.Kept.state result.store) }
@@ -77,7 +77,7 @@ pub(crate) fn name_on<'a, D: Disk, P: LendStation<'a, D>>(
 }
 
 /// Names or removes the packets that earlier scans left, by the cursor of the committed base.
-pub(crate) fn finish_on<'a, D: Disk, P: LendStation<'a, D>, G: Listing>(
+pub(crate) fn finish_on<'a, D: Disk, P: LendStation<'a, D>, G: ListStaged>(
     alloc: Global,
     store: P::Kept,
     paths: &P::Paths,

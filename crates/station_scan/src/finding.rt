@@ -3,10 +3,10 @@ ghost use Rattle.std.specs.Prelude.{◌≡◌, ◌≤◌, true, false, All, Cont
 ghost use Rattle.disk_io.specs.Disk.{Honestly};
 ghost use Rattle.disk_io.specs.Runs.{ChangesNothing, HasCause};
 ghost use Rattle.station_scan.specs.declared.finding.LeftPaths.{LeftPaths};
-ghost use Rattle.station_scan.specs.Left.{Adds, AreFound, HaveOtherLeft, IsBesideThere, IsFoundAs, IsFoundWhere, IsToFind};
+ghost use Rattle.station_scan.specs.Left.{Adds, AreFound, HaveOtherLeft, IsStagingThere, IsFoundAs, IsFoundWhere, IsToFind};
 
 use crate::fitting::{differ, is_name, is_off_own};
-use crate::listing::LeftPacket;
+use crate::listing::StagedPacket;
 use crate::sending::{TwoPaths, two_paths};
 use disk_io::{Disk, DiskError};
 use station::OwnPaths;
@@ -39,10 +39,10 @@ fn found_of<D: Disk, O: OwnPaths>(
     paths: &O,
     folder: &[u8],
     own: &[u8],
-    left: &LeftPacket,
+    left: &StagedPacket,
 ) -> Result<Option<LeftPaths>, DiskError>
     ensures found { IfOk result (λ found. IfSome found (IsFoundAs (O.is_own paths.now) folder.now own.now left.now)) }
-    ensures there { Honestly (D.state disk.new) (IfOk result (λ found. IfSome found (IsBesideThere (D.state disk.old).seen))) }
+    ensures there { Honestly (D.state disk.new) (IfOk result (λ found. IfSome found (IsStagingThere (D.state disk.old).seen))) }
     ensures none { Honestly (D.state disk.new) (IfOk result (λ found. found ≡ None → IsToFind (O.is_own paths.now) folder.now own.now (D.state disk.old).seen left.now.name → ⊥)) }
     ensures quiet { ChangesNothing (D.state disk.old) (D.state disk.new) }
     ensures cause { HasCause (D.failures disk.old) (D.failures disk.new) result }
@@ -52,7 +52,7 @@ fn found_of<D: Disk, O: OwnPaths>(
         return Ok(None);
     }
     let two = two_paths(alloc, folder, own, name)?;
-    if !is_off_own(paths, &two) || !disk.exists(two.beside.as_slice())? {
+    if !is_off_own(paths, &two) || !disk.exists(two.staging.as_slice())? {
         return Ok(None);
     }
     Ok(Some(LeftPaths {
@@ -68,11 +68,11 @@ fn add_found<D: Disk, O: OwnPaths>(
     paths: &O,
     folder: &[u8],
     own: &[u8],
-    left: &LeftPacket,
+    left: &StagedPacket,
     found: &mut Vec<LeftPaths>,
 ) -> Result<(), DiskError>
     ensures adds { OnOk result (Adds (O.is_own paths.now) folder.now own.now left.now found.old.items found.new.items) }
-    ensures there { Honestly (D.state disk.new) (OnOk result (All (IsBesideThere (D.state disk.old).seen) found.old.items → All (IsBesideThere (D.state disk.old).seen) found.new.items)) }
+    ensures there { Honestly (D.state disk.new) (OnOk result (All (IsStagingThere (D.state disk.old).seen) found.old.items → All (IsStagingThere (D.state disk.old).seen) found.new.items)) }
     ensures all { Honestly (D.state disk.new) (OnOk result (IsFoundWhere (O.is_own paths.now) folder.now own.now (D.state disk.old).seen found.new.items left.now)) }
     ensures quiet { ChangesNothing (D.state disk.old) (D.state disk.new) }
     ensures cause { HasCause (D.failures disk.old) (D.failures disk.new) result }
@@ -94,10 +94,10 @@ pub(crate) fn find_left<D: Disk, O: OwnPaths>(
     paths: &O,
     folder: &[u8],
     own: &[u8],
-    named: &[LeftPacket],
+    named: &[StagedPacket],
 ) -> Result<Vec<LeftPaths>, DiskError>
     ensures found { IfOk result (λ found. AreFound (O.is_own paths.now) folder.now own.now named.now found.items) }
-    ensures there { Honestly (D.state disk.new) (IfOk result (λ found. All (IsBesideThere (D.state disk.old).seen) found.items)) }
+    ensures there { Honestly (D.state disk.new) (IfOk result (λ found. All (IsStagingThere (D.state disk.old).seen) found.items)) }
     ensures all { Honestly (D.state disk.new) (IfOk result (λ found. All (IsFoundWhere (O.is_own paths.now) folder.now own.now (D.state disk.old).seen found.items) named.now)) }
     ensures quiet { ChangesNothing (D.state disk.old) (D.state disk.new) }
     ensures cause { HasCause (D.failures disk.old) (D.failures disk.new) result }

@@ -6,10 +6,10 @@ ghost use Rattle.disk_atomic.specs.Changes.{ChangesOnly};
 ghost use Rattle.disk_atomic.specs.Finishing.{AreLeftIn};
 ghost use Rattle.disk_atomic.specs.Publishing.{HasPlacingCause};
 ghost use Rattle.disk_atomic.specs.declared.finishing.Left.{Left};
-ghost use Rattle.station_scan.specs.Left.{AreFreeLeft, AreLent, EndsLeft, EndsThese, IsBesideThere, IsFreeFound, IsOfNameOff, IsOfPaths};
+ghost use Rattle.station_scan.specs.Left.{AreFreeLeft, AreLent, EndsLeft, EndsThese, IsStagingThere, IsFreeFound, IsOfNameOff, IsOfPaths};
 
 use crate::finding::{LeftPaths, find_left};
-use crate::listing::Listing;
+use crate::listing::ListStaged;
 use disk_atomic::{Left, PlacingError, finish_stopped};
 use disk_io::{Disk, sync_folder_of};
 use station::OwnPaths;
@@ -24,7 +24,7 @@ fn lend<'a>(alloc: Global, paths: &'a [LeftPaths]) -> Result<Vec<Left<'a>>, Allo
         let one = &paths[i];
         found.push(Left {
             path: one.two.path.as_slice(),
-            beside: one.two.beside.as_slice(),
+            staging: one.two.staging.as_slice(),
             before: one.before,
         })?;
     }
@@ -40,7 +40,7 @@ fn end_these<D: Disk>(
     cursor: u32,
 ) -> Result<(), PlacingError>
     requires placed { (found : List Left) → AreLent paths.now found → AreLeftIn folder.now found }
-    requires there { Honestly (D.state disk.old) (All (IsBesideThere (D.state disk.old).seen) paths.now) }
+    requires there { Honestly (D.state disk.old) (All (IsStagingThere (D.state disk.old).seen) paths.now) }
     ensures ends { Honestly (D.state disk.new) (EndsThese cursor paths.now (D.state disk.old) (D.state disk.new) result) }
     ensures taken { Honestly (D.state disk.new) (IsErrOf result PlacingError.Taken → All (IsFreeFound (D.state disk.old).seen) paths.now → ⊥) }
     ensures changes { ChangesOnly (IsOfPaths paths.now) (D.state disk.old) (D.state disk.new) }
@@ -57,7 +57,7 @@ fn end_these<D: Disk>(
 
 /// Names or removes the packets that earlier scans left in staging files, by the cursor of the base, which is synced.
 /// The station's own files are no packets.
-pub(crate) fn finish_left<D: Disk, O: OwnPaths, G: Listing>(
+pub(crate) fn finish_left<D: Disk, O: OwnPaths, G: ListStaged>(
     alloc: Global,
     disk: &mut D,
     listing: &mut G,
@@ -74,7 +74,7 @@ pub(crate) fn finish_left<D: Disk, O: OwnPaths, G: Listing>(
     ensures listing_later { G.failures listing.old ≤ G.failures listing.new }
     ensures failed { IsErrOf result PlacingError.Device → Failed (D.failures disk.old) (D.failures disk.new) ⊎ Failed (G.failures listing.old) (G.failures listing.new) }
 {
-    let named = listing.left_beside(alloc, folder, own)?;
+    let named = listing.left_staged(alloc, folder, own)?;
     let found = find_left(alloc, disk, paths, folder, own, &named)?;
     if found.is_empty() {
         return Ok(());

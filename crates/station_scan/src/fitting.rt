@@ -1,6 +1,6 @@
 //! Whether packets go to paths that nothing else uses.
 ghost use Rattle.std.specs.Prelude.{◌≡◌, ◌≢◌, true, false, All, AllPairs, map};
-ghost use Rattle.station.specs.Paths.{path_beside};
+ghost use Rattle.station.specs.Paths.{staging_path};
 ghost use Rattle.station_scan.specs.Fitting.{AreFit};
 ghost use Rattle.station_scan.specs.Sending.{HaveOtherPaths, IsNameByte, IsNamed, IsOffOwn, file_paths};
 
@@ -85,7 +85,7 @@ pub(crate) fn is_off_own<O: OwnPaths>(own: &O, two: &TwoPaths) -> bool
     ensures yes { result ≡ true → IsOffOwn (O.is_own own.now) two.now }
     ensures no { result ≡ false → IsOffOwn (O.is_own own.now) two.now → ⊥ }
 {
-    !own.owns(two.path.as_slice()) && !own.owns(two.beside.as_slice())
+    !own.owns(two.path.as_slice()) && !own.owns(two.staging.as_slice())
 }
 
 // Whether that holds for each.
@@ -110,7 +110,7 @@ pub(crate) fn are_fit<O: OwnPaths>(
     trial: &[u8],
 ) -> bool
     requires paths { paths.now ≡ map (file_paths sending.outbound.now sending.own.now) sending.files.now }
-    requires trial { trial.now ≡ path_beside sending.outbound.now sending.own.now }
+    requires trial { trial.now ≡ staging_path sending.outbound.now sending.own.now }
     ensures yes { result ≡ true → AreFit (O.is_own own.now) sending.entry.outbound.now sending.entry.own.now sending.entry.files.now }
     ensures no { result ≡ false → AreFit (O.is_own own.now) sending.entry.outbound.now sending.entry.own.now sending.entry.files.now → ⊥ }
 {

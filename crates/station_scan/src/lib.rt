@@ -9,8 +9,8 @@
 //!
 //! Modules in reading order: `sending` (the packets, each with its two paths), `fitting` (whether nothing else uses
 //! these paths), `listing` (lists what earlier scans left), `finding` and `finishing` (that is named or removed),
-//! `unpublished` (errors), `staging` (packets before a commit), `beneath` (work on the disk of a store), `publishing`
-//! (packets and commit), `scan_stop`, `outgoing` (earlier packets, then these), `watching` (progress), `taking` (the
+//! `publish_error` (errors), `staging` (packets before a commit), `beneath` (work on the disk of a store), `publishing`
+//! (packets and commit), `scan_error`, `outgoing` (earlier packets, then these), `reported` (a store that reports progress), `taking` (the
 //! packets of the waiting messages), `putting` and `scanning`.
 #![tactic(auto)]
 
@@ -20,20 +20,20 @@ mod finishing;
 mod fitting;
 mod listing;
 mod outgoing;
+mod publish_error;
 mod publishing;
 mod putting;
-mod scan_stop;
+mod reported;
+mod scan_error;
 mod scanning;
 mod sending;
 mod staging;
 mod taking;
-mod unpublished;
-mod watching;
 
 pub use beneath::Used;
-pub use listing::{LeftPacket, Listing};
+pub use listing::{ListStaged, StagedPacket};
+pub use publish_error::PublishError;
 pub use publishing::publish;
-pub use scan_stop::ScanStop;
+pub use reported::ReportedStore;
+pub use scan_error::ScanError;
 pub use scanning::{Scan, Scanned, run_scan};
-pub use unpublished::Unpublished;
-pub use watching::{Watched, Watching};

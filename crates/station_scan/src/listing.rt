@@ -2,7 +2,7 @@
 ghost use Rattle.std.specs.Prelude.{ℕ, IfOk};
 ghost use Rattle.disk_io.specs.Disk.{Files};
 ghost use Rattle.disk_io.specs.Runs.{HasCause};
-ghost use Rattle.station_scan.specs.Listing.{AreListed};
+ghost use Rattle.station_scan.specs.ListStaged.{AreListed};
 
 use disk_io::DiskError;
 use echo_addr::Items;
@@ -10,13 +10,13 @@ use std::alloc::Global;
 
 /// A packet that an earlier scan left in a staging file: its name, and how many messages were scanned before.
 #[derive(Debug, Drop)]
-pub struct LeftPacket {
+pub struct StagedPacket {
     pub name: Items<u8>,
     pub before: u32,
 }
 
 /// Lists the staging files of packets.
-pub trait Listing {
+pub trait ListStaged {
     // What it reported was true of these files.
     ghost is_true: { Self → Files → Type 0 };
 
@@ -24,12 +24,12 @@ pub trait Listing {
     ghost failures: { Self → ℕ };
 
     /// The packets that the system of this own name left in staging files of the folder. A missing folder has none.
-    fn left_beside(
+    fn left_staged(
         &mut self,
         alloc: Global,
         folder: &[u8],
         own: &[u8],
-    ) -> Result<Vec<LeftPacket>, DiskError>
+    ) -> Result<Vec<StagedPacket>, DiskError>
         ensures listed { (files : Files) → is_true self.new files → IfOk result (λ found. AreListed folder.now own.now files found.items) }
         ensures cause { HasCause (failures self.old) (failures self.new) result };
 }

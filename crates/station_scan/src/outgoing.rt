@@ -1,6 +1,6 @@
 //! The packets of a scan are written with the commit of its store, after earlier packets are named or removed.
 ghost use Rattle.std.specs.Prelude.{◌≡◌, ◌≢◌, ◌≤◌, ◌⊎◌, ℕ, List, All, IfErr, IfOk, IsErrOf, OnOk, map};
-ghost use Rattle.station.specs.Paths.{path_beside};
+ghost use Rattle.station.specs.Paths.{staging_path};
 ghost use Rattle.station.specs.Beneath.{HoldsAsBefore};
 ghost use Rattle.base_file.specs.Base.{Base};
 ghost use Rattle.disk_io.specs.Device.{Failed};
@@ -15,22 +15,22 @@ ghost use Rattle.station_scan.specs.Stops.{IsOfBase, scan_done};
 
 use crate::beneath::{Used, finish_on};
 use crate::fitting::are_fit;
-use crate::listing::Listing;
+use crate::listing::ListStaged;
+use crate::publish_error::PublishError;
 use crate::publishing::publish;
-use crate::scan_stop::ScanStop;
+use crate::scan_error::ScanError;
 use crate::sending::{Sending, TwoPaths, outgoing_of, paths_of};
-use crate::unpublished::Unpublished;
 use base_store::{Store, StoreError};
-use cmd_store::Stop;
+use cmd_store::CommandError;
 use disk_atomic::{Outgoing, PlacingError};
 use disk_io::Disk;
-use station::{LendStation, OwnPaths, path_beside};
+use station::{LendStation, OwnPaths, staging_path};
 use std::alloc::Global;
 
 // Commits the store of a scan without packets.
 fn commit_alone<'a, D: Disk, P: LendStation<'a, D>>(
     store: P::Kept,
-) -> Used<P::Kept, Result<(), Unpublished>>
+) -> Used<P::Kept, Result<(), PublishError>>
     requires { (P.Kept.state store).is_ready }
     ensures base { IfErr result.done IsOfBase }
     ensures committed { OnOk result.done (Commits (P.Kept.state store) (P.Kept.state result.store)) }
@@ -45,7 +45,7 @@ fn commit_alone<'a, D: Disk, P: LendStation<'a, D>>(
         },
         Err(cause) => Used {
             store,
-            done: Err(Unpublished::Base(cause)),
+            done: Err(PublishError::Base(cause)),
         },
     }
 }
@@ -57,14 +57,14 @@ fn fitting_packets<'p, O: OwnPaths>(
     sending: Sending<'p>,
     two: &'p [TwoPaths],
     trial: &[u8],
-) -> Result<Vec<Outgoing<'p>>, Unpublished>
+) -> Result<Vec<Outgoing<'p>>, PublishError>
     requires paths { two.now ≡ map (file_paths sending.outbound.now sending.own.now) sending.files.now }
-    requires trial { trial.now ≡ path_beside sending.outbound.now sending.own.now }
+    requires trial { trial.now ≡ staging_path sending.outbound.now sending.own.now }
     ensures fit { IfOk result (λ packets. AreFitting (O.is_own paths.now) sending.entry.outbound.now sending.entry.own.now sending.entry.files.now packets.items) }
     ensures err { IfErr result (IsUnfit (O.is_own paths.now) sending.entry.outbound.now sending.entry.own.now sending.entry.files.now) }
 {
     if !are_fit(paths, sending, two, trial) {
-        return Err(Unpublished::Packets(PlacingError::Taken));
+        return Err(PublishError::Packets(PlacingError::Taken));
     }
     Ok(outgoing_of(alloc, sending.files, two)?)
 }
@@ -75,7 +75,7 @@ fn publish_packets<'a, D: Disk, P: LendStation<'a, D>>(
     store: P::Kept,
     paths: &P::Paths,
     sending: Sending<'_>,
-) -> Used<P::Kept, Result<(), Unpublished>>
+) -> Used<P::Kept, Result<(), PublishError>>
     requires plain { All (λ b. b ≢ 47) sending.own.now }
     requires ready { (P.Kept.state store).is_ready }
     requires own { (m : List ℕ) → (P.Kept.state store).is_own m → P.Paths.is_own paths.now m }
@@ -90,16 +90,16 @@ fn publish_packets<'a, D: Disk, P: LendStation<'a, D>>(
         Err(refused) => {
             return Used {
                 store,
-                done: Err(Unpublished::from(refused)),
+                done: Err(PublishError::from(refused)),
             };
         }
     };
-    let trial = match path_beside(alloc, sending.outbound, sending.own) {
+    let trial = match staging_path(alloc, sending.outbound, sending.own) {
         Ok(trial) => trial,
         Err(refused) => {
             return Used {
                 store,
-                done: Err(Unpublished::from(refused)),
+                done: Err(PublishError::from(refused)),
             };
         }
     };
@@ -121,7 +121,7 @@ fn publish_files<'a, D: Disk, P: LendStation<'a, D>>(
     store: P::Kept,
     paths: &P::Paths,
     sending: Sending<'_>,
-) -> Used<P::Kept, Result<(), Unpublished>>
+) -> Used<P::Kept, Result<(), PublishError>>
     requires plain { All (λ b. b ≢ 47) sending.own.now }
     requires ready { (P.Kept.state store).is_ready }
     requires own { (m : List ℕ) → (P.Kept.state store).is_own m → P.Paths.is_own paths.now m }
@@ -140,14 +140,14 @@ fn publish_files<'a, D: Disk, P: LendStation<'a, D>>(
 
 /// Names or removes what earlier scans left, by the cursor of the committed base. Then it writes these packets and
 /// commits the store.
-pub(crate) fn send_out<'a, D: Disk, P: LendStation<'a, D>, G: Listing>(
+pub(crate) fn send_out<'a, D: Disk, P: LendStation<'a, D>, G: ListStaged>(
     alloc: Global,
     store: P::Kept,
     paths: &P::Paths,
     listing: &mut G,
     cursor: u32,
     sending: Sending<'_>,
-) -> Used<P::Kept, Result<(), ScanStop<'a>>>
+) -> Used<P::Kept, Result<(), ScanError<'a>>>
     requires plain { All (λ b. b ≢ 47) sending.own.now }
     requires ready { (P.Kept.state store).is_ready }
     requires own { (m : List ℕ) → (P.Kept.state store).is_own m → P.Paths.is_own paths.now m }
@@ -160,7 +160,7 @@ pub(crate) fn send_out<'a, D: Disk, P: LendStation<'a, D>, G: Listing>(
     ensures keeps { KeepsStoreBut (IsTouched (P.Kept.state store).is_own sending.entry.outbound.now) (P.Kept.state store) (P.Kept.state result.store) }
     ensures later { P.Kept.failures store ≤ P.Kept.failures result.store }
     ensures listing_later { G.failures listing.old ≤ G.failures listing.new }
-    ensures device { IsErrOf result.done (ScanStop.Command (Stop.Store StoreError.Device)) → Failed (P.Kept.failures store) (P.Kept.failures result.store) }
+    ensures device { IsErrOf result.done (ScanError.Command (CommandError.Store StoreError.Device)) → Failed (P.Kept.failures store) (P.Kept.failures result.store) }
 {
     let Used { store, done } = finish_on::<D, P, G>(alloc, store, paths, listing, cursor, sending);
     match done {
@@ -171,17 +171,17 @@ pub(crate) fn send_out<'a, D: Disk, P: LendStation<'a, D>, G: Listing>(
         }
         Err(cause) => Used {
             store,
-            done: Err(ScanStop::Placing(cause)),
+            done: Err(ScanError::Placing(cause)),
         },
     }
 }
 
 // How a scan with this publication ended.
-fn stop_done<'a>(done: Result<(), Unpublished>) -> Result<(), ScanStop<'a>>
+fn stop_done<'a>(done: Result<(), PublishError>) -> Result<(), ScanError<'a>>
     ensures { result ≡ scan_done done }
 {
     match done {
         Ok(()) => Ok(()),
-        Err(why) => Err(ScanStop::from(why)),
+        Err(why) => Err(ScanError::from(why)),
     }
 }

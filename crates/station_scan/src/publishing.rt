@@ -7,7 +7,7 @@ ghost use Rattle.station.specs.Beneath.{HoldsAsBefore};
 ghost use Rattle.station_scan.specs.Publishing.{AreGoing, ArePublished, AreStaged, HasCommitCause, HasPublishCause, IsGoingAt, IsNamedAs, IsPublishedAt, IsTriedWith, KeepsStoreBut, MayCommitWith, MayPublish, StopsCommitting, StopsPublishing};
 
 use crate::beneath::{Used, name_on, stage_on};
-use crate::unpublished::Unpublished;
+use crate::publish_error::PublishError;
 use base_store::Store;
 use disk_atomic::{Outgoing, PlacingError};
 use disk_io::{Disk, DiskError};
@@ -24,12 +24,12 @@ pub fn publish<'a, D: Disk, P: LendStation<'a, D>>(
     outbound: &[u8],
     trial: &[u8],
     packets: &[Outgoing<'_>],
-) -> Used<P::Kept, Result<(), Unpublished>>
+) -> Used<P::Kept, Result<(), PublishError>>
     requires ready { (P.Kept.state store).is_ready }
     requires going { AreGoing (P.Kept.state store).is_own outbound.now trial.now packets.now }
     ensures published { OnOk result.done (ArePublished packets.now (P.Kept.state store) (P.Kept.state result.store)) }
     ensures left { Honestly (P.Kept.state result.store).disk (IfErr result.done (StopsPublishing packets.now trial.now (P.Kept.state store) (P.Kept.state result.store))) }
-    ensures taken { Honestly (P.Kept.state result.store).disk (IsErrOf result.done (Unpublished.Packets PlacingError.Taken) → All (IsFree (P.Kept.state store).disk) packets.now → ⊥) }
+    ensures taken { Honestly (P.Kept.state result.store).disk (IsErrOf result.done (PublishError.Packets PlacingError.Taken) → All (IsFree (P.Kept.state store).disk) packets.now → ⊥) }
 
     // If files of the folder can get no second path, nothing is committed.
     ensures tried { HoldsAsBefore (P.Kept.state store) (P.Kept.state result.store) ⊎ IsTriedWith D.state packets.now trial.now (P.Kept.state store).disk }
@@ -44,7 +44,7 @@ pub fn publish<'a, D: Disk, P: LendStation<'a, D>>(
         Ok(true) => commit_staged::<D, P>(alloc, store, outbound, packets),
         Ok(false) => Used {
             store,
-            done: Err(Unpublished::Packets(PlacingError::Taken)),
+            done: Err(PublishError::Packets(PlacingError::Taken)),
         },
         Err(why) => Used {
             store,
@@ -59,7 +59,7 @@ fn commit_staged<'a, D: Disk, P: LendStation<'a, D>>(
     store: P::Kept,
     outbound: &[u8],
     packets: &[Outgoing<'_>],
-) -> Used<P::Kept, Result<(), Unpublished>>
+) -> Used<P::Kept, Result<(), PublishError>>
     requires ready { (P.Kept.state store).is_ready }
     requires placed { ArePlaced outbound.now packets.now }
     requires apart { All (IsApartFrom (P.Kept.state store).is_own) packets.now }
@@ -79,18 +79,18 @@ fn commit_staged<'a, D: Disk, P: LendStation<'a, D>>(
         }
         Err(cause) => Used {
             store,
-            done: Err(Unpublished::Base(cause)),
+            done: Err(PublishError::Base(cause)),
         },
     }
 }
 
 // The answer for whether packets got their paths.
-fn named_done(named: Result<bool, DiskError>) -> Result<(), Unpublished>
+fn named_done(named: Result<bool, DiskError>) -> Result<(), PublishError>
     ensures { IsNamedAs named result }
 {
     match named {
         Ok(true) => Ok(()),
-        Ok(false) => Err(Unpublished::Packets(PlacingError::Taken)),
-        Err(cause) => Err(Unpublished::Packets(PlacingError::from(cause))),
+        Ok(false) => Err(PublishError::Packets(PlacingError::Taken)),
+        Err(cause) => Err(PublishError::Packets(PlacingError::from(cause))),
     }
 }

@@ -10,13 +10,13 @@ ghost use Rattle.station_scan.specs.Scanning.{IsTouched, SendsOut};
 ghost use Rattle.station_scan.specs.Sends.{WasTriedFor};
 
 use crate::beneath::Used;
-use crate::listing::Listing;
+use crate::listing::ListStaged;
 use crate::outgoing::send_out;
-use crate::scan_stop::ScanStop;
+use crate::scan_error::ScanError;
 use crate::scanning::Scan;
 use crate::sending::Sending;
 use base_store::{Store, StoreError};
-use cmd_store::Stop;
+use cmd_store::CommandError;
 use disk_io::Disk;
 use echo_links::LinkFile;
 use model_steps::PacketFile;
@@ -27,7 +27,7 @@ use std::alloc::Global;
 const MOST: usize = 4_294_967_295;
 
 /// Writes these packets, and commits the store. The cursor is that from before the scan.
-pub(crate) fn put_taken<'a, 's, D: Disk, P: LendStation<'a, D>, G: Listing, T>(
+pub(crate) fn put_taken<'a, 's, D: Disk, P: LendStation<'a, D>, G: ListStaged, T>(
     alloc: Global,
     links: &LinkFile,
     store: P::Kept,
@@ -35,7 +35,7 @@ pub(crate) fn put_taken<'a, 's, D: Disk, P: LendStation<'a, D>, G: Listing, T>(
     scan: &mut Scan<'s, G, T>,
     cursor: usize,
     files: &[PacketFile],
-) -> Used<P::Kept, Result<(), ScanStop<'a>>>
+) -> Used<P::Kept, Result<(), ScanError<'a>>>
     requires ready { (P.Kept.state store).is_ready }
     requires own { (m : List ℕ) → (P.Kept.state store).is_own m → P.Paths.is_own paths.now m }
     ensures sends { Honestly (P.Kept.state result.store).disk ((first next : Base) → (P.Kept.state store).committed first → (P.Kept.state store).keeps next
@@ -45,12 +45,12 @@ pub(crate) fn put_taken<'a, 's, D: Disk, P: LendStation<'a, D>, G: Listing, T>(
     ensures keeps { KeepsStoreBut (IsTouched (P.Kept.state store).is_own scan.old.outbound.now) (P.Kept.state store) (P.Kept.state result.store) }
     ensures later { P.Kept.failures store ≤ P.Kept.failures result.store }
     ensures listing_later { G.failures scan.old.listing ≤ G.failures scan.new.listing }
-    ensures device { IsErrOf result.done (ScanStop.Command (Stop.Store StoreError.Device)) → Failed (P.Kept.failures store) (P.Kept.failures result.store) }
+    ensures device { IsErrOf result.done (ScanError.Command (CommandError.Store StoreError.Device)) → Failed (P.Kept.failures store) (P.Kept.failures result.store) }
 {
     if cursor > MOST {
         return Used {
             store,
-            done: Err(ScanStop::TooFar),
+            done: Err(ScanError::TooFar),
         };
     }
     let own = match system_name(alloc, links) {
@@ -58,7 +58,7 @@ pub(crate) fn put_taken<'a, 's, D: Disk, P: LendStation<'a, D>, G: Listing, T>(
         Err(refused) => {
             return Used {
                 store,
-                done: Err(ScanStop::from(refused)),
+                done: Err(ScanError::from(refused)),
             };
         }
     };

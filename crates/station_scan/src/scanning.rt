@@ -6,21 +6,20 @@ ghost use Rattle.disk_io.specs.Disk.{Honestly};
 ghost use Rattle.disk_io.specs.Runs.{ChangesNothing};
 ghost use Rattle.cmd_status.specs.Devices.{output_of};
 ghost use Rattle.station.specs.Opening.{AreFree, HaveFailed};
-ghost use Rattle.station_scan.specs.Publishing.{KeepsBut, KeepsStoreBut};
+ghost use Rattle.station_scan.specs.Publishing.{UnchangedExcept, KeepsStoreBut};
 ghost use Rattle.station_scan.specs.Scanning.{IsTouched, ScansIn, ScansOnStore};
 
 use crate::beneath::Used;
-use crate::listing::Listing;
+use crate::listing::ListStaged;
 use crate::putting::put_taken;
-use crate::scan_stop::ScanStop;
+use crate::scan_error::ScanError;
 use crate::taking::{Taken, take_waiting};
-use crate::watching::Watching;
 use base_store::{Store, StoreError};
-use cmd_store::Stop;
+use cmd_store::CommandError;
 use disk_io::{Disk, Sink};
 use echo_links::LinkFile;
 use model_steps::Stamp;
-use station::{BeforeCommand, FileLock, LendStation, Locks, OpenStation, Opened};
+use station::{BeforeCommand, FileLock, LendStation, Locks, MessageProgress, OpenStation, Opened};
 use std::alloc::Global;
 
 /// A scan: its stamp, the folder of packets (a path that ends in a slash, or an empty one), a list of what earlier
@@ -37,7 +36,7 @@ pub struct Scan<'s, G, T> {
 #[derive(Drop)]
 pub struct Scanned<'a, D> {
     pub disk: D,
-    pub done: Result<(), ScanStop<'a>>,
+    pub done: Result<(), ScanError<'a>>,
 }
 
 /// `scan --at STAMP LINKS BASE DIR`: prints the lines of the packets of the waiting messages. It names or removes
@@ -49,8 +48,8 @@ pub fn run_scan<
     D: Disk,
     P: LendStation<'a, D>,
     Q: BeforeCommand<'a, P::Kept>,
-    G: Listing,
-    T: Watching,
+    G: ListStaged,
+    T: MessageProgress,
     L: FileLock,
     K: FileLock,
     W: Sink,
@@ -71,7 +70,7 @@ pub fn run_scan<
         (P.is_shut station failed (D.state disk) (D.state result.disk)) (Q.stops before.new)
         (failed ⊎ Failed (G.failures scan.old.listing) (G.failures scan.new.listing)) (D.state disk) (D.state result.disk)
         (output_of W.contents W.failures W.holds out.old) (output_of W.contents W.failures W.holds out.new) result.done) }
-    ensures keeps { KeepsBut (IsTouched (P.place station).is_own scan.old.outbound.now) (D.state disk) (D.state result.disk) }
+    ensures keeps { UnchangedExcept (IsTouched (P.place station).is_own scan.old.outbound.now) (D.state disk) (D.state result.disk) }
     ensures passed { OnOk result.done (Q.lets before.new) }
 {
     let paths = station.paths();
@@ -91,27 +90,27 @@ pub fn run_scan<
                     let disk = P::into_disk(kept);
                     Scanned {
                         disk,
-                        done: Err(ScanStop::Command(Stop::Met(fault))),
+                        done: Err(ScanError::Command(CommandError::Met(fault))),
                     }
                 }
             }
         }
         Err(stopped) => Scanned {
             disk: stopped.disk,
-            done: Err(ScanStop::Command(Stop::Met(stopped.fault))),
+            done: Err(ScanError::Command(CommandError::Met(stopped.fault))),
         },
     }
 }
 
 // Makes the packets of an open store, and writes them.
-fn scan_kept<'a, 's, D: Disk, P: LendStation<'a, D>, G: Listing, T: Watching, W: Sink>(
+fn scan_kept<'a, 's, D: Disk, P: LendStation<'a, D>, G: ListStaged, T: MessageProgress, W: Sink>(
     alloc: Global,
     links: &LinkFile,
     store: P::Kept,
     paths: &P::Paths,
     scan: &mut Scan<'s, G, T>,
     out: &mut W,
-) -> Used<P::Kept, Result<(), ScanStop<'a>>>
+) -> Used<P::Kept, Result<(), ScanError<'a>>>
     requires ready { (P.Kept.state store).is_ready }
     requires own { (m : List ℕ) → (P.Kept.state store).is_own m → P.Paths.is_own paths.now m }
     ensures scans { Honestly (P.Kept.state result.store).disk ((base : Base) → (P.Kept.state store).keeps base → (P.Kept.state store).committed base
@@ -121,7 +120,7 @@ fn scan_kept<'a, 's, D: Disk, P: LendStation<'a, D>, G: Listing, T: Watching, W:
     ensures keeps { KeepsStoreBut (IsTouched (P.Kept.state store).is_own scan.old.outbound.now) (P.Kept.state store) (P.Kept.state result.store) }
     ensures later { P.Kept.failures store ≤ P.Kept.failures result.store }
     ensures listing_later { G.failures scan.old.listing ≤ G.failures scan.new.listing }
-    ensures device { IsErrOf result.done (ScanStop.Command (Stop.Store StoreError.Device)) → Failed (P.Kept.failures store) (P.Kept.failures result.store) }
+    ensures device { IsErrOf result.done (ScanError.Command (CommandError.Store StoreError.Device)) → Failed (P.Kept.failures store) (P.Kept.failures result.store) }
 {
     let cursor = store.cursor();
     let Taken { store, files } = take_waiting(alloc, scan.stamp, links, store, &scan.watch, out);
@@ -137,7 +136,7 @@ fn scan_kept<'a, 's, D: Disk, P: LendStation<'a, D>, G: Listing, T: Watching, W:
         ),
         Err(stop) => Used {
             store,
-            done: Err(ScanStop::Command(stop)),
+            done: Err(ScanError::Command(stop)),
         },
     }
 }

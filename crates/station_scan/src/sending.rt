@@ -5,14 +5,14 @@ ghost use Rattle.station_scan.specs.Sending.{AreSent, file_paths, two_paths};
 use disk_atomic::Outgoing;
 use echo_addr::Items;
 use model_steps::PacketFile;
-use station::path_beside;
+use station::staging_path;
 use std::alloc::{AllocError, Global};
 
 /// The path of a packet, and its staging path before that.
 #[derive(Drop)]
 pub struct TwoPaths {
     pub path: Items<u8>,
-    pub beside: Items<u8>,
+    pub staging: Items<u8>,
 }
 
 /// The packets of a scan and their folder, whose path ends in a slash or is empty. The own name is in their staging
@@ -35,10 +35,10 @@ pub(crate) fn two_paths(
 {
     let mut path = Vec::from_slice(alloc, folder)?;
     path.extend_from_slice(name)?;
-    let beside = path_beside(alloc, &path, own)?;
+    let staging = staging_path(alloc, &path, own)?;
     Ok(TwoPaths {
         path: Items::new(path),
-        beside: Items::new(beside),
+        staging: Items::new(staging),
     })
 }
 
@@ -74,7 +74,7 @@ pub(crate) fn outgoing_of<'a>(
         let two = &paths[i];
         all.push(Outgoing {
             path: two.path.as_slice(),
-            beside: two.beside.as_slice(),
+            staging: two.staging.as_slice(),
             file,
         })?;
     }

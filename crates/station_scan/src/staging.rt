@@ -6,8 +6,8 @@ ghost use Rattle.disk_atomic.specs.Changes.{ChangesOnly};
 ghost use Rattle.disk_atomic.specs.Outgoing.{ArePlaced, IsAtStaging, IsFree, IsStaged};
 ghost use Rattle.station_scan.specs.Publishing.{AreStaged, HasStageCause, IsTrial, IsTriedWith, NoneStays};
 
-use crate::unpublished::Unpublished;
-use disk_atomic::{Outgoing, PlacingError, drop_beside, stage_packets, try_link};
+use crate::publish_error::PublishError;
+use disk_atomic::{Outgoing, PlacingError, drop_staging, stage_packets, try_link};
 use disk_io::{Disk, DiskError, sync_folder_of};
 use std::alloc::Global;
 
@@ -35,7 +35,7 @@ fn try_first<D: Disk>(
         return Ok(true);
     }
     let first = &packets[0];
-    try_link(disk, outbound, first.beside, trial)
+    try_link(disk, outbound, first.staging, trial)
 }
 
 // Writes each packet into its staging file, and syncs it, with nothing at its path. Then it tries whether files of
@@ -69,7 +69,7 @@ pub(crate) fn stage_or_drop<D: Disk>(
     outbound: &[u8],
     trial: &[u8],
     packets: &[Outgoing<'_>],
-) -> Result<bool, Unpublished>
+) -> Result<bool, PublishError>
     requires placed { ArePlaced outbound.now packets.now }
     requires trial { IsTrial outbound.now packets.now trial.now }
     ensures staged { IfOk result (λ free. free ≡ true → AreStaged packets.now (D.state disk.new)) }
@@ -81,9 +81,9 @@ pub(crate) fn stage_or_drop<D: Disk>(
 {
     match stage_tried(alloc, disk, outbound, trial, packets) {
         Ok(free) => Ok(free),
-        Err(cause) => match drop_beside(disk, outbound, trial, packets) {
-            Ok(()) => Err(Unpublished::Packets(PlacingError::from(cause))),
-            Err(_) => Err(Unpublished::Beside(cause)),
+        Err(cause) => match drop_staging(disk, outbound, trial, packets) {
+            Ok(()) => Err(PublishError::Packets(PlacingError::from(cause))),
+            Err(_) => Err(PublishError::Staging(cause)),
         },
     }
 }

@@ -9,25 +9,26 @@ ghost use Rattle.cmd_store.specs.Scanned.{ScansOn};
 ghost use Rattle.cmd_store.specs.Stops.{store_answer};
 ghost use Rattle.echo_toss.specs.PacketsIn.{state_in};
 
-use crate::watching::{Watched, Watching};
+use crate::reported::ReportedStore;
 use base_store::Store;
-use cmd_store::{Stop, scan_on};
+use cmd_store::{CommandError, scan_on};
 use disk_io::Sink;
 use echo_addr::Items;
 use echo_links::LinkFile;
 use model_steps::{PacketFile, Stamp};
+use station::MessageProgress;
 use std::alloc::Global;
 
 /// A store after a scan of it, and its packets.
 #[derive(Drop)]
 pub(crate) struct Taken<'a, S> {
     pub store: S,
-    pub files: Result<Items<PacketFile>, Stop<'a>>,
+    pub files: Result<Items<PacketFile>, CommandError<'a>>,
 }
 
 /// Makes the packets of the messages that wait, prints a line for each, and moves the cursor in the store. Nothing is
 /// committed. The watcher hears of each message.
-pub(crate) fn take_waiting<'a, S: Store, T: Watching, W: Sink>(
+pub(crate) fn take_waiting<'a, S: Store, T: MessageProgress, W: Sink>(
     alloc: Global,
     stamp: Stamp,
     links: &LinkFile,
@@ -44,8 +45,8 @@ pub(crate) fn take_waiting<'a, S: Store, T: Watching, W: Sink>(
     ensures quiet { ChangesNothing (S.state store).disk (S.state result.store).disk }
     ensures cause { HasStoreCause (S.state store) (S.state result.store) (S.failures store) (S.failures result.store) (store_answer result.files) }
 {
-    let mut watched = Watched { store, watch };
+    let mut reported = ReportedStore { store, watch };
     let files = scan_on(alloc, stamp, links, &mut watched, out);
-    let Watched { store, .. } = watched;
+    let ReportedStore { store, .. } = reported;
     Taken { store, files }
 }

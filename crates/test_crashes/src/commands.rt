@@ -3,7 +3,7 @@ use crate::packets::{next, packet};
 use base_store::PurgedStore;
 use cmd_report::NewMessage;
 use cmd_status::Fault;
-use cmd_store::{Post, Purge, Stop, StoreCommand, Toss, commit_on, scan_on};
+use cmd_store::{CommandError, Post, Purge, StoreCommand, Toss, commit_on, scan_on};
 use disk_io::Watched;
 use echo_links::LinkFile;
 use echo_packet::Limits;
@@ -54,7 +54,7 @@ pub(crate) fn run<T: PurgedStore>(
     links: &LinkFile,
     store: &mut T,
     job: Job,
-) -> Result<(), Stop<'static>>
+) -> Result<(), CommandError<'static>>
     requires { (T.state store.old).is_ready }
 {
     let mut out = Watched::new(Vec::new(alloc));
@@ -74,7 +74,7 @@ fn post<T: PurgedStore>(
     links: &LinkFile,
     store: &mut T,
     seed: u64,
-) -> Result<(), Stop<'static>>
+) -> Result<(), CommandError<'static>>
     requires { (T.state store.old).is_ready }
 {
     let words = NewMessage {
@@ -100,7 +100,7 @@ fn toss<T: PurgedStore>(
     links: &LinkFile,
     store: &mut T,
     seed: u64,
-) -> Result<(), Stop<'static>>
+) -> Result<(), CommandError<'static>>
     requires { (T.state store.old).is_ready }
 {
     let first = packet(alloc, seed)?;
@@ -110,6 +110,6 @@ fn toss<T: PurgedStore>(
     let mut out = Watched::new(Vec::new(alloc));
     match toss.run(alloc, links, store, &mut out)? {
         None => Ok(()),
-        Some(_) => Err(Stop::Met(Fault::OutOfMemory)),
+        Some(_) => Err(CommandError::Met(Fault::OutOfMemory)),
     }
 }

@@ -3,7 +3,7 @@ use crate::commands::{Job, run};
 use anyhow::{Result, bail};
 use base_file::Base;
 use base_store::MemoryStore;
-use cmd_store::Stop;
+use cmd_store::CommandError;
 use disk_io::Watched;
 use echo_links::LinkFile;
 use std::alloc::Global;
@@ -24,8 +24,8 @@ pub(crate) fn links(alloc: Global) -> Result<LinkFile> {
 fn step(alloc: Global, links: &LinkFile, store: &mut Memory, job: Job) -> Result<()> {
     match run(alloc, links, store, job) {
         Ok(()) => Ok(()),
-        Err(Stop::Met(_)) => Ok(()),
-        Err(Stop::Store(error)) => bail!("a base in memory failed: {error}"),
+        Err(CommandError::Met(_)) => Ok(()),
+        Err(CommandError::Store(error)) => bail!("a base in memory failed: {error}"),
     }
 }
 

@@ -5,10 +5,10 @@ ghost use Rattle.test_crashes.specs.declared.folders.TheConstants.{FOLDER};
 
 use crate::commands::{Job, run};
 use anyhow::{Result, bail};
-use base_folder::{Unread, look, open_own};
+use base_folder::{OpenError, open_own, read_snapshot};
 use base_folder_store::FolderStore;
 use base_store::{SipDigest, Store, StoreError};
-use cmd_store::Stop;
+use cmd_store::CommandError;
 use disk_io::Disk;
 use disk_memory::MemoryDisk;
 use echo_filed::{Key, by_id};
@@ -29,11 +29,11 @@ pub(crate) enum Ended {
     Wrong,
 }
 
-fn end_of(done: Result<(), Stop<'_>>) -> Ended {
+fn end_of(done: Result<(), CommandError<'_>>) -> Ended {
     match done {
-        Ok(()) | Err(Stop::Met(_)) => Ended::Well,
-        Err(Stop::Store(StoreError::Device)) => Ended::Stopped,
-        Err(Stop::Store(_)) => Ended::Wrong,
+        Ok(()) | Err(CommandError::Met(_)) => Ended::Well,
+        Err(CommandError::Store(StoreError::Device)) => Ended::Stopped,
+        Err(CommandError::Store(_)) => Ended::Wrong,
     }
 }
 
@@ -70,7 +70,7 @@ fn run_there<D: Disk + Drop>(alloc: Global, disk: D, links: &LinkFile, job: Job)
             let (disk, _folder) = store.into_parts();
             (disk, end_of(done))
         }
-        Err(Unread::Device) => (disk, Ended::Stopped),
+        Err(OpenError::Device) => (disk, Ended::Stopped),
         Err(_) => (disk, Ended::Wrong),
     }
 }
@@ -92,7 +92,7 @@ pub(crate) fn run_after_crash(
 /// Crashes, and answers the base file of what the folder has then.
 pub(crate) fn file_after_crash(alloc: Global, disk: &mut MemoryDisk) -> Result<Vec<u8>> {
     disk.crash(u64::MAX)?;
-    let seen = match look(alloc, disk, FOLDER, false, 0) {
+    let seen = match read_snapshot(alloc, disk, FOLDER, false, 0) {
         Ok(seen) => seen,
         Err(why) => bail!("not read: {why}"),
     };

@@ -6,8 +6,8 @@ ghost use Rattle.base_log.specs.Names.{AreNames, folder_of};
 ghost use Rattle.base_log.specs.Opening.{AreAlone};
 
 use base_log::{
-    End, FolderError, Mark, Names, Told, commit, judge, open, read_log, stage_anew, stage_keys,
-    stage_messages, stage_nothing,
+    CommitRecord, End, FolderError, FolderIdentity, Names, commit, judge, open, read_log,
+    stage_anew, stage_keys, stage_messages, stage_nothing,
 };
 use disk_io::{Disk, read_file};
 use std::alloc::{AllocError, Global};
@@ -21,7 +21,7 @@ pub(crate) struct Base {
     pub(crate) messages: Vec<u8>,
     pub(crate) keys: Vec<u8>,
     pub(crate) cursor: u64,
-    pub(crate) mark: Mark,
+    pub(crate) mark: FolderIdentity,
 }
 
 /// What one commit adds. If it starts new files, only the mark of the base stays.
@@ -31,7 +31,7 @@ pub(crate) struct Change {
     pub(crate) messages: Vec<u8>,
     pub(crate) keys: Vec<u8>,
     pub(crate) cursor: u64,
-    pub(crate) mark: Mark,
+    pub(crate) mark: FolderIdentity,
 }
 
 impl Base {
@@ -75,10 +75,10 @@ fn stage<D: Disk>(
     disk: &mut D,
     names: &Names,
     end: End,
-    told: Told,
+    told: CommitRecord,
     messages: &[u8],
     keys: &[u8],
-) -> Result<Told, FolderError>
+) -> Result<CommitRecord, FolderError>
     requires names { AreNames names.now told.number }
     requires staged { Honestly (D.state disk.old) (IsStaged (D.state disk.old) (folder_of names.now) end told) }
     ensures staged { Honestly (D.state disk.new) (IfOk result (λ more. IsStaged (D.state disk.new) (folder_of names.now) end more)) }
@@ -97,7 +97,7 @@ fn stage_and_commit<D: Disk>(
     disk: &mut D,
     names: &Names,
     end: End,
-    told: Told,
+    told: CommitRecord,
     change: &Change,
 ) -> Result<End, FolderError>
     requires names { AreNames names.now told.number }

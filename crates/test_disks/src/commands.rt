@@ -1,7 +1,7 @@
 //! The first posting of the worked examples, and what crashes leave of it.
 use crate::memory_station::{LINKS, NoWaiting, station};
 use cmd_report::NewMessage;
-use cmd_store::{Post, Stop};
+use cmd_store::{CommandError, Post};
 use disk_io::{Disk, DiskError, Watched, read_file};
 use disk_memory::{MemoryDisk, Tear};
 use model_steps::Stamp;
@@ -51,7 +51,7 @@ fn started(alloc: Global, tears: Vec<Tear>) -> Result<MemoryDisk, DiskError> {
 #[derive(Drop)]
 struct Posted {
     disk: MemoryDisk,
-    done: Result<(), Stop<'static>>,
+    done: Result<(), CommandError<'static>>,
     printed: Vec<u8>,
 }
 

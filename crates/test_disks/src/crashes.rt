@@ -7,7 +7,7 @@ ghost use Rattle.test_disks.specs.declared.crashes.TheConstants.{FOLDER};
 
 use crate::bases::{Base, change_folder, open_folder, read_base};
 use crate::random::Random;
-use base_log::{FolderError, Mark};
+use base_log::{FolderError, FolderIdentity};
 use disk_io::Disk;
 use disk_memory::{MemoryDisk, Tear};
 use std::alloc::{AllocError, Global};
@@ -42,7 +42,7 @@ fn nothing(alloc: Global) -> Base {
         messages: Vec::new(alloc),
         keys: Vec::new(alloc),
         cursor: 0,
-        mark: Mark {
+        mark: FolderIdentity {
             owner: 0,
             first: 0,
             second: 0,

@@ -1,6 +1,6 @@
 //! A base folder on files of the system.
 use crate::bases::{Base, Change, change_folder, open_folder, read_base};
-use base_log::{FolderError, Mark};
+use base_log::{FolderError, FolderIdentity};
 use disk_system::{RealDisk, Unknown};
 use std::fs;
 use std::fs::OpenOptions;
@@ -10,13 +10,13 @@ use std::test::Fail;
 const FOLDER: &[u8] = b"disk_tests_base/";
 
 /// Nobody's mark, and that of the folder's owner.
-const UNCLAIMED: Mark = Mark {
+const UNCLAIMED: FolderIdentity = FolderIdentity {
     owner: 0,
     first: 0,
     second: 0,
 };
 
-const CLAIMED: Mark = Mark {
+const CLAIMED: FolderIdentity = FolderIdentity {
     owner: 5,
     first: 6,
     second: 7,

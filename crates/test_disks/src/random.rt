@@ -1,6 +1,6 @@
 //! Numbers from a seed, and changes of a base made of them.
 use crate::bases::Change;
-use base_log::Mark;
+use base_log::FolderIdentity;
 use std::alloc::{AllocError, Global};
 
 /// Numbers that look random, the same for each seed.
@@ -33,8 +33,8 @@ impl Random {
     }
 
     // Numbers of up to 62 bits, which have eight bytes.
-    fn mark(&mut self) -> Mark {
-        Mark {
+    fn mark(&mut self) -> FolderIdentity {
+        FolderIdentity {
             owner: self.next() << 31,
             first: self.next() << 31,
             second: self.next(),

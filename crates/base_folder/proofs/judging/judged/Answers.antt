@@ -1,7 +1,7 @@
 use Rattle.std.proofs.Common.{◌≡◌, ◌∙◌, List, ℕ, ap, sym, subst}
 use Rattle.disk_io.specs.Disk.{Files, bytes_in}
 use Rattle.base_log.specs.Names.{log_of}
-use Rattle.base_folder.specs.Unread.{IsWrong}
+use Rattle.base_folder.specs.OpenError.{IsWrong}
 use Rattle.base_folder.specs.Wrong.{IsFolderLog}
 use Rattle.base_folder.proofs.Lookings.{err_is}
 use Rattle.base_folder.proofs.Openings.{stood_before}

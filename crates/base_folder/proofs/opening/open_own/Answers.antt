@@ -3,7 +3,7 @@ use Rattle.disk_io.specs.Disk.{bytes_in}
 use Rattle.base_log.specs.Names.{log_of}
 use Rattle.base_log.specs.Standing.{base_at}
 use Rattle.base_log.specs.declared.log.End.{End}
-use Rattle.base_log.specs.declared.log.Told.{Told}
+use Rattle.base_log.specs.declared.log.CommitRecord.{CommitRecord}
 use Rattle.base_log.proofs.Gates.{outside_quiet, outside_twice}
 use Rattle.base_folder_store.specs.declared.folder.Folder.{Folder}
 use Rattle.base_folder.specs.Ours.{number_of}
@@ -25,7 +25,7 @@ open-requires-clause-stands g c honest =
 pub claim_for-requires : goal.claim_for-requires
 claim_for-requires g c =
     let own = c.args.own in
-    subst (λ (t : Told). (t.mark.owner ≡ 0) ⊎ (t.mark.owner ≡ number_of own)) (sym c.in_ok-folder.ensures.settled.1)
+    subst (λ (t : CommitRecord). (t.mark.owner ≡ 0) ⊎ (t.mark.owner ≡ number_of own)) (sym c.in_ok-folder.ensures.settled.1)
     (elim c.else-owner-ne0.branch [
       | else-owner-ne0-via-then-owner-ne0+else-owner-number w ↦ inr (w.if-owner-number.false ∙ c.number_of-number.ensures.number)
       | else-owner-ne0-via-else-owner-ne0 w ↦ inl w.if-owner-ne0.false
@@ -104,7 +104,7 @@ returns-clause-drawn g c none =
           inr (ap (λ (f : Folder). f.end.told.mark.owner) only ∙ ap (λ (e : End). e.told.mark.owner) settled.0 ∙ w.if-owner-number.false ∙ c.number_of-number.ensures.number)
       | else-owner-ne0-via-else-owner-ne0 w ↦
           inl (c.claim_for.ensures.drawn (record {
-            owner = ap (λ (t : Told). t.mark.owner) settled.1 ∙ w.if-owner-ne0.false;
+            owner = ap (λ (t : CommitRecord). t.mark.owner) settled.1 ∙ w.if-owner-ne0.false;
             keys = sym (ap (λ (f : Folder). length f.keys.items) only) ∙ none;
           }))
     ]

@@ -10,7 +10,7 @@ use Rattle.base_log.specs.Opening.{KeepsButOne, StandsOrWasLeft}
 use Rattle.base_log.specs.Standing.{BaseBytes, StandsFor, base_at}
 use Rattle.base_log.specs.Reading.{IsLogIn, IsRead}
 use Rattle.base_log.specs.declared.log.Log.{Log}
-use Rattle.base_log.specs.declared.log.Told.{Told}
+use Rattle.base_log.specs.declared.log.CommitRecord.{CommitRecord}
 use Rattle.base_log.proofs.Empty.{chained_alone, no_record}
 use Rattle.base_log.proofs.Gates.{outside_quiet, outside_twice}
 use Rattle.base_log.proofs.Opened.{end_shut, end_tells, files_beside, files_settled, first_files, has_files, log_moved, none_at, none_log, nothing_read}
@@ -54,7 +54,7 @@ pub make_files-requires-clause-names : goal.make_files-requires-clause-names
 make_files-requires-clause-names g c =
     let log = c.args.log.now in
     let none = nothing_read log.bytes.items log.end c.requires.read (omega (arith, c.if-log-gt0.false)) in
-    subst (λ (n : ℕ). AreNames c.args.names.now n) (ap (λ (t : Told). t.number) none) c.requires.names
+    subst (λ (n : ℕ). AreNames c.args.names.now n) (ap (λ (t : CommitRecord). t.number) none) c.requires.names
 
 pub make_files-requires-clause-named : goal.make_files-requires-clause-named
 make_files-requires-clause-named g c h1 = (c.in_ok-settle_log.ensures.log h1).named
@@ -73,14 +73,14 @@ settle_files-requires-2-clause-messages g c h2 =
     let log = c.args.log.now in
     let d2 = g.D.Disk.state c.make_files.new.disk in
     let none = nothing_read log.bytes.items log.end c.requires.read (omega (arith, c.if-log-gt0.false)) in
-    subst (λ (l : List ℕ). IsSome (d2.seen l)) (ap (λ (t : Told). messages_of (folder_of c.args.names.now) t.number) (sym none) ∙ sym c.requires.names.messages) c.in_ok-make_files.ensures.messages
+    subst (λ (l : List ℕ). IsSome (d2.seen l)) (ap (λ (t : CommitRecord). messages_of (folder_of c.args.names.now) t.number) (sym none) ∙ sym c.requires.names.messages) c.in_ok-make_files.ensures.messages
 
 pub settle_files-requires-2-clause-keys : goal.settle_files-requires-2-clause-keys
 settle_files-requires-2-clause-keys g c h2 =
     let log = c.args.log.now in
     let d2 = g.D.Disk.state c.make_files.new.disk in
     let none = nothing_read log.bytes.items log.end c.requires.read (omega (arith, c.if-log-gt0.false)) in
-    subst (λ (l : List ℕ). IsSome (d2.seen l)) (ap (λ (t : Told). keys_of (folder_of c.args.names.now) t.number) (sym none) ∙ sym c.requires.names.keys) c.in_ok-make_files.ensures.keys
+    subst (λ (l : List ℕ). IsSome (d2.seen l)) (ap (λ (t : CommitRecord). keys_of (folder_of c.args.names.now) t.number) (sym none) ∙ sym c.requires.names.keys) c.in_ok-make_files.ensures.keys
 
 pub returns-in_err-settle_log-clause-any_moment : goal.returns-in_err-settle_log-clause-any_moment
 returns-in_err-settle_log-clause-any_moment g c h1 =
@@ -220,9 +220,9 @@ returns-clause-settled g c h3 =
     let none = nothing_read log.bytes.items log.end c.requires.read (omega (arith, c.if-log-gt0.false)) in
     let files = c.in_ok-make_files.ensures in
     files_settled d2 d3 path log.end (log_moved d1 d2 path log.end (c.in_ok-settle_log.ensures.log h1) c.make_files.ensures.same (c.make_files.ensures.log h2) files.named) c.settle_files-2.ensures.quiet
-    (omega (arith, ap (λ (t : Told). t.number) none)) (first_files path d2.seen told none files.messages files.keys)
-    (subst (λ (t : Told). d2.is_alone (messages_of path t.number)) (sym none) files.messages_alone)
-    (subst (λ (t : Told). d2.is_alone (keys_of path t.number)) (sym none) files.keys_alone)
+    (omega (arith, ap (λ (t : CommitRecord). t.number) none)) (first_files path d2.seen told none files.messages files.keys)
+    (subst (λ (t : CommitRecord). d2.is_alone (messages_of path t.number)) (sym none) files.messages_alone)
+    (subst (λ (t : CommitRecord). d2.is_alone (keys_of path t.number)) (sym none) files.keys_alone)
     (subst (λ (l : List ℕ). d3.is_flushed l) c.requires.names.messages c.in_ok-settle_files-2.ensures.messages)
     (subst (λ (l : List ℕ). d3.is_flushed l) c.requires.names.keys c.in_ok-settle_files-2.ensures.keys)
 
@@ -233,7 +233,7 @@ returns-clause-same g c h3 =
     let d0 = g.D.Disk.state c.args.disk.now in
     let d3 = g.D.Disk.state c.settle_files-2.new.disk in
     let none = nothing_read log.bytes.items log.end c.requires.read (omega (arith, c.if-log-gt0.false)) in
-    subst (λ (t : Told). base_at d3 path t ≡ base_at d0 path t) (sym none) refl
+    subst (λ (t : CommitRecord). base_at d3 path t ≡ base_at d0 path t) (sym none) refl
 
 pub returns-clause-any_moment : goal.returns-clause-any_moment
 returns-clause-any_moment g c h3 =

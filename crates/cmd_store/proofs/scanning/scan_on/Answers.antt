@@ -26,7 +26,7 @@ returns-in_err-print_rest-clause-answers g c =
     let printed = c.in_ok-files.ensures.lines in
     rw (p.1, p.2) (λ honest base kept.
     let right = scanned_at c.args.stamp (state_in c.args.links.now base) c.in_ok-packets.packets.items c.in_ok-files.files.items c.cursor-before.result _ _
-    c.in_ok-packets.ensures.stamp (c.in_ok-packets.ensures.packets honest base kept) (c.cursor-before.ensures (c.scan_in.ensures.commits.beside.honest honest) base kept) sent c.new-lines.ensures.items printed in
+    c.in_ok-packets.ensures.stamp (c.in_ok-packets.ensures.packets honest base kept) (c.cursor-before.ensures (c.scan_step.ensures.commits.beside.honest honest) base kept) sent c.new-lines.ensures.items printed in
     inl (
       c.in_err-print_rest.ensures.err,
       record { lines = c.packet_files.new.lines.items; answer = c.in_ok-files.files.items; right = right; begun = c.in_err-print_rest.ensures.begun },
@@ -38,7 +38,7 @@ returns-clause-answers g c =
     let printed = c.in_ok-files.ensures.lines in
     rw c.new.ensures (λ honest base kept.
     let right = scanned_at c.args.stamp (state_in c.args.links.now base) c.in_ok-packets.packets.items c.in_ok-files.files.items c.cursor-before.result _ _
-    c.in_ok-packets.ensures.stamp (c.in_ok-packets.ensures.packets honest base kept) (c.cursor-before.ensures (c.scan_in.ensures.commits.beside.honest honest) base kept) sent c.new-lines.ensures.items printed in
+    c.in_ok-packets.ensures.stamp (c.in_ok-packets.ensures.packets honest base kept) (c.cursor-before.ensures (c.scan_step.ensures.commits.beside.honest honest) base kept) sent c.new-lines.ensures.items printed in
     record {
       lines = c.packet_files.new.lines.items;
       right = right;

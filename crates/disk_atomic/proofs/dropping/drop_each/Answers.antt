@@ -1,18 +1,18 @@
 use Rattle.std.proofs.Common.{◌<◌, arith, get_or, length, subst, sym}
 use Rattle.std.proofs.lemmas.List.Elements.{AllWithin-from_all}
 use Rattle.disk_atomic.specs.Changes.{ChangesOnly}
-use Rattle.disk_atomic.specs.Outgoing.{AreApart, IsBesideOne, IsGoneBeside, IsNamedBeside}
+use Rattle.disk_atomic.specs.Outgoing.{AreApart, IsStagingOne, IsStagingGone, IsStagingNamed}
 use Rattle.disk_atomic.specs.declared.outgoing.Outgoing.{Outgoing}
 use Rattle.disk_atomic.proofs.Changes.{only_start, then_only}
 use Rattle.disk_atomic.proofs.Each.{ahead, among, behind, here}
-use Rattle.disk_atomic.proofs.Packets.{At, apart_back, beside_one, gone_stays, named_stays}
+use Rattle.disk_atomic.proofs.Packets.{At, apart_back, staging_one, gone_stays, named_stays}
 use Rattle.disk_atomic.proofs.dropping.drop_each.Goals as goal
 
 pub packets-init : goal.packets-init
 packets-init g c =
     let packets = c.args.packets.now in
     let d = g.D.Disk.state c.args.disk.now in
-    record { changes = only_start (IsBesideOne packets) d; gone = λ honest k z low high. absurd (omega (arith, high)); named = AllWithin-from_all (IsNamedBeside d) packets c.requires.named; later = omega arith }
+    record { changes = only_start (IsStagingOne packets) d; gone = λ honest k z low high. absurd (omega (arith, high)); named = AllWithin-from_all (IsStagingNamed d) packets c.requires.named; later = omega arith }
 
 pub drop_one-requires : goal.drop_one-requires
 drop_one-requires g c =
@@ -20,7 +20,7 @@ drop_one-requires g c =
     let d = g.D.Disk.state c.packets.disk in
     let z = c.packet-item.result in
     let lt : c.packets.packet-index < length packets = omega arith in
-    subst (IsNamedBeside d) (sym c.packet-item.is) (here (IsNamedBeside d) packets c.packets.packet-index z lt c.packets.invariant.named)
+    subst (IsStagingNamed d) (sym c.packet-item.is) (here (IsStagingNamed d) packets c.packets.packet-index z lt c.packets.invariant.named)
 
 pub packets-preserved : goal.packets-preserved
 packets-preserved g c =
@@ -36,9 +36,9 @@ packets-preserved g c =
     let e = g.D.Disk.state c.drop_one.new.disk in
     let one : ChangesOnly (At x) d e = subst (λ (p : Outgoing). ChangesOnly (At p) d e) c.packet-item.is c.drop_one.ensures.changes in
     record {
-      changes = then_only (IsBesideOne packets) d0 d e inv.changes (beside_one packets x (among packets i z lt) d e one);
-      gone = λ honest. behind AreApart apart_back packets pairs i z lt (IsGoneBeside d) (IsGoneBeside e) (gone_stays d e x one) (subst (IsGoneBeside e) c.packet-item.is (c.in_ok-drop_one.ensures.gone honest)) (inv.gone (one.honest honest));
-      named = ahead AreApart apart_back packets pairs i z lt (IsNamedBeside d) (IsNamedBeside e) (named_stays d e x one) inv.named;
+      changes = then_only (IsStagingOne packets) d0 d e inv.changes (staging_one packets x (among packets i z lt) d e one);
+      gone = λ honest. behind AreApart apart_back packets pairs i z lt (IsStagingGone d) (IsStagingGone e) (gone_stays d e x one) (subst (IsStagingGone e) c.packet-item.is (c.in_ok-drop_one.ensures.gone honest)) (inv.gone (one.honest honest));
+      named = ahead AreApart apart_back packets pairs i z lt (IsStagingNamed d) (IsStagingNamed e) (named_stays d e x one) inv.named;
       later = omega (arith, c.drop_one.ensures.later, inv.later);
     }
 
@@ -51,5 +51,5 @@ returns-in_err-drop_one-clause-changes g c =
     let lt : i < length packets = omega arith in
     let d = g.D.Disk.state c.packets.disk in
     let e = g.D.Disk.state c.drop_one.new.disk in
-    then_only (IsBesideOne packets) (g.D.Disk.state c.args.disk.now) d e c.packets.invariant.changes
-    (beside_one packets x (among packets i z lt) d e (subst (λ (p : Outgoing). ChangesOnly (At p) d e) c.packet-item.is c.drop_one.ensures.changes))
+    then_only (IsStagingOne packets) (g.D.Disk.state c.args.disk.now) d e c.packets.invariant.changes
+    (staging_one packets x (among packets i z lt) d e (subst (λ (p : Outgoing). ChangesOnly (At p) d e) c.packet-item.is c.drop_one.ensures.changes))

@@ -17,18 +17,18 @@ use Rattle.disk_atomic.proofs.finishing.finish_one.Goals as goal
 pub name_packet-requires-clause-there : goal.name_packet-requires-clause-there
 name_packet-requires-clause-there g c honest =
     let quiet = c.sync.ensures.quiet in
-    subst (λ f. IsSome f) (sym (quiet.seen c.args.left.now.beside.now)) (c.requires.there (quiet.honest honest))
+    subst (λ f. IsSome f) (sym (quiet.seen c.args.left.now.staging.now)) (c.requires.there (quiet.honest honest))
 
 removed : (g : given.Over) (c : After-remove g) → ChangesOnly (AtLeft c.args.left.now) (g.D.Disk.state c.args.disk.now) (g.D.Disk.state c.remove.new.self)
 removed g c =
     let l = c.args.left.now in
     let now = c.remove.ensures in
-    only_call (AtLeft l) (g.D.Disk.state c.args.disk.now) (g.D.Disk.state c.remove.new.self) l.beside.now TornRemoval (inl refl) c.requires.named.beside now.beside now.crash
+    only_call (AtLeft l) (g.D.Disk.state c.args.disk.now) (g.D.Disk.state c.remove.new.self) l.staging.now TornRemoval (inl refl) c.requires.named.staging now.staging now.crash
     (λ m out. now.named m (λ e. out (inl e))) (λ m out. now.flushed m (λ e. out (inl e))) (λ m out. now.alone m (λ e. out (inl e))) now.time
 
 removal : (g : given.Over) (c : After-remove g) → LeavesOnly (g.D.Disk.state c.args.disk.now) (g.D.Disk.state c.remove.new.self) (OneStepOn (Finishes c.args.cursor c.args.left.now) (g.D.Disk.state c.args.disk.now))
 removal g c =
-    removed_finishes c.args.cursor c.args.left.now c.if-left-cursor.true c.requires.placed.other (g.D.Disk.state c.args.disk.now) (g.D.Disk.state c.remove.new.self) c.requires.named.beside c.remove.ensures.time c.remove.ensures.crash
+    removed_finishes c.args.cursor c.args.left.now c.if-left-cursor.true c.requires.placed.other (g.D.Disk.state c.args.disk.now) (g.D.Disk.state c.remove.new.self) c.requires.named.staging c.remove.ensures.time c.remove.ensures.crash
 
 pub returns-in_err-remove-clause-changes : goal.returns-in_err-remove-clause-changes
 returns-in_err-remove-clause-changes g c = removed g (goal.at.returns-in_err-remove-clause-changes g c).After-remove
@@ -49,14 +49,14 @@ returns-then-left-cursor-clause-over g c honest is =
     record {
       committed = λ lt. absurd (omega (arith, c.if-left-cursor.true));
       gone = λ le. c.in_ok-remove.ensures.gone;
-      untouched = λ le. now.beside l.path.now (λ e. c.requires.placed.other (sym e));
+      untouched = λ le. now.staging l.path.now (λ e. c.requires.placed.other (sym e));
     }
 
 pub returns-then-left-cursor-clause-kept : goal.returns-then-left-cursor-clause-kept
 returns-then-left-cursor-clause-kept g c honest some =
     let l = c.args.left.now in
     let now = c.remove.ensures in
-    now.beside l.path.now (λ e. c.requires.placed.other (sym e))
+    now.staging l.path.now (λ e. c.requires.placed.other (sym e))
 
 pub returns-in_err-sync-clause-changes : goal.returns-in_err-sync-clause-changes
 returns-in_err-sync-clause-changes g c =
@@ -89,7 +89,7 @@ returns-clause-any_moment g c honest =
     let d2 = g.D.Disk.state c.name_packet.new.disk in
     let quiet = c.sync.ensures.quiet in
     let now = c.name_packet.ensures in
-    quiet_then d0 d1 d2 (Names l.path.now l.beside.now) (Finishes c.args.cursor l) quiet (λ f. record { others = λ m out. refl; ends = ends_same c.args.cursor f f l refl refl }) (now.any_moment honest)
+    quiet_then d0 d1 d2 (Names l.path.now l.staging.now) (Finishes c.args.cursor l) quiet (λ f. record { others = λ m out. refl; ends = ends_same c.args.cursor f f l refl refl }) (now.any_moment honest)
     (named_finishes c.args.cursor l c.if-left-cursor.false)
 
 pub returns-clause-over : goal.returns-clause-over
@@ -100,11 +100,11 @@ returns-clause-over g c honest =
     let d2 = g.D.Disk.state c.name_packet.new.disk in
     let quiet = c.sync.ensures.quiet in
     let now = c.name_packet.ensures in
-    IfOk-weaker c.name_packet.result (λ b. b ≡ true → HasMoved d1 d2 l.path.now l.beside.now) (λ b. b ≡ true → IsOver c.args.cursor d0 d2 l)
+    IfOk-weaker c.name_packet.result (λ b. b ≡ true → HasMoved d1 d2 l.path.now l.staging.now) (λ b. b ≡ true → IsOver c.args.cursor d0 d2 l)
     (λ b moves is.
-    let moved : HasMoved d1 d2 l.path.now l.beside.now = moves is in
+    let moved : HasMoved d1 d2 l.path.now l.staging.now = moves is in
     record {
-      committed = λ lt. record { seen = moved.seen ∙ quiet.seen l.beside.now; gone = moved.gone; named = moved.named; flushed = moved.flushed };
+      committed = λ lt. record { seen = moved.seen ∙ quiet.seen l.staging.now; gone = moved.gone; named = moved.named; flushed = moved.flushed };
       gone = λ le. moved.gone;
       untouched = λ le. absurd (omega (arith, c.if-left-cursor.false));
     }) (now.named honest)
@@ -123,5 +123,5 @@ returns-clause-taken g c honest =
     let d1 = g.D.Disk.state c.sync.new.self in
     let quiet = c.sync.ensures.quiet in
     let now = c.name_packet.ensures in
-    IfOk-weaker c.name_packet.result (λ b. b ≡ false → IsTaken d1 l.path.now l.beside.now) (λ b. b ≡ false → IsFreeOf d0 l → ⊥)
+    IfOk-weaker c.name_packet.result (λ b. b ≡ false → IsTaken d1 l.path.now l.staging.now) (λ b. b ≡ false → IsFreeOf d0 l → ⊥)
     (λ b taken is free. none_is_not_there (d1.seen l.path.now) (quiet.seen l.path.now ∙ free) (taken is).there) (now.taken honest)

@@ -24,8 +24,8 @@ found-init g c =
       changes = only_nothing (IsOfLeft found) d0 d1 quiet;
       any_moment = λ honest. none_finished c.args.cursor found d0 d1 quiet;
       named = λ k z low high.
-          record { path = c.in_ok-sync_folder_of.ensures.durable (get_or found k z).path.now (c.requires.found.each k z high).path_in; beside = c.in_ok-sync_folder_of.ensures.durable (get_or found k z).beside.now (c.requires.found.each k z high).beside_in };
-      same = λ k z low high. record { path = quiet.seen (get_or found k z).path.now; beside = quiet.seen (get_or found k z).beside.now };
+          record { path = c.in_ok-sync_folder_of.ensures.durable (get_or found k z).path.now (c.requires.found.each k z high).path_in; staging = c.in_ok-sync_folder_of.ensures.durable (get_or found k z).staging.now (c.requires.found.each k z high).staging_in };
+      same = λ k z low high. record { path = quiet.seen (get_or found k z).path.now; staging = quiet.seen (get_or found k z).staging.now };
       over = λ honest is. AllWithin-none (IsOver c.args.cursor d0 d1) found 0;
       kept = λ honest. AllWithin-none (KeepsFile d0 d1) found 0;
       taken = λ honest is. absurd (cc is);
@@ -43,7 +43,7 @@ finish_one-requires-clause-there g c honest =
     let i = c.found.left-index in
     let lt : i < length found = omega arith in
     let same = here (IsSameLeft (g.D.Disk.state c.args.disk.now) (g.D.Disk.state c.found.disk)) found i nothing_left lt c.found.invariant.same in
-    subst (λ f. IsSome f) (sym same.beside) (c.requires.there (c.found.invariant.changes.honest honest) i nothing_left lt)
+    subst (λ f. IsSome f) (sym same.staging) (c.requires.there (c.found.invariant.changes.honest honest) i nothing_left lt)
 
 pub finish_one-requires-clause-named : goal.finish_one-requires-clause-named
 finish_one-requires-clause-named g c =

@@ -6,8 +6,8 @@ use Rattle.disk_atomic.specs.Naming.{IsTaken}
 use Rattle.disk_atomic.proofs.Whole.{none_is_not_there, on_ok_any, there_unless}
 use Rattle.disk_atomic.proofs.naming.give_path.Goals as goal
 
-pub has_both-requires-clause-beside_there : goal.has_both-requires-clause-beside_there
-has_both-requires-clause-beside_there g c honest =
+pub has_both-requires-clause-staging_there : goal.has_both-requires-clause-staging_there
+has_both-requires-clause-staging_there g c honest =
     let gives = c.link_path.ensures.gives in
     subst (λ f. IsSome f) (sym gives.stays.seen) (c.requires.there (gives.changes.honest honest))
 
@@ -18,7 +18,7 @@ has_both-requires-clause-path_there g c honest =
 
 pub returns-clause-gives : goal.returns-clause-gives
 returns-clause-gives g c =
-    gives_quiet (g.D.Disk.state c.args.disk.now) (g.D.Disk.state c.link_path.new.disk) (g.D.Disk.state c.has_both.new.disk) c.args.path.now c.args.beside.now c.link_path.ensures.gives c.has_both.ensures.quiet
+    gives_quiet (g.D.Disk.state c.args.disk.now) (g.D.Disk.state c.link_path.new.disk) (g.D.Disk.state c.has_both.new.disk) c.args.path.now c.args.staging.now c.link_path.ensures.gives c.has_both.ensures.quiet
 
 pub returns-then-branch-clause-over_none : goal.returns-then-branch-clause-over_none
 returns-then-branch-clause-over_none g c honest some =
@@ -27,12 +27,12 @@ returns-then-branch-clause-over_none g c honest some =
 pub returns-clause-given : goal.returns-clause-given
 returns-clause-given g c honest =
     let path = c.args.path.now in
-    let beside = c.args.beside.now in
+    let staging = c.args.staging.now in
     let both = c.has_both.ensures in
     let d0 = g.D.Disk.state c.args.disk.now in
     let d1 = g.D.Disk.state c.link_path.new.disk in
     let d2 = g.D.Disk.state c.has_both.new.disk in
-    IfOk-weaker c.has_both.result (λ b. (b ≡ true) ↔ (d1.seen beside ≡ d1.seen path)) (λ b. b ≡ true → d2.seen path ≡ d0.seen beside)
+    IfOk-weaker c.has_both.result (λ b. (b ≡ true) ↔ (d1.seen staging ≡ d1.seen path)) (λ b. b ≡ true → d2.seen path ≡ d0.seen staging)
     (λ b iff is. both.quiet.seen path ∙ sym (iff.0 is) ∙ c.link_path.ensures.gives.stays.seen) (both.same honest)
 
 pub returns-clause-over_none : goal.returns-clause-over_none
@@ -42,12 +42,12 @@ returns-clause-over_none g c honest =
 pub returns-clause-taken : goal.returns-clause-taken
 returns-clause-taken g c honest =
     let path = c.args.path.now in
-    let beside = c.args.beside.now in
+    let staging = c.args.staging.now in
     let both = c.has_both.ensures in
     let d0 = g.D.Disk.state c.args.disk.now in
     let d1 = g.D.Disk.state c.link_path.new.disk in
     let now = c.in_ok-link_path.ensures in
-    IfOk-weaker c.has_both.result (λ b. (b ≡ true) ↔ (d1.seen beside ≡ d1.seen path)) (λ b. b ≡ false → IsTaken d0 path beside)
+    IfOk-weaker c.has_both.result (λ b. (b ≡ true) ↔ (d1.seen staging ≡ d1.seen path)) (λ b. b ≡ false → IsTaken d0 path staging)
     (λ b iff is. record {
       there = there_unless (d0.seen path) _ (now.free (both.quiet.honest honest)) c.if-branch.false;
       other = λ same.

@@ -15,12 +15,12 @@ pub remove-requires : goal.remove-requires
 remove-requires g c honest =
     let gives = c.give_path.ensures.gives in
     let quiet = c.sync_folder_of.ensures.quiet in
-    subst (λ f. IsSome f) (sym (quiet.seen c.args.beside.now ∙ gives.stays.seen)) (c.requires.there (gives.changes.honest (quiet.honest honest)))
+    subst (λ f. IsSome f) (sym (quiet.seen c.args.staging.now ∙ gives.stays.seen)) (c.requires.there (gives.changes.honest (quiet.honest honest)))
 
 -- up to the flush of the folder
-flushed : (g : given.Over) (c : After-sync_folder_of g) → Gives (g.D.Disk.state c.args.disk.now) (g.D.Disk.state c.sync_folder_of.new.disk) c.args.path.now c.args.beside.now
+flushed : (g : given.Over) (c : After-sync_folder_of g) → Gives (g.D.Disk.state c.args.disk.now) (g.D.Disk.state c.sync_folder_of.new.disk) c.args.path.now c.args.staging.now
 flushed g c =
-    gives_quiet (g.D.Disk.state c.args.disk.now) (g.D.Disk.state c.give_path.new.disk) (g.D.Disk.state c.sync_folder_of.new.disk) c.args.path.now c.args.beside.now c.give_path.ensures.gives c.sync_folder_of.ensures.quiet
+    gives_quiet (g.D.Disk.state c.args.disk.now) (g.D.Disk.state c.give_path.new.disk) (g.D.Disk.state c.sync_folder_of.new.disk) c.args.path.now c.args.staging.now c.give_path.ensures.gives c.sync_folder_of.ensures.quiet
 
 pub returns-in_err-sync_folder_of-clause-changes : goal.returns-in_err-sync_folder_of-clause-changes
 returns-in_err-sync_folder_of-clause-changes g c = (flushed g (goal.at.returns-in_err-sync_folder_of-clause-changes g c).After-sync_folder_of).changes
@@ -29,30 +29,30 @@ pub returns-in_err-sync_folder_of-clause-any_moment : goal.returns-in_err-sync_f
 returns-in_err-sync_folder_of-clause-any_moment g c honest = (flushed g (goal.at.returns-in_err-sync_folder_of-clause-any_moment g c).After-sync_folder_of).any_moment
 
 -- and up to the removal
-removed : (g : given.Over) (c : After-remove g) → ChangesOnly (λ m. (m ≡ c.args.beside.now) ⊎ (m ≡ c.args.path.now)) (g.D.Disk.state c.args.disk.now) (g.D.Disk.state c.remove.new.self)
+removed : (g : given.Over) (c : After-remove g) → ChangesOnly (λ m. (m ≡ c.args.staging.now) ⊎ (m ≡ c.args.path.now)) (g.D.Disk.state c.args.disk.now) (g.D.Disk.state c.remove.new.self)
 removed g c =
-    let beside = c.args.beside.now in
-    let both = λ (m : List ℕ). (m ≡ beside) ⊎ (m ≡ c.args.path.now) in
+    let staging = c.args.staging.now in
+    let both = λ (m : List ℕ). (m ≡ staging) ⊎ (m ≡ c.args.path.now) in
     let d0 = g.D.Disk.state c.args.disk.now in
     let d2 = g.D.Disk.state c.sync_folder_of.new.disk in
     let d3 = g.D.Disk.state c.remove.new.self in
     let now = c.remove.ensures in
-    then_only both d0 d2 d3 (gives_quiet (g.D.Disk.state c.args.disk.now) (g.D.Disk.state c.give_path.new.disk) (g.D.Disk.state c.sync_folder_of.new.disk) c.args.path.now c.args.beside.now c.give_path.ensures.gives c.sync_folder_of.ensures.quiet).changes
-    (only_call both d2 d3 beside TornRemoval (inl refl) (c.in_ok-sync_folder_of.ensures.durable beside c.requires.beside_in) now.beside now.crash
+    then_only both d0 d2 d3 (gives_quiet (g.D.Disk.state c.args.disk.now) (g.D.Disk.state c.give_path.new.disk) (g.D.Disk.state c.sync_folder_of.new.disk) c.args.path.now c.args.staging.now c.give_path.ensures.gives c.sync_folder_of.ensures.quiet).changes
+    (only_call both d2 d3 staging TornRemoval (inl refl) (c.in_ok-sync_folder_of.ensures.durable staging c.requires.staging_in) now.staging now.crash
     (λ m out. now.named m (λ e. out (inl e))) (λ m out. now.flushed m (λ e. out (inl e))) (λ m out. now.alone m (λ e. out (inl e))) now.time)
 
 moments : (g : given.Over) (c : After-remove g) → Honestly (g.D.Disk.state c.remove.new.self)
-    (LeavesOnly (g.D.Disk.state c.args.disk.now) (g.D.Disk.state c.remove.new.self) (OneStepOn (Names c.args.path.now c.args.beside.now) (g.D.Disk.state c.args.disk.now)))
+    (LeavesOnly (g.D.Disk.state c.args.disk.now) (g.D.Disk.state c.remove.new.self) (OneStepOn (Names c.args.path.now c.args.staging.now) (g.D.Disk.state c.args.disk.now)))
 moments g c honest =
     let path = c.args.path.now in
-    let beside = c.args.beside.now in
+    let staging = c.args.staging.now in
     let now = c.remove.ensures in
     let quiet = c.sync_folder_of.ensures.quiet in
     let names = c.in_ok-sync_folder_of.ensures.durable in
     let given = c.in_ok-given.ensures in
-    moved_run path beside c.requires.other (g.D.Disk.state c.args.disk.now) (g.D.Disk.state c.sync_folder_of.new.disk) (g.D.Disk.state c.remove.new.self)
-    (gives_quiet (g.D.Disk.state c.args.disk.now) (g.D.Disk.state c.give_path.new.disk) (g.D.Disk.state c.sync_folder_of.new.disk) c.args.path.now c.args.beside.now c.give_path.ensures.gives c.sync_folder_of.ensures.quiet).any_moment
-    c.requires.beside_named c.requires.durable (names beside c.requires.beside_in) (names path c.requires.path_in) (quiet.flushed path (λ h. h) (given.durable c.if-not-given.false))
+    moved_run path staging c.requires.other (g.D.Disk.state c.args.disk.now) (g.D.Disk.state c.sync_folder_of.new.disk) (g.D.Disk.state c.remove.new.self)
+    (gives_quiet (g.D.Disk.state c.args.disk.now) (g.D.Disk.state c.give_path.new.disk) (g.D.Disk.state c.sync_folder_of.new.disk) c.args.path.now c.args.staging.now c.give_path.ensures.gives c.sync_folder_of.ensures.quiet).any_moment
+    c.requires.staging_named c.requires.durable (names staging c.requires.staging_in) (names path c.requires.path_in) (quiet.flushed path (λ h. h) (given.durable c.if-not-given.false))
     (quiet.seen path ∙ given.given (quiet.honest (now.time.honest honest)) c.if-not-given.false) now.time now.crash
 
 pub returns-in_err-remove-clause-changes : goal.returns-in_err-remove-clause-changes
@@ -73,9 +73,9 @@ returns-clause-named g c honest is =
     let quiet = c.sync_folder_of.ensures.quiet in
     let now = c.remove.ensures in
     let given = c.in_ok-given.ensures in
-    let apart = λ (e : path ≡ c.args.beside.now). c.requires.other (sym e) in
+    let apart = λ (e : path ≡ c.args.staging.now). c.requires.other (sym e) in
     record {
-      seen = now.beside path apart ∙ quiet.seen path ∙ given.given (quiet.honest (now.time.honest honest)) c.if-not-given.false;
+      seen = now.staging path apart ∙ quiet.seen path ∙ given.given (quiet.honest (now.time.honest honest)) c.if-not-given.false;
       gone = c.in_ok-remove.ensures.gone;
       named = now.named path apart (c.in_ok-sync_folder_of.ensures.durable path c.requires.path_in);
       flushed = now.flushed path apart (quiet.flushed path (λ h. h) (given.durable c.if-not-given.false));
@@ -86,4 +86,4 @@ returns-clause-over_none g c honest some =
     let path = c.args.path.now in
     let quiet = c.sync_folder_of.ensures.quiet in
     let now = c.remove.ensures in
-    now.beside path (λ e. c.requires.other (sym e)) ∙ quiet.seen path ∙ c.in_ok-given.ensures.over_none (quiet.honest (now.time.honest honest)) some
+    now.staging path (λ e. c.requires.other (sym e)) ∙ quiet.seen path ∙ c.in_ok-given.ensures.over_none (quiet.honest (now.time.honest honest)) some

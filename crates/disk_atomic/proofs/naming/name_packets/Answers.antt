@@ -36,10 +36,10 @@ returns-in_err-all-clause-any_moment g c honest =
     let d0 = g.D.Disk.state c.args.disk.now in
     let d = g.D.Disk.state c.packets.disk in
     let e = g.D.Disk.state c.name_packet.new.disk in
-    let moments = λ (honest : e.is_honest). subst (λ (p : Outgoing). LeavesOnly d e (OneStepOn (Names p.path.now p.beside.now) d)) is (c.name_packet.ensures.any_moment honest) in
+    let moments = λ (honest : e.is_honest). subst (λ (p : Outgoing). LeavesOnly d e (OneStepOn (Names p.path.now p.staging.now) d)) is (c.name_packet.ensures.any_moment honest) in
     let staged = here (IsStaged d) packets i z lt inv.staged in
     let h1 = c.name_packet.ensures.changes.honest honest in
-    then_steps d0 d e (NamesEach packets) (Names x.path.now x.beside.now) (NamesEach packets) (inv.any_moment h1) (moments honest) (λ a b r. r)
+    then_steps d0 d e (NamesEach packets) (Names x.path.now x.staging.now) (NamesEach packets) (inv.any_moment h1) (moments honest) (λ a b r. r)
     (λ a b f at left r q. record {
       others = λ m out. q.others m (λ o. out (x, among packets i z lt, o)) ∙ r.others m out;
       whole = each AreApart apart_back packets pairs i z lt (IsAnchored d) (IsStaged d) (StandsWhole f) (λ y apart on. whole_stays x y apart d b f left q on) (λ y apart on. whole_stays x y apart d b f left q (inr on.file))
@@ -61,17 +61,17 @@ packets-preserved g c =
     let e = g.D.Disk.state c.name_packet.new.disk in
     let now = c.in_ok-all.ensures in
     let one : ChangesOnly (AtBoth x) d e = subst (λ (p : Outgoing). ChangesOnly (AtBoth p) d e) is c.name_packet.ensures.changes in
-    let moved = λ (honest : e.is_honest). subst (λ (p : Outgoing). c.in_ok-all.field-0 ≡ true → HasMoved d e p.path.now p.beside.now) is (now.named honest) in
-    let stays = subst (λ (p : Outgoing). c.in_ok-all.field-0 ≡ false → StaysThere d e p.beside.now) is now.stays in
-    let taken = λ (honest : e.is_honest). subst (λ (p : Outgoing). c.in_ok-all.field-0 ≡ false → IsTaken d p.path.now p.beside.now) is (now.taken honest) in
-    let moments = λ (honest : e.is_honest). subst (λ (p : Outgoing). LeavesOnly d e (OneStepOn (Names p.path.now p.beside.now) d)) is (c.name_packet.ensures.any_moment honest) in
+    let moved = λ (honest : e.is_honest). subst (λ (p : Outgoing). c.in_ok-all.field-0 ≡ true → HasMoved d e p.path.now p.staging.now) is (now.named honest) in
+    let stays = subst (λ (p : Outgoing). c.in_ok-all.field-0 ≡ false → StaysThere d e p.staging.now) is now.stays in
+    let taken = λ (honest : e.is_honest). subst (λ (p : Outgoing). c.in_ok-all.field-0 ≡ false → IsTaken d p.path.now p.staging.now) is (now.taken honest) in
+    let moments = λ (honest : e.is_honest). subst (λ (p : Outgoing). LeavesOnly d e (OneStepOn (Names p.path.now p.staging.now) d)) is (c.name_packet.ensures.any_moment honest) in
     let staged = here (IsStaged d) packets i z lt inv.staged in
     let was = here (IsSameAt d0 d) packets i z lt inv.same in
     record {
       changes = then_only (IsOfOne packets) d0 d e inv.changes (of_one packets x (among packets i z lt) d e one);
       any_moment = λ honest.
           let h1 = one.honest honest in
-          then_steps d0 d e (NamesEach packets) (Names x.path.now x.beside.now) (NamesEach packets) (inv.any_moment h1) (moments honest) (λ a b r. r)
+          then_steps d0 d e (NamesEach packets) (Names x.path.now x.staging.now) (NamesEach packets) (inv.any_moment h1) (moments honest) (λ a b r. r)
           (λ a b f at left r q. record {
             others = λ m out. q.others m (λ o. out (x, among packets i z lt, o)) ∙ r.others m out;
             whole = each AreApart apart_back packets pairs i z lt (IsAnchored d) (IsStaged d) (StandsWhole f) (λ y apart on. whole_stays x y apart d b f left q on) (λ y apart on. whole_stays x y apart d b f left q (inr on.file))

@@ -20,42 +20,42 @@ rename-requires-clause-durable g c honest = c.in_ok-stage_file.ensures.staged.fl
 pub returns-in_err-stage_file-clause-any_moment : goal.returns-in_err-stage_file-clause-any_moment
 returns-in_err-stage_file-clause-any_moment g c =
     let path = c.args.path.now in
-    let beside = c.args.beside.now in
+    let staging = c.args.staging.now in
     let bytes = c.args.bytes.now in
-    weaker_steps (g.D.Disk.state c.args.disk.now) (g.D.Disk.state c.stage_file.new.disk) (DifferAt (λ m. m ≡ beside)) (Replaces path beside bytes) c.stage_file.ensures.changes.any_moment
-    (not_yet path beside bytes c.requires.other)
+    weaker_steps (g.D.Disk.state c.args.disk.now) (g.D.Disk.state c.stage_file.new.disk) (DifferAt (λ m. m ≡ staging)) (Replaces path staging bytes) c.stage_file.ensures.changes.any_moment
+    (not_yet path staging bytes c.requires.other)
 
 pub returns-in_err-stage_file-clause-changes : goal.returns-in_err-stage_file-clause-changes
 returns-in_err-stage_file-clause-changes g c =
-    wider (λ (m : List ℕ). m ≡ c.args.beside.now) (λ (m : List ℕ). (m ≡ c.args.beside.now) ⊎ (m ≡ c.args.path.now)) (g.D.Disk.state c.args.disk.now) (g.D.Disk.state c.stage_file.new.disk)
+    wider (λ (m : List ℕ). m ≡ c.args.staging.now) (λ (m : List ℕ). (m ≡ c.args.staging.now) ⊎ (m ≡ c.args.path.now)) (g.D.Disk.state c.args.disk.now) (g.D.Disk.state c.stage_file.new.disk)
     (λ m is. inl is) c.stage_file.ensures.changes
 
 moments : (g : given.Over) (c : After-rename g)
-    → LeavesOnly (g.D.Disk.state c.args.disk.now) (g.D.Disk.state c.rename.new.self) (OneStepOn (Replaces c.args.path.now c.args.beside.now c.args.bytes.now) (g.D.Disk.state c.args.disk.now))
+    → LeavesOnly (g.D.Disk.state c.args.disk.now) (g.D.Disk.state c.rename.new.self) (OneStepOn (Replaces c.args.path.now c.args.staging.now c.args.bytes.now) (g.D.Disk.state c.args.disk.now))
 moments g c =
     let path = c.args.path.now in
     let staged = c.in_ok-stage_file.ensures in
-    replaced_run path c.args.beside.now c.args.bytes.now (g.D.Disk.state c.args.disk.now) (g.D.Disk.state c.stage_file.new.disk) (g.D.Disk.state c.rename.new.self) c.requires.other
+    replaced_run path c.args.staging.now c.args.bytes.now (g.D.Disk.state c.args.disk.now) (g.D.Disk.state c.stage_file.new.disk) (g.D.Disk.state c.rename.new.self) c.requires.other
     c.stage_file.ensures.changes staged.staged (staged.named path c.requires.path_in) c.rename.ensures.time c.rename.ensures.crash
 
-renamed : (g : given.Over) (c : After-rename g) → ChangesOnly (λ m. (m ≡ c.args.beside.now) ⊎ (m ≡ c.args.path.now)) (g.D.Disk.state c.args.disk.now) (g.D.Disk.state c.rename.new.self)
+renamed : (g : given.Over) (c : After-rename g) → ChangesOnly (λ m. (m ≡ c.args.staging.now) ⊎ (m ≡ c.args.path.now)) (g.D.Disk.state c.args.disk.now) (g.D.Disk.state c.rename.new.self)
 renamed g c =
     let path = c.args.path.now in
-    let beside = c.args.beside.now in
-    let few = λ (m : List ℕ). m ≡ beside in
-    let both = λ (m : List ℕ). (m ≡ beside) ⊎ (m ≡ path) in
+    let staging = c.args.staging.now in
+    let few = λ (m : List ℕ). m ≡ staging in
+    let both = λ (m : List ℕ). (m ≡ staging) ⊎ (m ≡ path) in
     let d0 = g.D.Disk.state c.args.disk.now in
     let d1 = g.D.Disk.state c.stage_file.new.disk in
     let d2 = g.D.Disk.state c.rename.new.self in
     let staged = c.in_ok-stage_file.ensures in
     let now = c.rename.ensures in
     then_only both d0 d1 d2 (wider few both d0 d1 (λ m is. inl is) c.stage_file.ensures.changes) (record {
-      seen = λ m out. now.beside m (λ e. out (inl e)) (λ e. out (inr e));
+      seen = λ m out. now.staging m (λ e. out (inl e)) (λ e. out (inr e));
       named = now.named;
       flushed = now.flushed;
       alone = now.alone;
       honest = now.time.honest;
-      any_moment = renamed_differ path beside c.args.bytes.now d1 d2 staged.staged (staged.named path c.requires.path_in) now.time now.crash;
+      any_moment = renamed_differ path staging c.args.bytes.now d1 d2 staged.staged (staged.named path c.requires.path_in) now.time now.crash;
     })
 
 pub returns-in_err-rename-clause-any_moment : goal.returns-in_err-rename-clause-any_moment
@@ -67,11 +67,11 @@ returns-in_err-rename-clause-changes g c = renamed g (goal.at.returns-in_err-ren
 pub returns-clause-any_moment : goal.returns-clause-any_moment
 returns-clause-any_moment g c =
     let d0 = g.D.Disk.state c.args.disk.now in
-    then_nothing d0 (g.D.Disk.state c.rename.new.self) (g.D.Disk.state c.sync_folder_of.new.disk) (OneStepOn (Replaces c.args.path.now c.args.beside.now c.args.bytes.now) d0) (moments g (goal.at.returns-clause-any_moment g c).After-rename) c.sync_folder_of.ensures.quiet
+    then_nothing d0 (g.D.Disk.state c.rename.new.self) (g.D.Disk.state c.sync_folder_of.new.disk) (OneStepOn (Replaces c.args.path.now c.args.staging.now c.args.bytes.now) d0) (moments g (goal.at.returns-clause-any_moment g c).After-rename) c.sync_folder_of.ensures.quiet
 
 pub returns-clause-changes : goal.returns-clause-changes
 returns-clause-changes g c =
-    let both = λ (m : List ℕ). (m ≡ c.args.beside.now) ⊎ (m ≡ c.args.path.now) in
+    let both = λ (m : List ℕ). (m ≡ c.args.staging.now) ⊎ (m ≡ c.args.path.now) in
     let d2 = g.D.Disk.state c.rename.new.self in
     let d3 = g.D.Disk.state c.sync_folder_of.new.disk in
     then_only both (g.D.Disk.state c.args.disk.now) d2 d3 (renamed g (goal.at.returns-clause-changes g c).After-rename) (only_nothing both d2 d3 c.sync_folder_of.ensures.quiet)
@@ -90,4 +90,4 @@ returns-clause-replaced g c =
 
 pub returns-clause-moved : goal.returns-clause-moved
 returns-clause-moved g c =
-    on_ok_weaker c.sync_folder_of.result (λ named. c.sync_folder_of.ensures.quiet.seen c.args.beside.now ∙ c.in_ok-rename.ensures.gone) c.sync_folder_of.ensures.durable
+    on_ok_weaker c.sync_folder_of.result (λ named. c.sync_folder_of.ensures.quiet.seen c.args.staging.now ∙ c.in_ok-rename.ensures.gone) c.sync_folder_of.ensures.durable

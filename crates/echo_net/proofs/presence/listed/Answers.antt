@@ -1,7 +1,7 @@
 use Rattle.std.proofs.Common.{◌≡◌, ◌<◌, ◌+◌, ◌++◌, ◌∙◌, ℕ, List, length, get_or, sym, subst, ap, arith}
 use Rattle.echo_addr.specs.declared.address.Address.{Address}
 use Rattle.model_run.specs.Tidy.{Carries}
-use Rattle.echo_net.specs.Absent.{IsWhy, absent_as}
+use Rattle.echo_net.specs.Absent.{IsReasonOfAbsence, absent_as}
 use Rattle.echo_net.proofs.Absences.{AreListed, all_listed, one_more_judged}
 use Rattle.echo_net.proofs.presence.listed.Goals as goal
 
@@ -15,7 +15,7 @@ carriers-preserved c =
     let is : system ≡ get_or carriers i system = c.index-system.ensures in
     let inside : i < length carriers = omega (arith, c.len-place-end.ensures, c.carriers-test.true) in
     let more = one_more_judged lines carriers c.in_ok-carriers.ensures.ascending i system inside c.carriers.all.items c.carriers.invariant found
-    (subst (λ (a : Address). IsWhy lines a found) is c.why_absent-found.ensures) in
+    (subst (λ (a : Address). IsReasonOfAbsence lines a found) is c.why_absent-found.ensures) in
     subst (AreListed lines carriers (i + 1))
     (sym (c.in_ok-push_absent.ensures ∙ ap (λ (a : Address). c.carriers.all.items ++ absent_as a found) is)) more
 

@@ -1,5 +1,5 @@
 use Rattle.std.proofs.Common.{List, ℕ, All, subst, sym}
-use Rattle.station.proofs.BesidePaths.{IsPlain, plain_address}
+use Rattle.station.proofs.StagingPaths.{IsPlain, plain_address}
 use Rattle.station.proofs.paths.system_name.Goals as goal
 
 pub returns-clause-plain : goal.returns-clause-plain

@@ -39,7 +39,7 @@ returns-clause-ends g c = λ honest.
     let d1 = g.D.Disk.state c.finish_left-done.new.disk in
     let e = (g.P.Kept.Store.state c.give_back-store.result).disk in
     let quiet = c.give_back-store.ensures.quiet in
-    ends_through s0.disk d0 d1 e c.lend-disk.ensures.quiet quiet (g.G.Listing.is_true c.finish_left-done.new.listing) (g.P.Paths.OwnPaths.is_own c.args.paths.now) c.args.sending.outbound.now c.args.sending.own.now c.args.cursor c.finish_left-done.result
+    ends_through s0.disk d0 d1 e c.lend-disk.ensures.quiet quiet (g.G.ListStaged.is_true c.finish_left-done.new.listing) (g.P.Paths.OwnPaths.is_own c.args.paths.now) c.args.sending.outbound.now c.args.sending.own.now c.args.cursor c.finish_left-done.result
     (c.finish_left-done.ensures.ends (quiet.honest honest))
 
 pub returns-clause-taken : goal.returns-clause-taken

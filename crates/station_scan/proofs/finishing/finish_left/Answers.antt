@@ -3,8 +3,8 @@ use Rattle.std.proofs.lemmas.Bool.{eqb-true}
 use Rattle.std.proofs.lemmas.Result.{err_from_is_err_and}
 use Rattle.disk_atomic.proofs.Changes.{only_nothing, then_only, wider}
 use Rattle.station_scan.specs.declared.finding.LeftPaths.{LeftPaths}
-use Rattle.station_scan.specs.declared.listing.LeftPacket.{LeftPacket}
-use Rattle.station_scan.specs.Left.{AreFound, EndsThese, IsBesideThere, IsFoundWhere, IsOfNameOff, IsOfPaths}
+use Rattle.station_scan.specs.declared.listing.StagedPacket.{StagedPacket}
+use Rattle.station_scan.specs.Left.{AreFound, EndsThese, IsStagingThere, IsFoundWhere, IsOfNameOff, IsOfPaths}
 use Rattle.station_scan.proofs.Lefts.{are_left_in, free_found, left_of_name, none_left, nothing_left, quiet_start, these_left}
 use Rattle.station_scan.proofs.finishing.finish_left.Goals as goal
 
@@ -12,13 +12,13 @@ pub returns-in_err-named-clause-ends : goal.returns-in_err-named-clause-ends
 returns-in_err-named-clause-ends g c = λ honest.
     let d = g.D.Disk.state c.args.disk.now in
     let p = err_from_is_err_and c.from_residual.result c.from_residual.ensures.1 in
-    rw p.1 (nothing_left (g.G.Listing.is_true c.left_beside.new.self d.seen) (g.O.OwnPaths.is_own c.args.paths.now) c.args.folder.now c.args.own.now c.args.cursor d d (quiet_start d) p.0)
+    rw p.1 (nothing_left (g.G.ListStaged.is_true c.left_staged.new.self d.seen) (g.O.OwnPaths.is_own c.args.paths.now) c.args.folder.now c.args.own.now c.args.cursor d d (quiet_start d) p.0)
 
 pub returns-in_err-found-clause-ends : goal.returns-in_err-found-clause-ends
 returns-in_err-found-clause-ends g c = λ honest.
     let d = g.D.Disk.state c.args.disk.now in
     let p = err_from_is_err_and c.from_residual-in_err-found.result c.from_residual-in_err-found.ensures.1 in
-    rw p.1 (nothing_left (g.G.Listing.is_true c.left_beside.new.self d.seen) (g.O.OwnPaths.is_own c.args.paths.now) c.args.folder.now c.args.own.now c.args.cursor d (g.D.Disk.state c.find_left.new.disk) c.find_left.ensures.quiet p.0)
+    rw p.1 (nothing_left (g.G.ListStaged.is_true c.left_staged.new.self d.seen) (g.O.OwnPaths.is_own c.args.paths.now) c.args.folder.now c.args.own.now c.args.cursor d (g.D.Disk.state c.find_left.new.disk) c.find_left.ensures.quiet p.0)
 
 pub returns-then-is_empty-clause-ends : goal.returns-then-is_empty-clause-ends
 returns-then-is_empty-clause-ends g c = λ honest.
@@ -29,9 +29,9 @@ returns-then-is_empty-clause-ends g c = λ honest.
     let d1 = g.D.Disk.state c.find_left.new.disk in
     let named = c.in_ok-named.named.items in
     let paths = c.in_ok-found.found.items in
-    let all = subst (λ (l : List LeftPacket). All (IsFoundWhere Own folder own d.seen paths) l) c.deref.ensures.value (c.in_ok-found.ensures.all honest) in
+    let all = subst (λ (l : List StagedPacket). All (IsFoundWhere Own folder own d.seen paths) l) c.deref.ensures.value (c.in_ok-found.ensures.all honest) in
     let empty : vec_len c.in_ok-found.found ≡ 0 = eqb-true (vec_len c.in_ok-found.found) 0 (sym c.is_empty.ensures ∙ c.if-is_empty.true) in
-    none_left (g.G.Listing.is_true c.left_beside.new.self d.seen) Own folder own c.args.cursor d d1 c.find_left.ensures.quiet named paths (λ truth. c.in_ok-named.ensures.listed d.seen truth) all
+    none_left (g.G.ListStaged.is_true c.left_staged.new.self d.seen) Own folder own c.args.cursor d d1 c.find_left.ensures.quiet named paths (λ truth. c.in_ok-named.ensures.listed d.seen truth) all
     (omega arith)
 
 pub end_these-requires-clause-placed : goal.end_these-requires-clause-placed
@@ -54,10 +54,10 @@ returns-clause-ends g c = λ honest.
     let named = c.in_ok-named.named.items in
     let paths = c.in_ok-found.found.items in
     let h1 = c.end_these.ensures.changes.honest honest in
-    let are = subst (λ (l : List LeftPacket). AreFound Own folder own l paths) c.deref.ensures.value c.in_ok-found.ensures.found in
-    let all = subst (λ (l : List LeftPacket). All (IsFoundWhere Own folder own d.seen paths) l) c.deref.ensures.value (c.in_ok-found.ensures.all h1) in
+    let are = subst (λ (l : List StagedPacket). AreFound Own folder own l paths) c.deref.ensures.value c.in_ok-found.ensures.found in
+    let all = subst (λ (l : List StagedPacket). All (IsFoundWhere Own folder own d.seen paths) l) c.deref.ensures.value (c.in_ok-found.ensures.all h1) in
     let ends = subst (λ (l : List LeftPaths). EndsThese c.args.cursor l d1 d3 c.end_these.result) c.deref-2.ensures.value (c.end_these.ensures.ends honest) in
-    these_left (g.G.Listing.is_true c.left_beside.new.self d.seen) Own folder own c.args.cursor d d1 c.find_left.ensures.quiet named paths
+    these_left (g.G.ListStaged.is_true c.left_staged.new.self d.seen) Own folder own c.args.cursor d d1 c.find_left.ensures.quiet named paths
     (λ truth. c.in_ok-named.ensures.listed d.seen truth) all d3 c.end_these.result c.requires are ends
 
 pub returns-clause-changes : goal.returns-clause-changes
@@ -82,6 +82,6 @@ returns-clause-taken g c honest is free =
     let d1 = g.D.Disk.state c.find_left.new.disk in
     let paths = c.deref-2.result.now in
     let are = subst (λ (l : List LeftPaths). AreFound Own folder own c.deref.result.now l) (sym c.deref-2.ensures.value) c.in_ok-found.ensures.found in
-    let there = subst (λ (l : List LeftPaths). All (IsBesideThere d.seen) l) (sym c.deref-2.ensures.value) (c.in_ok-found.ensures.there (c.end_these.ensures.changes.honest honest)) in
+    let there = subst (λ (l : List LeftPaths). All (IsStagingThere d.seen) l) (sym c.deref-2.ensures.value) (c.in_ok-found.ensures.there (c.end_these.ensures.changes.honest honest)) in
     let all = free_found Own folder own c.deref.result.now paths d.seen are there free in
     c.end_these.ensures.taken honest is (λ k z lt. c.find_left.ensures.quiet.seen (get_or paths k z).two.path ∙ all k z lt)

@@ -24,7 +24,7 @@ paths-preserved c =
           let two = c.index-paths-i.is ∙ get_or_default paths i c.index-paths-i.result w low ∙ ap (λ (q : ℕ). get_or paths q w) (sym same) in
           record {
             path = ap (λ (x : Left). x.path.now) one ∙ c.as_slice.ensures ∙ ap (λ (x : LeftPaths). x.two.path) two;
-            beside = ap (λ (x : Left). x.beside.now) one ∙ c.as_slice-in-paths.ensures ∙ ap (λ (x : LeftPaths). x.two.beside) two;
+            staging = ap (λ (x : Left). x.staging.now) one ∙ c.as_slice-in-paths.ensures ∙ ap (λ (x : LeftPaths). x.two.staging) two;
             before = ap (λ (x : Left). x.before) one ∙ ap (λ (x : LeftPaths). x.before) two;
           })
           (cases_lt k i);

@@ -12,7 +12,7 @@ publish-requires g c κs =
     let packets = c.deref-4.result.now in
     let fit = subst (λ (l : List Outgoing). AreFitting Own to.outbound.now to.own.now to.files.now l) (sym c.deref-4.ensures.value) c.in-Ok-fitting_packets.ensures.fit in
     let trial = c.deref-3.result.now in
-    let at_end = c.deref-3.ensures.value ∙ c.in-Ok-path_beside.ensures in
+    let at_end = c.deref-3.ensures.value ∙ c.in-Ok-staging_path.ensures in
     ((refl, tt), (c.requires.ready, fit_going Own to.outbound.now to.own.now to.files.now packets fit trial at_end (g.P.Kept.Store.state c.args.store) c.requires.own c.requires.plain))
 
 pub returns-clause-sent : goal.returns-clause-sent
@@ -22,7 +22,7 @@ returns-clause-sent g c =
     let packets = c.deref-4.result.now in
     let fit = subst (λ (l : List Outgoing). AreFitting Own to.outbound.now to.own.now to.files.now l) (sym c.deref-4.ensures.value) c.in-Ok-fitting_packets.ensures.fit in
     let trial = c.deref-3.result.now in
-    let at_end = c.deref-3.ensures.value ∙ c.in-Ok-path_beside.ensures in
+    let at_end = c.deref-3.ensures.value ∙ c.in-Ok-staging_path.ensures in
     on_ok_gives c.publish.result.done (fit_sent Own to.outbound.now to.own.now to.files.now packets fit trial at_end (g.P.Kept.Store.state c.args.store) (g.P.Kept.Store.state c.publish.result.store)) c.publish.ensures.published
 
 pub returns-clause-any_moment : goal.returns-clause-any_moment
@@ -32,7 +32,7 @@ returns-clause-any_moment g c = λ honest first next was is.
     let packets = c.deref-4.result.now in
     let fit = subst (λ (l : List Outgoing). AreFitting Own to.outbound.now to.own.now to.files.now l) (sym c.deref-4.ensures.value) c.in-Ok-fitting_packets.ensures.fit in
     let trial = c.deref-3.result.now in
-    let at_end = c.deref-3.ensures.value ∙ c.in-Ok-path_beside.ensures in
+    let at_end = c.deref-3.ensures.value ∙ c.in-Ok-staging_path.ensures in
     fit_moments Own to.outbound.now to.own.now to.files.now packets fit trial at_end (g.P.Kept.Store.state c.args.store) (g.P.Kept.Store.state c.publish.result.store).disk first next (c.publish.ensures.any_moment honest first next was is)
 
 pub returns-clause-keeps : goal.returns-clause-keeps
@@ -42,7 +42,7 @@ returns-clause-keeps g c =
     let packets = c.deref-4.result.now in
     let fit = subst (λ (l : List Outgoing). AreFitting Own to.outbound.now to.own.now to.files.now l) (sym c.deref-4.ensures.value) c.in-Ok-fitting_packets.ensures.fit in
     let trial = c.deref-3.result.now in
-    let at_end = c.deref-3.ensures.value ∙ c.in-Ok-path_beside.ensures in
+    let at_end = c.deref-3.ensures.value ∙ c.in-Ok-staging_path.ensures in
     fit_keeps Own to.outbound.now to.own.now to.files.now packets fit trial at_end (g.P.Kept.Store.state c.args.store) (g.P.Kept.Store.state c.publish.result.store) c.publish.ensures.keeps
 
 pub returns-clause-tried : goal.returns-clause-tried
@@ -52,7 +52,7 @@ returns-clause-tried g c =
     let packets = c.deref-4.result.now in
     let fit = subst (λ (l : List Outgoing). AreFitting Own to.outbound.now to.own.now to.files.now l) (sym c.deref-4.ensures.value) c.in-Ok-fitting_packets.ensures.fit in
     let trial = c.deref-3.result.now in
-    let at_end = c.deref-3.ensures.value ∙ c.in-Ok-path_beside.ensures in
+    let at_end = c.deref-3.ensures.value ∙ c.in-Ok-staging_path.ensures in
     ⊎_elim (λ holds. inl holds) (λ tried. inr (fit_tried Own to.outbound.now to.own.now to.files.now packets fit trial at_end g.D.Disk.state (g.P.Kept.Store.state c.args.store).disk tried)) c.publish.ensures.tried
 
 pub returns-clause-cause : goal.returns-clause-cause
@@ -62,7 +62,7 @@ returns-clause-cause g c =
     let packets = c.deref-4.result.now in
     let fit = subst (λ (l : List Outgoing). AreFitting Own to.outbound.now to.own.now to.files.now l) (sym c.deref-4.ensures.value) c.in-Ok-fitting_packets.ensures.fit in
     let trial = c.deref-3.result.now in
-    let at_end = c.deref-3.ensures.value ∙ c.in-Ok-path_beside.ensures in
+    let at_end = c.deref-3.ensures.value ∙ c.in-Ok-staging_path.ensures in
     record {
       causes = c.publish.ensures.cause;
       taken = λ honest is. fit_taken Own to.outbound.now to.own.now to.files.now packets fit trial at_end (g.P.Kept.Store.state c.args.store).disk (c.publish.ensures.taken honest is);

@@ -16,7 +16,7 @@ returns-in-Ok-clause-sends g c = λ honest first next was is.
     let s2 = g.P.Kept.Store.state c.publish_files-store.result.store in
     let Own = g.P.Paths.OwnPaths.is_own c.args.paths.now in
     let to = c.args.sending in
-    let is_true = g.G.Listing.is_true c.finish_on-store.new.listing s0.disk.seen in
+    let is_true = g.G.ListStaged.is_true c.finish_on-store.new.listing s0.disk.seen in
     let used = c.finish_on-store.ensures.used in
     let sent = c.publish_files-store.ensures in
     let honest1 = sent.keeps.keeps.honest honest in
@@ -24,7 +24,7 @@ returns-in-Ok-clause-sends g c = λ honest first next was is.
     let f0 = g.P.Kept.Store.failures c.args.store in
     let f1 = g.P.Kept.Store.failures c.finish_on-store.result.store in
     let f2 = g.P.Kept.Store.failures c.publish_files-store.result.store in
-    let listed = Failed (g.G.Listing.failures c.args.listing.now) (g.G.Listing.failures c.finish_on-store.new.listing) in
+    let listed = Failed (g.G.ListStaged.failures c.args.listing.now) (g.G.ListStaged.failures c.finish_on-store.new.listing) in
     let before : f0 ≤ f1 = c.finish_on-store.ensures.later in
     let later : f1 ≤ f2 = sent.cause.causes.later in
     let wider : Failed f1 f2 → Failed f0 f2 ⊎ listed = λ failed. inl (failed_wider f0 f1 f2 f2 before (omega arith) failed) in
@@ -33,7 +33,7 @@ returns-in-Ok-clause-sends g c = λ honest first next was is.
     sends_out Own to.outbound.now to.own.now is_true (Failed f0 f2 ⊎ listed) c.args.cursor to.files.now s0 s1 c.requires.own used c.requires.ready honest0 first next was ends s2 honest sent.keeps is c.stop_done-done.result
     (scan_sent _ c.publish_files-store.result.done c.stop_done-done.result c.stop_done-done.ensures sent.sent) (sent.any_moment honest first next (used.holds.committed first was) (used.holds.keeps next is))
     (sent_why (Failed f0 f2 ⊎ listed) (AreTaken Own to.outbound.now to.own.now to.files.now s1.disk.seen) _ c.publish_files-store.result.done c.stop_done-done.result c.stop_done-done.ensures
-    (λ e. wider (causes.packets e)) (sent.cause.taken honest) (λ e. wider (causes.beside e)) (λ e. wider (causes.base e)) (λ e. causes.damaged honest e next (used.holds.keeps next is)))
+    (λ e. wider (causes.packets e)) (sent.cause.taken honest) (λ e. wider (causes.staging e)) (λ e. wider (causes.base e)) (λ e. causes.damaged honest e next (used.holds.keeps next is)))
 
 pub returns-in-Ok-clause-tried : goal.returns-in-Ok-clause-tried
 returns-in-Ok-clause-tried g c =
@@ -47,7 +47,7 @@ returns-in-Err-clause-sends g c = λ honest first next was is.
     let s1 = g.P.Kept.Store.state c.finish_on-store.result.store in
     let Own = g.P.Paths.OwnPaths.is_own c.args.paths.now in
     let to = c.args.sending in
-    let is_true = g.G.Listing.is_true c.finish_on-store.new.listing s0.disk.seen in
+    let is_true = g.G.ListStaged.is_true c.finish_on-store.new.listing s0.disk.seen in
     let used = c.finish_on-store.ensures.used in
     not_sent Own to.outbound.now to.own.now is_true _ c.args.cursor to.files.now s0 s1 c.requires.own used c.requires.ready (used.changes.honest honest) first next was c.finish_on-store.result.done
     (c.finish_on-store.ensures.ends honest) c.in-Err.cause (λ e. c.finish_on-store.ensures.failed (cc (c.in-Err.is, e))) (λ e. c.finish_on-store.ensures.taken honest (cc (c.in-Err.is, e)))

@@ -1,7 +1,7 @@
 use Rattle.std.proofs.Common.{◌≡◌, ◌≤◌, ◌⊎◌, Err, arith, inl, inr, refl}
 use Rattle.disk_io.specs.Device.{Failed}
 use Rattle.station.proofs.Failures.{failed_wider}
-use Rattle.cmd_store.specs.declared.stop.Stop.TheVariants.{Met}
+use Rattle.cmd_store.specs.declared.command_error.CommandError.TheVariants.{Met}
 use Rattle.cmd_status.specs.Devices.{output_of}
 use Rattle.station.specs.Opening.{HaveFailed}
 use Rattle.station.proofs.Ran.{looks_of, looks_open, stopped_on}
@@ -40,7 +40,7 @@ returns-in-Ok-prepare-clause-runs g c = λ honest.
     let l1 = g.L.FileLock.failures c.open.new.locks.links in
     let k0 = g.K.FileLock.failures c.args.locks.now.base in
     let k1 = g.K.FileLock.failures c.open.new.locks.base in
-    let listed = Failed (g.G.Listing.failures c.args.scan.now.listing) (g.G.Listing.failures c.scan_kept-store.new.scan.listing) in
+    let listed = Failed (g.G.ListStaged.failures c.args.scan.now.listing) (g.G.ListStaged.failures c.scan_kept-store.new.scan.listing) in
     let out = output_of g.W.Write.contents g.W.Sink.failures g.W.Sink.holds c.args.out.now in
     let now = output_of g.W.Write.contents g.W.Sink.failures g.W.Sink.holds c.scan_kept-store.new.out in
     inl (record {
@@ -48,7 +48,7 @@ returns-in-Ok-prepare-clause-runs g c = λ honest.
       read = opened.read honest0;
       runs = λ base stands.
           scanned_on place d0 d2 s1 s2 begun of quiet (g.P.Paths.OwnPaths.is_own c.paths-paths.result) (λ m o. (own m).0 o) (λ m o. (own m).1 o) c.args.scan.now.outbound.now c.args.scan.now.stamp
-          (g.G.Listing.is_true c.scan_kept-store.new.scan.listing) (Failed f2 f3 ⊎ listed) (HaveFailed f0 f4 l0 l1 k0 k1 ⊎ listed) out now c.in-Ok.opened.links base c.scan_kept-store.result.done stands (failed_too (Failed f2 f3) (Failed f0 f4) (Failed l0 l1 ⊎ Failed k0 k1) listed wider)
+          (g.G.ListStaged.is_true c.scan_kept-store.new.scan.listing) (Failed f2 f3 ⊎ listed) (HaveFailed f0 f4 l0 l1 k0 k1 ⊎ listed) out now c.in-Ok.opened.links base c.scan_kept-store.result.done stands (failed_too (Failed f2 f3) (Failed f0 f4) (Failed l0 l1 ⊎ Failed k0 k1) listed wider)
           looked.looks.ready honest1 (did.scans honest2 base (begun.keeps base stands) (begun.committed base stands));
       cause = λ is. inl (inl (wider (did.device is)));
     })

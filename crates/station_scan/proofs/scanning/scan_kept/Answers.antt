@@ -7,7 +7,7 @@ use Rattle.base_store.specs.Store.{GoesOn, all_scanned}
 use Rattle.station.proofs.Failures.{failed_wider}
 use Rattle.station.specs.Paths.{dotted}
 use Rattle.cmd_store.specs.Scanned.{ScansOn}
-use Rattle.cmd_store.specs.declared.stop.Stop.{Stop}
+use Rattle.cmd_store.specs.declared.command_error.CommandError.{CommandError}
 use Rattle.echo_toss.specs.PacketsIn.{state_in}
 use Rattle.station_scan.specs.Scanning.{SendsOut}
 use Rattle.station_scan.proofs.Scans.{scans_ok}
@@ -23,12 +23,12 @@ returns-in-Ok-clause-scans g c = λ honest base keeps committed.
     let honestA = put.keeps.keeps.honest honest in
     let honest1 = took.quiet.honest honestA in
     let next = all_scanned base in
-    let moved = subst (λ (r : Result (List PacketFile) Stop). OnOk r (sA.keeps next)) c.in-Ok.is (took.moved honestA base keeps) in
-    let on = subst (λ (r : Result (List PacketFile) Stop). OnOk r (GoesOn s1 sA)) c.in-Ok.is took.goes_on in
+    let moved = subst (λ (r : Result (List PacketFile) CommandError). OnOk r (sA.keeps next)) c.in-Ok.is (took.moved honestA base keeps) in
+    let on = subst (λ (r : Result (List PacketFile) CommandError). OnOk r (GoesOn s1 sA)) c.in-Ok.is took.goes_on in
     let out = output_of g.W.Write.contents g.W.Sink.failures g.W.Sink.holds c.args.out.now in
     let now = output_of g.W.Write.contents g.W.Sink.failures g.W.Sink.holds c.take_waiting-store.new.out in
-    let answer = subst (λ (r : Result (List PacketFile) Stop). ScansOn c.args.scan.now.stamp (state_in c.args.links.now base) out now r) c.in-Ok.is (took.answers honestA base keeps) in
-    let IsTrue = g.G.Listing.is_true c.put_taken.new.scan.listing in
+    let answer = subst (λ (r : Result (List PacketFile) CommandError). ScansOn c.args.scan.now.stamp (state_in c.args.links.now base) out now r) c.in-Ok.is (took.answers honestA base keeps) in
+    let IsTrue = g.G.ListStaged.is_true c.put_taken.new.scan.listing in
     let Own = g.P.Paths.OwnPaths.is_own c.args.paths.now in
     let outbound = c.args.scan.now.outbound.now in
     let result = c.put_taken.result.done in
@@ -37,7 +37,7 @@ returns-in-Ok-clause-scans g c = λ honest base keeps committed.
     let fA = g.P.Kept.Store.failures c.take_waiting-store.result.store in
     let f2 = g.P.Kept.Store.failures c.put_taken.result.store in
     let later : f1 ≤ fA = took.cause.later in
-    let listed = Failed (g.G.Listing.failures c.args.scan.now.listing) (g.G.Listing.failures c.put_taken.new.scan.listing) in
+    let listed = Failed (g.G.ListStaged.failures c.args.scan.now.listing) (g.G.ListStaged.failures c.put_taken.new.scan.listing) in
     let sends = subst (λ (f : List PacketFile). SendsOut (IsTrue sA.disk.seen) (Failed fA f2 ⊎ listed) Own outbound (dotted c.args.links.now.system) (sA.stands base) (sA.stands next) cursor f sA.disk s2.disk result) c.as_slice.ensures
     (put.sends honest base next (on.committed honestA base committed) moved) in
     scans_ok c.args.scan.now.stamp Own outbound IsTrue (Failed fA f2 ⊎ listed) (Failed f1 f2 ⊎ listed) (λ failed. ⊎_elim (λ disk. inl (failed_wider f1 fA f2 f2 later (omega arith) disk)) (λ at. inr at) failed) s1 sA s2 out now

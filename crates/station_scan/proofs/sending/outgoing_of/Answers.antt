@@ -28,7 +28,7 @@ files-preserved c =
           let file = c.index-files-i.is ∙ get_or_default files i c.index-files-i.result f low ∙ ap (λ (q : ℕ). get_or files q f) (sym same) in
           record {
             path = ap (λ (o : Outgoing). o.path.now) one ∙ c.as_slice.ensures ∙ ap (λ (w : TwoPaths). w.path) two;
-            beside = ap (λ (o : Outgoing). o.beside.now) one ∙ c.as_slice-in-files.ensures ∙ ap (λ (w : TwoPaths). w.beside) two;
+            staging = ap (λ (o : Outgoing). o.staging.now) one ∙ c.as_slice-in-files.ensures ∙ ap (λ (w : TwoPaths). w.staging) two;
             file = ap (λ (o : Outgoing). o.file.now) one ∙ file;
           })
           (cases_lt k i);

@@ -3,7 +3,7 @@ use Rattle.std.specs.Prelude.{All, None}
 use Rattle.std.proofs.lemmas.List.Elements.{Contains-get_or}
 use Rattle.std.proofs.lemmas.Result.{IfOk-weaker}
 use Rattle.disk_io.specs.Disk.{IsIn}
-use Rattle.disk_atomic.specs.Outgoing.{IsAtStaging, IsBesideOne, IsFree}
+use Rattle.disk_atomic.specs.Outgoing.{IsAtStaging, IsStagingOne, IsFree}
 use Rattle.disk_atomic.proofs.Changes.{then_only, wider}
 use Rattle.station_scan.specs.Publishing.{AreStaged, IsTriedWith}
 use Rattle.station_scan.proofs.Staged.{path_off, tried_after}
@@ -17,18 +17,18 @@ try_first-requires-clause-named g c = c.in_ok-stage_packets.ensures.named c.if-n
 
 pub returns-in_err-stage_packets-clause-changes : goal.returns-in_err-stage_packets-clause-changes
 returns-in_err-stage_packets-clause-changes g c =
-    wider (IsBesideOne c.args.packets.now) (IsAtStaging c.args.packets.now c.args.trial.now) (g.D.Disk.state c.args.disk.now) (g.D.Disk.state c.stage_packets.new.disk) (λ m is. inl is) c.stage_packets.ensures.changes
+    wider (IsStagingOne c.args.packets.now) (IsAtStaging c.args.packets.now c.args.trial.now) (g.D.Disk.state c.args.disk.now) (g.D.Disk.state c.stage_packets.new.disk) (λ m is. inl is) c.stage_packets.ensures.changes
 
 pub returns-then-not-branch-clause-changes : goal.returns-then-not-branch-clause-changes
 returns-then-not-branch-clause-changes g c =
-    wider (IsBesideOne c.args.packets.now) (IsAtStaging c.args.packets.now c.args.trial.now) (g.D.Disk.state c.args.disk.now) (g.D.Disk.state c.stage_packets.new.disk) (λ m is. inl is) c.stage_packets.ensures.changes
+    wider (IsStagingOne c.args.packets.now) (IsAtStaging c.args.packets.now c.args.trial.now) (g.D.Disk.state c.args.disk.now) (g.D.Disk.state c.stage_packets.new.disk) (λ m is. inl is) c.stage_packets.ensures.changes
 
 pub returns-clause-changes : goal.returns-clause-changes
 returns-clause-changes g c =
     let at = IsAtStaging c.args.packets.now c.args.trial.now in
     let d0 = g.D.Disk.state c.args.disk.now in
     let d1 = g.D.Disk.state c.stage_packets.new.disk in
-    then_only at d0 d1 (g.D.Disk.state c.try_first.new.disk) (wider (IsBesideOne c.args.packets.now) at d0 d1 (λ m is. inl is) c.stage_packets.ensures.changes) c.try_first.ensures.changes
+    then_only at d0 d1 (g.D.Disk.state c.try_first.new.disk) (wider (IsStagingOne c.args.packets.now) at d0 d1 (λ m is. inl is) c.stage_packets.ensures.changes) c.try_first.ensures.changes
 
 pub returns-clause-tried : goal.returns-clause-tried
 returns-clause-tried g c =

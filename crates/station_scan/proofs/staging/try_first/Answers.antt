@@ -45,8 +45,8 @@ returns-clause-tried g c =
     let x = c.index-packets-0.result in
     let some : 0 < length packets = let not : length packets ≢ 0 = eqb-false _ _ (sym c.is_empty.ensures ∙ c.if-is_empty.false) in omega arith in
     let d = g.D.Disk.state c.args.disk.now in
-    IfOk-weaker c.try_link.result (λ b. b ≡ true → WasTried g.D.Disk.state (λ m. (m ≡ x.beside.now) ⊎ (m ≡ c.args.trial.now)) c.args.trial.now d) (λ b. b ≡ true → IsTriedWith g.D.Disk.state packets c.args.trial.now d)
-    (λ b was is. inr (tried_after g.D.Disk.state (λ m. (m ≡ x.beside.now) ⊎ (m ≡ c.args.trial.now)) (IsAtStaging packets c.args.trial.now) c.args.trial.now d d (at_staging c.args.outbound.now c.args.trial.now packets c.requires.placed c.requires.trial x c.index-packets-0.is some) (λ m out. refl) (was is))) c.try_link.ensures.tried
+    IfOk-weaker c.try_link.result (λ b. b ≡ true → WasTried g.D.Disk.state (λ m. (m ≡ x.staging.now) ⊎ (m ≡ c.args.trial.now)) c.args.trial.now d) (λ b. b ≡ true → IsTriedWith g.D.Disk.state packets c.args.trial.now d)
+    (λ b was is. inr (tried_after g.D.Disk.state (λ m. (m ≡ x.staging.now) ⊎ (m ≡ c.args.trial.now)) (IsAtStaging packets c.args.trial.now) c.args.trial.now d d (at_staging c.args.outbound.now c.args.trial.now packets c.requires.placed c.requires.trial x c.index-packets-0.is some) (λ m out. refl) (was is))) c.try_link.ensures.tried
 
 pub returns-clause-staged : goal.returns-clause-staged
 returns-clause-staged g c =

@@ -4,7 +4,7 @@ use Rattle.base_log.specs.AtRest.{IsAtRest}
 use Rattle.base_log.specs.Moments.{KeepsOutside, StandsAlone}
 use Rattle.base_log.specs.Names.{AreNames, folder_of, keys_of, messages_of}
 use Rattle.base_log.specs.Standing.{BaseBytes, base_at}
-use Rattle.base_log.specs.declared.log.Told.{Told}
+use Rattle.base_log.specs.declared.log.CommitRecord.{CommitRecord}
 use Rattle.base_log.proofs.Renewed.{alone_first, alone_run}
 use Rattle.base_folder_store.specs.Left.{IsBesideIn}
 use Rattle.base_folder_store.specs.Opened.{IsWritten, path_of}
@@ -64,7 +64,7 @@ returns-clause-outside g c =
 
 pub returns-clause-named : goal.returns-clause-named
 returns-clause-named g c =
-    subst (λ (t : Told). AreNames c.in_ok-names.names t.number) (sym c.in_ok-told.ensures.told) c.in_ok-names.ensures.names
+    subst (λ (t : CommitRecord). AreNames c.in_ok-names.names t.number) (sym c.in_ok-told.ensures.told) c.in_ok-names.ensures.names
 
 pub returns-clause-opened : goal.returns-clause-opened
 returns-clause-opened g c honest =
@@ -75,9 +75,9 @@ returns-clause-opened g c honest =
     let told = c.in_ok-told.ensures.told in
     let none : IsWritten next = record { messages = c.new-waiting.ensures.messages; keys = c.new-waiting.ensures.keys } in
     record {
-      names = subst (λ (t : Told). AreNames c.in_ok-names.names t.number) (sym told) c.in_ok-names.ensures.names;
+      names = subst (λ (t : CommitRecord). AreNames c.in_ok-names.names t.number) (sym told) c.in_ok-names.ensures.names;
       staged = c.in_ok-told.ensures.staged honest;
-      keys = c.new-keys.ensures.items ∙ sym (ap (λ (t : Told). (base_at d1 (folder_of c.in_ok-names.names) t).keys) told) ∙ sym (ap (λ (b : BaseBytes). b.keys) (written_held d1 next none));
+      keys = c.new-keys.ensures.items ∙ sym (ap (λ (t : CommitRecord). (base_at d1 (folder_of c.in_ok-names.names) t).keys) told) ∙ sym (ap (λ (b : BaseBytes). b.keys) (written_held d1 next none));
     }
 
 pub returns-clause-beside : goal.returns-clause-beside
@@ -89,8 +89,8 @@ returns-clause-beside g c =
     let beside : IsBesideIn f next = record {
       path = folder;
       end = refl;
-      number = λ is. c.other_number-number.ensures.other (sym (ap (λ (t : Told). t.number) told) ∙ is);
-      mark = ap (λ (t : Told). t.mark) told;
+      number = λ is. c.other_number-number.ensures.other (sym (ap (λ (t : CommitRecord). t.number) told) ∙ is);
+      mark = ap (λ (t : CommitRecord). t.mark) told;
     } in
     beside
 
@@ -100,7 +100,7 @@ returns-clause-empty g c =
     let d1 = g.D.Disk.state c.stage_anew.new.disk in
     let next : Folder = record { names = c.in_ok-names.names; end = c.args.self.now.end; told = c.in_ok-told.told; keys = c.new-keys.result; waiting = c.new-waiting.result } in
     let none : IsWritten next = record { messages = c.new-waiting.ensures.messages; keys = c.new-waiting.ensures.keys } in
-    written_held d1 next none ∙ ap (λ (t : Told). base_at d1 (folder_of c.in_ok-names.names) t) c.in_ok-told.ensures.told
+    written_held d1 next none ∙ ap (λ (t : CommitRecord). base_at d1 (folder_of c.in_ok-names.names) t) c.in_ok-told.ensures.told
 
 pub returns-clause-committed : goal.returns-clause-committed
 returns-clause-committed g c honest =
@@ -121,11 +121,11 @@ returns-clause-readable g c honest =
     let beside : IsBesideIn f next = record {
       path = folder;
       end = refl;
-      number = λ is. c.other_number-number.ensures.other (sym (ap (λ (t : Told). t.number) told) ∙ is);
-      mark = ap (λ (t : Told). t.mark) told;
+      number = λ is. c.other_number-number.ensures.other (sym (ap (λ (t : CommitRecord). t.number) told) ∙ is);
+      mark = ap (λ (t : CommitRecord). t.mark) told;
     } in
     let number = c.other_number-number.result in
     let path = folder_of c.in_ok-names.names in
     readable_beside d0 d1 f next beside
-    (λ m messages keys. c.stage_anew.ensures.beside m (λ is. messages (is ∙ ap (λ (t : Told). messages_of path t.number) (sym told))) (λ is. keys (is ∙ ap (λ (t : Told). keys_of path t.number) (sym told))))
+    (λ m messages keys. c.stage_anew.ensures.beside m (λ is. messages (is ∙ ap (λ (t : CommitRecord). messages_of path t.number) (sym told))) (λ is. keys (is ∙ ap (λ (t : CommitRecord). keys_of path t.number) (sym told))))
     (c.requires.readable (c.stage_anew.ensures.outside.honest honest))

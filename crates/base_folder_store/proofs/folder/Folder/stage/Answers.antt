@@ -5,14 +5,14 @@ use Rattle.base_log.specs.Moments.{KeepsOutside, StandsAlone}
 use Rattle.base_log.specs.Names.{AreNames, folder_of, keys_of, messages_of}
 use Rattle.base_log.specs.Standing.{BaseBytes}
 use Rattle.base_log.specs.declared.names.Names.{Names}
-use Rattle.base_log.specs.declared.log.Told.{Told}
+use Rattle.base_log.specs.declared.log.CommitRecord.{CommitRecord}
 use Rattle.base_folder_store.specs.Opened.{committed_by, held_by, path_of}
 use Rattle.base_folder_store.proofs.Staged.{added_committed, added_fits, added_open, added_stored, nothing_left, outside_same}
 use Rattle.base_folder_store.proofs.folder.Folder.stage.Goals as goal
 
 pub returns-in_err-add-clause-named : goal.returns-in_err-add-clause-named
 returns-in_err-add-clause-named g c =
-    subst (λ (t : Told). AreNames c.add.new.self.names t.number) (sym c.add.ensures.told) (subst (λ (n : Names). AreNames n c.args.self.now.told.number) (sym c.add.ensures.names) c.requires.named)
+    subst (λ (t : CommitRecord). AreNames c.add.new.self.names t.number) (sym c.add.ensures.told) (subst (λ (n : Names). AreNames n c.args.self.now.told.number) (sym c.add.ensures.names) c.requires.named)
 
 pub returns-in_err-add-clause-any_moment : goal.returns-in_err-add-clause-any_moment
 returns-in_err-add-clause-any_moment g c honest = nothing_left (g.D.Disk.state c.args.disk.now) c.args.self.now (c.requires.opened honest)
@@ -22,7 +22,7 @@ returns-in_err-add-clause-outside g c = outside_same (path_of c.args.self.now) (
 
 pub returns-then-len-lt-PIECE-clause-named : goal.returns-then-len-lt-PIECE-clause-named
 returns-then-len-lt-PIECE-clause-named g c =
-    subst (λ (t : Told). AreNames c.add.new.self.names t.number) (sym c.add.ensures.told) (subst (λ (n : Names). AreNames n c.args.self.now.told.number) (sym c.add.ensures.names) c.requires.named)
+    subst (λ (t : CommitRecord). AreNames c.add.new.self.names t.number) (sym c.add.ensures.told) (subst (λ (n : Names). AreNames n c.args.self.now.told.number) (sym c.add.ensures.names) c.requires.named)
 
 pub returns-then-len-lt-PIECE-clause-opened : goal.returns-then-len-lt-PIECE-clause-opened
 returns-then-len-lt-PIECE-clause-opened g c honest =
@@ -48,7 +48,7 @@ returns-then-len-lt-PIECE-clause-outside g c = outside_same (path_of c.args.self
 
 pub write_out-requires-clause-named : goal.write_out-requires-clause-named
 write_out-requires-clause-named g c =
-    subst (λ (t : Told). AreNames c.add.new.self.names t.number) (sym c.add.ensures.told) (subst (λ (n : Names). AreNames n c.args.self.now.told.number) (sym c.add.ensures.names) c.requires.named)
+    subst (λ (t : CommitRecord). AreNames c.add.new.self.names t.number) (sym c.add.ensures.told) (subst (λ (n : Names). AreNames n c.args.self.now.told.number) (sym c.add.ensures.names) c.requires.named)
 
 pub write_out-requires-clause-opened : goal.write_out-requires-clause-opened
 write_out-requires-clause-opened g c honest =
@@ -58,13 +58,13 @@ pub returns-clause-path : goal.returns-clause-path
 returns-clause-path g c = c.write_out.ensures.path ∙ ap folder_of c.add.ensures.names
 
 pub returns-clause-mark : goal.returns-clause-mark
-returns-clause-mark g c = c.write_out.ensures.mark ∙ ap (λ (t : Told). t.mark) c.add.ensures.told
+returns-clause-mark g c = c.write_out.ensures.mark ∙ ap (λ (t : CommitRecord). t.mark) c.add.ensures.told
 
 pub returns-clause-end : goal.returns-clause-end
 returns-clause-end g c = c.write_out.ensures.end ∙ c.add.ensures.end
 
 pub returns-clause-number : goal.returns-clause-number
-returns-clause-number g c = c.write_out.ensures.number ∙ ap (λ (t : Told). t.number) c.add.ensures.told
+returns-clause-number g c = c.write_out.ensures.number ∙ ap (λ (t : CommitRecord). t.number) c.add.ensures.told
 
 pub returns-clause-staged : goal.returns-clause-staged
 returns-clause-staged g c honest =

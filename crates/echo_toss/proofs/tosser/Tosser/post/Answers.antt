@@ -11,8 +11,8 @@ returns g c =
     let file = c.self.inside.links in
     let base = c.self.inside.store.base in
     let state : Base → SystemState = λ b. record { file = file; base = b.messages; cursor = b.cursor } in
-    let P : SystemState → Type 0 = λ s. PostStep s c.args.tag.now c.args.draft.now c.args.serial c.args.stamp c.match-post_in.result (state c.post_in.new.store.base) in
-    subst P c.self.view_is (elim c.match-post_in.branch [
+    let P : SystemState → Type 0 = λ s. PostStep s c.args.tag.now c.args.draft.now c.args.serial c.args.stamp c.match-post_step.result (state c.post_step.new.store.base) in
+    subst P c.self.view_is (elim c.match-post_step.branch [
       | in-Ok w ↦ rw w.result-is (w.in-Ok.ensures.allowed tt base refl, sym (ap state (w.in-Ok.ensures.filed tt base refl)))
       | in-Err-Refused w ↦
           let stop = rw w.in-Err-Refused.field-0-is at w.in-Err-Refused.ensures.stop tt base refl in

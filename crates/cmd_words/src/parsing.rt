@@ -1,0 +1,373 @@
+//! Words of a command line, read by the parser.
+
+use crate::program::command;
+use crate::words::{
+    Asked, CheckWords, ExportWords, ListWords, Paths, PostMailWords, PostStoredWords, PostWords,
+    ReplyWords, ResendWords, TossWords, Words,
+};
+use clap::error::ErrorKind;
+use clap::{ArgMatches, Command, Error};
+use std::alloc::{AllocError, Global};
+
+// The paths that stand in words of this name, or in a file that lists them.
+fn paths_in<'a>(
+    alloc: Global,
+    matches: &ArgMatches<'a>,
+    id: &str,
+    from: &str,
+) -> Result<Paths<'a>, AllocError> {
+    Ok(Paths {
+        words: values(alloc, matches, id)?,
+        from: matches.get_str(from),
+    })
+}
+
+// The link files of a net.
+fn links<'a>(alloc: Global, matches: &ArgMatches<'a>) -> Result<Paths<'a>, AllocError> {
+    paths_in(alloc, matches, "LINKS", "links-from")
+}
+
+// The values of the argument that is given once or more.
+fn values<'a>(
+    alloc: Global,
+    matches: &ArgMatches<'a>,
+    id: &str,
+) -> Result<Vec<&'a str>, AllocError> {
+    Vec::from_slice(alloc, matches.get_strs(id).unwrap_or(&[]))
+}
+
+fn show_words<'a>(matches: &ArgMatches<'a>) -> Option<Words<'a>> {
+    Some(Words::Show {
+        hex: matches.get_flag("hex"),
+        text: matches.get_flag("text"),
+        packet: matches.get_str("PACKET")?,
+    })
+}
+
+fn nodelist_words<'a>(matches: &ArgMatches<'a>) -> Option<Words<'a>> {
+    Some(Words::Nodelist {
+        find: matches.get_str("find"),
+        file: matches.get_str("FILE")?,
+    })
+}
+
+// With `--all` the first word is a link file, too.
+fn check_words<'a>(
+    alloc: Global,
+    matches: &ArgMatches<'a>,
+) -> Result<Option<Words<'a>>, AllocError> {
+    let mut links = links(alloc, matches)?;
+    let first = matches.get_str("TAG");
+    let all = matches.get_flag("all");
+    if let (true, Some(path)) = (all, first) {
+        links.words.insert(0, path)?;
+    }
+    if !all && first.is_none() {
+        return Ok(None);
+    }
+    Ok(Some(Words::Check(CheckWords {
+        nodelist: matches.get_str("nodelist"),
+        assume: values(alloc, matches, "assume")?,
+        tag: if all { None } else { first },
+        links,
+    })))
+}
+
+fn picture_words<'a>(
+    alloc: Global,
+    matches: &ArgMatches<'a>,
+) -> Result<Option<Words<'a>>, AllocError> {
+    let Some(tag) = matches.get_str("TAG") else {
+        return Ok(None);
+    };
+    Ok(Some(Words::Picture {
+        why: matches.get_flag("why"),
+        assume: values(alloc, matches, "assume")?,
+        tag,
+        links: links(alloc, matches)?,
+    }))
+}
+
+fn why_words<'a>(alloc: Global, matches: &ArgMatches<'a>) -> Result<Option<Words<'a>>, AllocError> {
+    let Some(tag) = matches.get_str("TAG") else {
+        return Ok(None);
+    };
+    Ok(Some(Words::Why {
+        assume: values(alloc, matches, "assume")?,
+        tag,
+        links: links(alloc, matches)?,
+    }))
+}
+
+fn post_words<'a>(matches: &ArgMatches<'a>) -> Option<Words<'a>> {
+    let texts = texts_in(matches)?;
+    let stated = stated_in(matches)?;
+    Some(Words::Post(PostWords {
+        area: texts.area,
+        to: texts.to,
+        from: texts.from,
+        subject: texts.subject,
+        serial: stated.serial,
+        at: stated.at,
+        reply: matches.get_str("reply"),
+        links: stated.links,
+        base: stated.base,
+    }))
+}
+
+// The words that a message is written of.
+#[derive(Clone, Copy)]
+struct Texts<'a> {
+    area: &'a str,
+    to: &'a str,
+    from: &'a str,
+    subject: &'a str,
+}
+
+fn texts_in<'a>(matches: &ArgMatches<'a>) -> Option<Texts<'a>> {
+    Some(Texts {
+        area: matches.get_str("area")?,
+        to: matches.get_str("to")?,
+        from: matches.get_str("from")?,
+        subject: matches.get_str("subject")?,
+    })
+}
+
+// The words that state when and where a message is posted.
+#[derive(Clone, Copy)]
+struct Stated<'a> {
+    serial: &'a str,
+    at: &'a str,
+    links: &'a str,
+    base: &'a str,
+}
+
+fn stated_in<'a>(matches: &ArgMatches<'a>) -> Option<Stated<'a>> {
+    Some(Stated {
+        serial: matches.get_str("serial")?,
+        at: matches.get_str("at")?,
+        links: matches.get_str("LINKS")?,
+        base: matches.get_str("BASE")?,
+    })
+}
+
+fn post_mail_words<'a>(matches: &ArgMatches<'a>) -> Option<Words<'a>> {
+    let stated = stated_in(matches)?;
+    Some(Words::PostMail(PostMailWords {
+        charset: matches.get_str("charset"),
+        area: matches.get_str("area"),
+        to: matches.get_str("to"),
+        from: matches.get_str("from"),
+        subject: matches.get_str("subject"),
+        serial: stated.serial,
+        at: stated.at,
+        reply: matches.get_str("reply"),
+        links: stated.links,
+        base: stated.base,
+    }))
+}
+
+fn post_stored_words<'a>(matches: &ArgMatches<'a>) -> Option<Words<'a>> {
+    let stated = stated_in(matches)?;
+    Some(Words::PostStored(PostStoredWords {
+        area: matches.get_str("area")?,
+        serial: stated.serial,
+        at: stated.at,
+        message: matches.get_str("msg")?,
+        links: stated.links,
+        base: stated.base,
+    }))
+}
+
+fn reply_words<'a>(matches: &ArgMatches<'a>) -> Option<Words<'a>> {
+    let stated = stated_in(matches)?;
+    Some(Words::Reply(ReplyWords {
+        from: matches.get_str("from")?,
+        serial: stated.serial,
+        at: stated.at,
+        index: matches.get_str("I")?,
+        links: stated.links,
+        base: stated.base,
+    }))
+}
+
+fn toss_words<'a>(matches: &ArgMatches<'a>, packets: Paths<'a>) -> Option<Words<'a>> {
+    Some(Words::Toss(TossWords {
+        each: matches.get_flag("each"),
+        text_limit: matches.get_str("text-limit"),
+        links: matches.get_str("LINKS")?,
+        base: matches.get_str("BASE")?,
+        packets,
+    }))
+}
+
+fn scan_words<'a>(matches: &ArgMatches<'a>) -> Option<Words<'a>> {
+    Some(Words::Scan {
+        at: matches.get_str("at")?,
+        links: matches.get_str("LINKS")?,
+        base: matches.get_str("BASE")?,
+        folder: matches.get_str("DIR")?,
+    })
+}
+
+fn purge_words<'a>(matches: &ArgMatches<'a>) -> Option<Words<'a>> {
+    Some(Words::Purge {
+        links: matches.get_str("LINKS")?,
+        base: matches.get_str("BASE")?,
+    })
+}
+
+fn list_words<'a>(matches: &ArgMatches<'a>) -> Option<Words<'a>> {
+    Some(Words::List(ListWords {
+        short: matches.get_flag("short"),
+        areas: matches.get_flag("areas"),
+        area: matches.get_str("area"),
+        from: matches.get_str("from"),
+        base: matches.get_str("BASE")?,
+    }))
+}
+
+fn export_words<'a>(matches: &ArgMatches<'a>) -> Option<Words<'a>> {
+    Some(Words::Export(ExportWords {
+        json: matches.get_flag("json"),
+        purged: matches.get_flag("purged"),
+        msg: matches.get_str("msg"),
+        jam: matches.get_str("jam"),
+        area: matches.get_str("area"),
+        from: matches.get_str("from"),
+        base: matches.get_str("BASE")?,
+    }))
+}
+
+fn resend_words<'a>(matches: &ArgMatches<'a>) -> Option<Words<'a>> {
+    Some(Words::Resend(ResendWords {
+        area: matches.get_str("area")?,
+        to: matches.get_str("to")?,
+        from: matches.get_str("from"),
+        at: matches.get_str("at")?,
+        links: matches.get_str("LINKS")?,
+        base: matches.get_str("BASE")?,
+        folder: matches.get_str("DIR")?,
+    }))
+}
+
+fn convert_words<'a>(matches: &ArgMatches<'a>) -> Option<Words<'a>> {
+    Some(Words::Convert {
+        from: matches.get_str("FROM")?,
+        to: matches.get_str("TO")?,
+    })
+}
+
+fn replay_words<'a>(matches: &ArgMatches<'a>, links: Paths<'a>) -> Option<Words<'a>> {
+    Some(Words::Replay {
+        script: matches.get_str("SCRIPT")?,
+        links,
+    })
+}
+
+const LINKS_TWICE: &str = "the argument '--links-from <FILE>' cannot be used with '[LINKS]...'";
+
+// With `check --all` a list of link files is given, and link files too: the first of them stands where else
+// the tag does, so the parser takes both.
+fn names_links_twice(given: &ArgMatches<'_>) -> bool {
+    let list = given.get_str("links-from").is_some();
+    let tag = given.get_str("TAG").is_some();
+    list && tag && given.get_flag("all")
+}
+
+fn links_words<'a>(
+    alloc: Global,
+    matches: &ArgMatches<'a>,
+) -> Result<Option<Words<'a>>, AllocError> {
+    Ok(Some(Words::Links {
+        areas: matches.get_flag("areas"),
+        links: links(alloc, matches)?,
+    }))
+}
+
+// What the words of `post` ask for.
+fn posting_words<'a>(given: &ArgMatches<'a>) -> Option<Words<'a>> {
+    if given.get_flag("mail") {
+        post_mail_words(given)
+    } else if given.get_str("msg").is_some() {
+        post_stored_words(given)
+    } else {
+        post_words(given)
+    }
+}
+
+// What the words of a command ask for.
+fn words_of<'a>(
+    alloc: Global,
+    command: &str,
+    given: &ArgMatches<'a>,
+) -> Result<Option<Words<'a>>, AllocError> {
+    match command {
+        "show" => Ok(show_words(given)),
+        "nodelist" => Ok(nodelist_words(given)),
+        "links" => links_words(alloc, given),
+        "check" => check_words(alloc, given),
+        "why" => why_words(alloc, given),
+        "picture" => picture_words(alloc, given),
+        "replay" => Ok(replay_words(given, links(alloc, given)?)),
+        _ => base_words(alloc, command, given),
+    }
+}
+
+// The same of a command on a base.
+fn base_words<'a>(
+    alloc: Global,
+    command: &str,
+    given: &ArgMatches<'a>,
+) -> Result<Option<Words<'a>>, AllocError> {
+    Ok(match command {
+        "post" => posting_words(given),
+        "reply" => reply_words(given),
+        "toss" => toss_words(given, paths_in(alloc, given, "PACKET", "packets-from")?),
+        "scan" => scan_words(given),
+        "purge" => purge_words(given),
+        "list" => list_words(given),
+        "export" => export_words(given),
+        "resend" => resend_words(given),
+        "convert" => convert_words(given),
+        _ => None,
+    })
+}
+
+/// What the words ask for, or why they were refused; help that was asked for is such an error too.
+/// `None` is a command that the program does not have.
+pub fn parse<'a>(alloc: Global, words: &'a [String]) -> Result<Option<Asked<'a>>, Error> {
+    let mut program = command(alloc)?;
+    parse_by(alloc, &mut program, words)
+}
+
+// The same by this command line.
+fn parse_by<'a>(
+    alloc: Global,
+    program: &mut Command<'a>,
+    words: &'a [String],
+) -> Result<Option<Asked<'a>>, Error> {
+    let matches = program.try_get_matches_from_mut(words)?;
+    match matched(alloc, program, &matches)? {
+        Some(words) => Ok(Some(Asked {
+            words,
+            explain: matches.get_flag("explain"),
+        })),
+        None => Ok(None),
+    }
+}
+
+// What the words ask for that were found.
+fn matched<'a>(
+    alloc: Global,
+    program: &mut Command<'a>,
+    matches: &ArgMatches<'a>,
+) -> Result<Option<Words<'a>>, Error> {
+    let Some((command, given)) = matches.subcommand() else {
+        return Ok(None);
+    };
+    if command == "check" && names_links_twice(given) {
+        return Err(program.error(ErrorKind::ArgumentConflict, LINKS_TWICE)?);
+    }
+    Ok(words_of(alloc, command, given)?)
+}

@@ -1,0 +1,39 @@
+use Rattle.std.proofs.Common.{◌≡◌, ◌∙◌, get_or, inl, inr, sym}
+use Rattle.disk_atomic.specs.Outgoing.{IsAtStaging, IsStagingOne}
+use Rattle.disk_atomic.specs.Changes.{ChangesOnly}
+use Rattle.disk_atomic.proofs.Changes.{only_nothing, then_only, wider}
+use Rattle.disk_atomic.proofs.Each.{among}
+use Rattle.disk_atomic.proofs.Whole.{on_ok_any}
+use Rattle.disk_atomic.proofs.dropping.drop_staging.Given as given
+use Rattle.disk_atomic.proofs.dropping.drop_staging.Goals.{After-drop_one}
+use Rattle.disk_atomic.proofs.dropping.drop_staging.Goals as goal
+
+pub drop_each-requires-clause-named : goal.drop_each-requires-clause-named
+drop_each-requires-clause-named g c k z lt =
+    let packets = c.args.packets.now in
+    let p = get_or packets k z in
+    c.drop_one.ensures.changes.named p.staging.now (λ e. c.requires.apart (p, among packets k z lt, inl (sym e))) (c.in_ok-sync_folder_of.ensures.durable p.staging.now (c.requires.placed.each k z lt).staging_in)
+
+-- up to the removal at the path that was tried
+tried : (g : given.Over) (c : After-drop_one g) → ChangesOnly (IsAtStaging c.args.packets.now c.args.trial.now) (g.D.Disk.state c.args.disk.now) (g.D.Disk.state c.drop_one.new.disk)
+tried g c =
+    let at = IsAtStaging c.args.packets.now c.args.trial.now in
+    let d0 = g.D.Disk.state c.args.disk.now in
+    let d1 = g.D.Disk.state c.sync_folder_of.new.disk in
+    let d2 = g.D.Disk.state c.drop_one.new.disk in
+    then_only at d0 d1 d2 (only_nothing at d0 d1 c.sync_folder_of.ensures.quiet) (wider (λ m. m ≡ c.args.trial.now) at d1 d2 (λ m is. inr is) c.drop_one.ensures.changes)
+
+pub returns-in_err-drop_one-clause-changes : goal.returns-in_err-drop_one-clause-changes
+returns-in_err-drop_one-clause-changes g c = tried g (goal.at.returns-in_err-drop_one-clause-changes g c).After-drop_one
+
+pub returns-clause-changes : goal.returns-clause-changes
+returns-clause-changes g c =
+    let at = IsAtStaging c.args.packets.now c.args.trial.now in
+    let d2 = g.D.Disk.state c.drop_one.new.disk in
+    let d3 = g.D.Disk.state c.drop_each.new.disk in
+    then_only at (g.D.Disk.state c.args.disk.now) d2 d3 (tried g (goal.at.returns-clause-changes g c).After-drop_one) (wider (IsStagingOne c.args.packets.now) at d2 d3 (λ m is. inl is) c.drop_each.ensures.changes)
+
+pub returns-clause-trial_gone : goal.returns-clause-trial_gone
+returns-clause-trial_gone g c honest =
+    let run = c.drop_each.ensures.changes in
+    on_ok_any c.drop_each.result (run.seen c.args.trial.now (λ is. c.requires.apart (is.0, is.1, inl is.2)) ∙ c.in_ok-drop_one.ensures.gone (run.honest honest))

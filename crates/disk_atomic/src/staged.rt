@@ -1,0 +1,88 @@
+//! Packets in their staging files.
+ghost use Rattle.std.specs.Prelude.{◌≡◌, ℕ, List, true, false, All, AllPairs, IfOk, OnOk};
+ghost use Rattle.disk_io.specs.Disk.{Honestly, IsIn};
+ghost use Rattle.disk_io.specs.Runs.{ChangesNothing, HasCause, KeepsNamed};
+ghost use Rattle.disk_atomic.specs.Changes.{ChangesOnly};
+ghost use Rattle.disk_atomic.specs.Outgoing.{AreApart, ArePlaced, SendsBytes, IsStagingOne, IsFilled, IsFree, IsMade, IsStagingNamed, IsStaged};
+
+use crate::filling::fill_packet;
+use crate::outgoing::Outgoing;
+use disk_io::{Disk, DiskError, sync_folder_of};
+use std::alloc::Global;
+
+// Whether no packet's path is in use.
+fn are_free<D: Disk>(disk: &mut D, packets: &[Outgoing<'_>]) -> Result<bool, DiskError>
+    ensures free { Honestly (D.state disk.new) (IfOk result (λ free. free ≡ true → All (IsFree (D.state disk.old)) packets.now)) }
+    ensures taken { Honestly (D.state disk.new) (IfOk result (λ free. free ≡ false → All (IsFree (D.state disk.old)) packets.now → ⊥)) }
+    ensures quiet { ChangesNothing (D.state disk.old) (D.state disk.new) }
+    ensures cause { HasCause (D.failures disk.old) (D.failures disk.new) result }
+{
+    'packets: for packet in packets {
+        if disk.exists(packet.path)? {
+            return Ok(false);
+        }
+    }
+    Ok(true)
+}
+
+// Makes an empty staging file for each packet.
+fn make_files<D: Disk>(disk: &mut D, packets: &[Outgoing<'_>]) -> Result<(), DiskError>
+    requires apart { AllPairs AreApart packets.now }
+    requires named { All (IsStagingNamed (D.state disk.old)) packets.now }
+    ensures made { OnOk result (All (IsMade (D.state disk.new)) packets.now) }
+    ensures changes { ChangesOnly (IsStagingOne packets.now) (D.state disk.old) (D.state disk.new) }
+    ensures cause { HasCause (D.failures disk.old) (D.failures disk.new) result }
+{
+    'packets: for packet in packets {
+        disk.create(packet.staging)?;
+    }
+    Ok(())
+}
+
+// Writes each packet into its staging file.
+fn fill_files<D: Disk>(
+    alloc: Global,
+    disk: &mut D,
+    packets: &[Outgoing<'_>],
+) -> Result<(), DiskError>
+    requires apart { AllPairs AreApart packets.now }
+    requires made { All (IsMade (D.state disk.old)) packets.now }
+    requires named { All (IsStagingNamed (D.state disk.old)) packets.now }
+    ensures bytes { OnOk result (All SendsBytes packets.now) }
+    ensures filled { OnOk result (All (IsFilled (D.state disk.new)) packets.now) }
+    ensures named { KeepsNamed (λ m. ⊥) (D.state disk.old) (D.state disk.new) }
+    ensures changes { ChangesOnly (IsStagingOne packets.now) (D.state disk.old) (D.state disk.new) }
+    ensures cause { HasCause (D.failures disk.old) (D.failures disk.new) result }
+{
+    'packets: for packet in packets {
+        fill_packet(alloc, disk, packet.staging, packet.file)?;
+    }
+    Ok(())
+}
+
+/// Writes each packet into its staging file, and syncs it. If a packet's path is in use it returns `false`, and
+/// writes no packet.
+pub fn stage_packets<D: Disk>(
+    alloc: Global,
+    disk: &mut D,
+    folder: &[u8],
+    packets: &[Outgoing<'_>],
+) -> Result<bool, DiskError>
+    requires { ArePlaced folder.now packets.now }
+    ensures bytes { IfOk result (λ free. free ≡ true → All SendsBytes packets.now) }
+    ensures staged { IfOk result (λ free. free ≡ true → All (IsStaged (D.state disk.new)) packets.now) }
+    ensures named { IfOk result (λ free. free ≡ true → (m : List ℕ) → IsIn folder.now m → (D.state disk.new).is_named m) }
+    ensures free { Honestly (D.state disk.new) (IfOk result (λ free. free ≡ true → All (IsFree (D.state disk.new)) packets.now)) }
+    ensures taken { Honestly (D.state disk.new) (IfOk result (λ free. free ≡ false → All (IsFree (D.state disk.old)) packets.now → ⊥)) }
+    ensures changes { ChangesOnly (IsStagingOne packets.now) (D.state disk.old) (D.state disk.new) }
+    ensures cause { HasCause (D.failures disk.old) (D.failures disk.new) result }
+{
+    sync_folder_of(disk, folder)?;
+    if !are_free(disk, packets)? {
+        return Ok(false);
+    }
+    make_files(disk, packets)?;
+    sync_folder_of(disk, folder)?;
+    fill_files(alloc, disk, packets)?;
+    Ok(true)
+}

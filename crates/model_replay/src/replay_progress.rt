@@ -1,0 +1,14 @@
+//! Who is told how far a replay is.
+
+/// Is told after each event how many happened, and how many there are in all.
+pub trait ReplayProgress {
+    fn tell(&self, happened: usize, events: usize);
+}
+
+/// Tells nobody.
+#[derive(Clone, Copy)]
+pub struct Untold;
+
+impl ReplayProgress for Untold {
+    fn tell(&self, _happened: usize, _events: usize) {}
+}
