@@ -13,7 +13,7 @@ use std::alloc::Global;
 #[derive(Clone, Copy)]
 pub struct Left<'a> {
     pub path: &'a [u8],
-    pub beside: &'a [u8],
+    pub staging: &'a [u8],
     pub before: u32,
 }
 

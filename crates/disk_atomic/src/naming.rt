@@ -32,7 +32,7 @@ fn are_same<D: Disk>(
 fn has_both<D: Disk>(
     alloc: Global,
     disk: &mut D,
-    beside: &[u8],
+    staging: &[u8],
     path: &[u8],
 ) -> Result<bool, DiskError>
     requires staging_there { Honestly (D.state disk.old) (IsSome ((D.state disk.old).seen staging.now)) }
@@ -52,7 +52,7 @@ fn has_both<D: Disk>(
 /// Gives the file at a staging path the packet's path too. Returns `false` if a file has that path.
 pub(crate) fn link_path<D: Disk>(
     disk: &mut D,
-    beside: &[u8],
+    staging: &[u8],
     path: &[u8],
 ) -> Result<bool, DiskError>
     requires other { staging.now ≢ path.now }
@@ -74,7 +74,7 @@ pub(crate) fn link_path<D: Disk>(
 fn give_path<D: Disk>(
     alloc: Global,
     disk: &mut D,
-    beside: &[u8],
+    staging: &[u8],
     path: &[u8],
 ) -> Result<bool, DiskError>
     requires other { staging.now ≢ path.now }
@@ -101,7 +101,7 @@ pub fn name_packet<D: Disk>(
     alloc: Global,
     disk: &mut D,
     folder: &[u8],
-    beside: &[u8],
+    staging: &[u8],
     path: &[u8],
 ) -> Result<bool, DiskError>
     requires path_in { IsIn folder.now path.now }

@@ -6,6 +6,6 @@ use model_steps::PacketFile;
 #[derive(Clone, Copy)]
 pub struct Outgoing<'a> {
     pub path: &'a [u8],
-    pub beside: &'a [u8],
+    pub staging: &'a [u8],
     pub file: &'a PacketFile,
 }

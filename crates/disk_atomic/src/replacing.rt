@@ -14,7 +14,7 @@ pub fn replace_file<D: Disk>(
     disk: &mut D,
     folder: &[u8],
     path: &[u8],
-    beside: &[u8],
+    staging: &[u8],
     bytes: &[u8],
 ) -> Result<(), DiskError>
     requires path_in { IsIn folder.now path.now }
