@@ -57,7 +57,7 @@ module _ (d e : DiskState) (x : Outgoing) (run : ChangesOnly (At x) d e) (y : Ou
 pub path_not_staging : (folder : List ℕ) (packets : List Outgoing) → ArePlaced folder packets → (k : ℕ) (z : Outgoing) → k < length packets → IsStagingOne packets (get_or packets k z).path.now → ⊥
 path_not_staging folder packets placed k z lt (p, (j, within, is), at) =
     let here : get_or packets j z ≡ p = at_read packets (λ (q : Outgoing). q ≡ p) j p within (sym is) refl z in
-    let at_j : (get_or packets k z).path.now ≡ (get_or packets j z).staging.now = at ∙ ap (λ (q : Outgoing). q.beside.now) (sym here) in
+    let at_j : (get_or packets k z).path.now ≡ (get_or packets j z).staging.now = at ∙ ap (λ (q : Outgoing). q.staging.now) (sym here) in
     ⊎_elim
     (λ (e : k ≡ j). (placed.each k z lt).other (ap (λ (n : ℕ). (get_or packets n z).staging.now) e ∙ sym at_j))
     (λ o. ⊎_elim (λ (e : k < j). (placed.apart k j z e within).path_not_staging at_j) (λ (e : j < k). (placed.apart j k z e lt).staging_not_path (sym at_j)) o)
