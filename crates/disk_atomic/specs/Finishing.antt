@@ -13,8 +13,8 @@ IsOfLeft found m = (l : Left) × Contains found l × ((m ≡ l.staging.now) ⊎ 
 pub record AreAway (one other : Left) : Type 0 where
   pub paths : one.path.now ≢ other.path.now
   pub stagings : one.staging.now ≢ other.staging.now
-  pub path_staging : one.path.now ≢ other.staging.now
-  pub staging_path : one.staging.now ≢ other.path.now
+  pub path_not_staging : one.path.now ≢ other.staging.now
+  pub staging_not_path : one.staging.now ≢ other.path.now
 
 -- the two paths of one, in this folder
 pub record IsLeftIn (folder : List ℕ) (l : Left) : Type 0 where

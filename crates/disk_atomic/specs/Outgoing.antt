@@ -21,8 +21,8 @@ IsAtStaging packets trial m = IsStagingOne packets m ⊎ (m ≡ trial)
 pub record AreApart (one other : Outgoing) : Type 0 where
   pub paths : one.path.now ≢ other.path.now
   pub stagings : one.staging.now ≢ other.staging.now
-  pub path_staging : one.path.now ≢ other.staging.now
-  pub staging_path : one.staging.now ≢ other.path.now
+  pub path_not_staging : one.path.now ≢ other.staging.now
+  pub staging_not_path : one.staging.now ≢ other.path.now
 
 -- the two paths of a packet, in this folder
 pub record IsPlaced (folder : List ℕ) (p : Outgoing) : Type 0 where

@@ -33,7 +33,7 @@ HaveOtherPaths one other = one.path ≢ other.path
 -- neither path is one of these, which are of the station's own files
 pub record IsOffOwn (Own : List ℕ → Type 0) (two : TwoPaths) : Type 0 where
   pub path : Own two.path → ⊥
-  pub staging_path : Own two.staging → ⊥
+  pub staging : Own two.staging → ⊥
 
 -- the packet that goes to these paths is this file
 pub record IsSent (sent : PacketFile) (two : TwoPaths) (packet : Outgoing) : Type 0 where
