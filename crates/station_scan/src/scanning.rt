@@ -67,11 +67,11 @@ pub fn run_scan<
     ensures locked { P.is_locked station (L.held locks.new.links) (K.held locks.new.base) ⊎ ChangesNothing (D.state disk) (D.state result.disk) }
     ensures runs { let failed = HaveFailed (D.failures disk) (D.failures result.disk) (L.failures locks.old.links) (L.failures locks.new.links) (K.failures locks.old.base) (K.failures locks.new.base) in
         Honestly (D.state result.disk) (ScansIn scan.old.stamp (P.place station) scan.old.outbound.now (G.is_true scan.new.listing) (P.reads station (D.state disk))
-        (P.is_shut station failed (D.state disk) (D.state result.disk)) (Q.stops before.new)
+        (P.is_shut station failed (D.state disk) (D.state result.disk)) (Q.stops before.old before.new)
         (failed ⊎ Failed (G.failures scan.old.listing) (G.failures scan.new.listing)) (D.state disk) (D.state result.disk)
         (output_of W.contents W.failures W.holds out.old) (output_of W.contents W.failures W.holds out.new) result.done) }
     ensures keeps { UnchangedExcept (IsTouched (P.place station).is_own scan.old.outbound.now) (D.state disk) (D.state result.disk) }
-    ensures passed { OnOk result.done (Q.lets before.new) }
+    ensures passed { OnOk result.done (Q.lets before.old) }
 {
     let paths = station.paths();
     match station.open(alloc, disk, locks) {
