@@ -1,5 +1,8 @@
 //! Files that are written whole: a crash leaves the old file or the new one, and packets together with a commit.
 //!
+//! Promise: each call names the paths that it may change, and the states that a crash may leave there. A replaced file
+//! has its old bytes or the new ones. A packet is whole at one of its two paths.
+//!
 //! Begin with `replacing` (a file is replaced whole), then `filling`, `outgoing` and `staged` (packets in staging
 //! files) and `naming` (packets get their paths). `staging` writes and syncs one file. `trying` finds out whether a
 //! packet can get a second path. `dropping` removes staging files of packets, and `finishing` ends what a stopped scan
