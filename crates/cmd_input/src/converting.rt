@@ -1,4 +1,4 @@
-//! `convert`: the base file or the base folder of the messages that another base has.
+//! `convert` makes a base file or a base folder with the messages of another base.
 
 use crate::folders::{base_bytes, fill_folder, is_empty, is_folder};
 use crate::{folder_of, locked_folder, output_fault};
@@ -8,13 +8,13 @@ use disk_io::{Sink, Watched};
 use disk_system::{NewFile, create_file, flush_folder};
 use std::collections::hash_map::RandomState;
 
-/// The bytes that show that a file is a base.
+/// The first bytes of every base file.
 pub const BASE_START: &[u8] = b"ECHOBAS";
 
-/// What stands in the name of the file beside a base that is made, where else the address of a system does.
+/// The word in the staging path of a new base file where other files have the address of a system.
 const OWN: &str = "base";
 
-/// `convert FROM TO`: FROM is read first; TO is a folder that is there and empty, or nothing is there.
+/// `convert FROM TO`: FROM is read first. TO is an empty folder, or a path that nothing has.
 pub fn run_convert<'a, W: Sink>(
     rt: &HostRuntime,
     from: &'a str,
@@ -35,7 +35,7 @@ pub fn run_convert<'a, W: Sink>(
     Ok(Status::Good)
 }
 
-// Fills an empty folder, under its lock, so that no other run fills it or changes it meanwhile.
+// Fills an empty folder under its lock, so that no other run fills or changes it.
 fn fill_empty<'a>(
     rt: &HostRuntime,
     base: &Base<RandomState>,
@@ -51,7 +51,7 @@ fn fill_empty<'a>(
     filled
 }
 
-// Makes a base file, where nothing is there.
+// Makes a base file at a path that nothing has.
 fn save_file<'a>(rt: &HostRuntime, base: &Base<RandomState>, to: &'a str) -> Result<(), Fault<'a>> {
     let mut file = Watched::new(Vec::new(rt.alloc()));
     base.save(&mut file)?;

@@ -17,7 +17,7 @@ pub fn is_folder(rt: &HostRuntime, path: &str) -> bool {
     }
 }
 
-/// Fills the base folder with this path, which is empty, with the messages of a base.
+/// Fills the empty base folder with this path with the messages of a base.
 pub fn fill_folder<'a>(
     rt: &HostRuntime,
     to: &'a str,
@@ -29,7 +29,7 @@ pub fn fill_folder<'a>(
     fill_at(rt, to, path.as_str(), strange, base)
 }
 
-// Fills it at the path that its files have before their names.
+// Fills it. Its files have `path` before their names.
 fn fill_at<'a>(
     rt: &HostRuntime,
     to: &'a str,
@@ -45,7 +45,7 @@ fn fill_at<'a>(
     }
 }
 
-/// Flushes the folder in which a base folder of so many messages stands: one without any may have been made just now.
+/// Syncs the name of a base folder with this many messages, if it has none: then it may be new.
 pub fn flush_name<'a>(rt: &HostRuntime, base: &'a str, messages: usize) -> Result<(), Fault<'a>> {
     if messages > 0 {
         return Ok(());
@@ -54,7 +54,7 @@ pub fn flush_name<'a>(rt: &HostRuntime, base: &'a str, messages: usize) -> Resul
     flush_path(rt.alloc(), rt, name).map_err(|fault| output_fault(fault, base))
 }
 
-/// What the base folder with this path holds, of its messages those from this number on. Nothing of it is changed.
+/// A snapshot of the base folder with this path, with its messages from this number on. It changes nothing.
 pub fn look_into<'a>(
     rt: &HostRuntime,
     base: &'a str,
@@ -68,7 +68,7 @@ pub fn look_into<'a>(
     ))
 }
 
-/// The bytes of a base file, or of the base file of the same messages where the base is a folder.
+/// The bytes of a base file, or for a base folder those of a base file with the same messages.
 pub fn base_bytes<'a>(rt: &HostRuntime, base: &'a str) -> Result<Vec<u8>, Fault<'a>> {
     if !is_folder(rt, base) {
         return read_file(rt, base, usize::MAX);
@@ -76,7 +76,7 @@ pub fn base_bytes<'a>(rt: &HostRuntime, base: &'a str) -> Result<Vec<u8>, Fault<
     Ok(look_into(rt, base, 0)?.as_file::<SipDigest>(rt.alloc())?)
 }
 
-/// Whether nothing was ever committed in the folder, and it has no other files than those of a base folder.
+/// Whether nothing was ever committed in the folder, and all its files can belong to a base folder.
 pub fn is_empty<'a>(rt: &HostRuntime, base: &'a str) -> Result<bool, Fault<'a>> {
     let strange = is_strange(rt, base)?;
     let path = folder_path(rt, base)?;
@@ -88,7 +88,7 @@ pub fn is_empty<'a>(rt: &HostRuntime, base: &'a str) -> Result<bool, Fault<'a>> 
     }
 }
 
-/// A key for digests, as two halves. A seed that cannot be had is a failed read.
+/// A key for digests, as two halves. If the system gives no seed, that is a failed read.
 pub fn drawn_key<'a>(rt: &HostRuntime) -> Result<(u64, u64), Fault<'a>> {
     let state = RandomState::new(rt).map_err(|_| Fault::Base(BaseFault::Read))?;
     Ok((half_of(&state, 1), half_of(&state, 2)))
@@ -101,7 +101,7 @@ fn half_of(state: &RandomState, number: u8) -> u64 {
     hasher.finish()
 }
 
-/// Whether the folder has other files than those of a base folder.
+/// Whether the folder has a file that cannot belong to a base folder.
 pub fn is_strange<'a>(rt: &HostRuntime, base: &'a str) -> Result<bool, Fault<'a>> {
     let names = fs::read_dir(rt, base).map_err(|error| folder_fault(&error, base))?;
     for entry in names {
@@ -111,7 +111,7 @@ pub fn is_strange<'a>(rt: &HostRuntime, base: &'a str) -> Result<bool, Fault<'a>
                     return Ok(true);
                 }
             }
-            // A name that is no text is none of a base folder.
+            // A name that is no text cannot belong to a base folder.
             Err(error) if error.kind() == io::ErrorKind::InvalidFilename => return Ok(true),
             Err(error) => return Err(folder_fault(&error, base)),
         }
@@ -119,7 +119,7 @@ pub fn is_strange<'a>(rt: &HostRuntime, base: &'a str) -> Result<bool, Fault<'a>
     Ok(false)
 }
 
-// Whether a file of a base folder has the name.
+// Whether a file of a base folder can have the name.
 fn is_own(name: &str) -> bool {
     match name.rsplit_once('.') {
         Some(("messages" | "keys", digit)) => digit.len() == 1

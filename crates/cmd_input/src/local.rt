@@ -6,16 +6,16 @@ use jiff_tz::{SystemTimeZone, TimeZoneDatabase, Tzif};
 use std::env;
 use std::io::ErrorKind;
 
-/// What a fault calls the time zone.
+/// How a fault names the time zone.
 const ZONE: &str = "time zone";
 
-/// The folder of the files of time zones.
+/// The folder with the files of time zones.
 const ZONES: &str = "/usr/share/zoneinfo";
 
-/// How many bytes such a file may have.
+/// The most bytes of such a file.
 const MAX_ZONE: usize = 1_048_576;
 
-/// How many seconds a clock in the time zone of the system is ahead of UTC, so many seconds after 1970 began.
+/// How many seconds the system's time zone was ahead of UTC this many seconds after 1970 began.
 pub(crate) fn seconds_ahead<'a>(rt: &HostRuntime, seconds: u64) -> Result<i32, Fault<'a>> {
     let nanoseconds = i128::from(seconds) * 1_000_000_000;
     let at = Timestamp::from_nanosecond(nanoseconds).map_err(|_| Fault::BadStamp)?;
@@ -27,7 +27,7 @@ pub(crate) fn seconds_ahead<'a>(rt: &HostRuntime, seconds: u64) -> Result<i32, F
     Ok(offset.seconds)
 }
 
-// The offset of a zone. A name without a file beside it is that of a file in the folder.
+// The offset of a time zone. A name without a file is that of a file in the folder.
 fn offset_in<'a>(
     rt: &HostRuntime,
     zone: &SystemTimeZone,
@@ -43,7 +43,7 @@ fn offset_in<'a>(
     }
 }
 
-// The offset of the zone with this name.
+// The offset of the time zone with this name.
 fn offset_named<'a>(rt: &HostRuntime, name: &str, at: Timestamp) -> Result<Offset, Fault<'a>> {
     let path = format!(in rt.alloc(); "{ZONES}/{name}")?;
     let bytes = disk_system::read_file(rt.alloc(), rt, path.as_str(), MAX_ZONE).map_err(
@@ -55,7 +55,7 @@ fn offset_named<'a>(rt: &HostRuntime, name: &str, at: Timestamp) -> Result<Offse
     }
 }
 
-// Whether no zone was named, and the file of the system's is not there.
+// Whether no time zone is set, and the system has no file of one.
 fn is_none_set(rt: &HostRuntime, error: &Error) -> bool {
     matches!(error, Error::Io(ErrorKind::NotFound)) && env::var(rt, "TZ").is_err()
 }
