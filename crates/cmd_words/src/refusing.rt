@@ -1,3 +1,5 @@
+//! Reports why a command line was refused.
+
 use clap::Error;
 use clap::error::ErrorKind;
 
