@@ -23,12 +23,37 @@ pub fn run_convert<'a, W: Sink>(
 ) -> Result<Status, Fault<'a>> {
     let hasher = RandomState::new(rt).map_err(|_| Fault::Base(BaseFault::Read))?;
     let bytes = base_bytes(rt, from)?;
-    let base = Base::load(rt.alloc(), &mut bytes.as_slice(), hasher)?;
+    convert_bytes(rt, &bytes, hasher, to, out)
+}
+
+// Converts the base file that has these bytes.
+fn convert_bytes<'a, W: Sink>(
+    rt: &HostRuntime,
+    bytes: &[u8],
+    hasher: RandomState,
+    to: &'a str,
+    out: &mut W,
+) -> Result<Status, Fault<'a>> {
+    let mut bytes = bytes;
+    let base = Base::load(rt.alloc(), &mut bytes, hasher)?;
+    save(rt, &base, to)?;
+    print_converted(rt, &base, out)
+}
+
+// Makes the new base.
+fn save<'a>(rt: &HostRuntime, base: &Base<RandomState>, to: &'a str) -> Result<(), Fault<'a>> {
     if is_folder(rt, to) {
-        fill_empty(rt, &base, to)?;
+        fill_empty(rt, base, to)
     } else {
-        save_file(rt, &base, to)?;
+        save_file(rt, base, to)
     }
+}
+
+fn print_converted<'a, W: Sink>(
+    rt: &HostRuntime,
+    base: &Base<RandomState>,
+    out: &mut W,
+) -> Result<Status, Fault<'a>> {
     let (count, waiting) = (base.len(), base.len() - base.cursor());
     let line = format!(in rt.alloc(); "converted {count} messages, {waiting} waiting\n")?;
     print_rest(&mut line.into_bytes(), out)?;
@@ -42,13 +67,21 @@ fn fill_empty<'a>(
     to: &'a str,
 ) -> Result<(), Fault<'a>> {
     let locked = locked_folder(rt, to)?;
-    let filled = if is_empty(rt, to)? {
+    let filled = fill_if_empty(rt, base, to);
+    let _ = locked.unlock();
+    filled
+}
+
+fn fill_if_empty<'a>(
+    rt: &HostRuntime,
+    base: &Base<RandomState>,
+    to: &'a str,
+) -> Result<(), Fault<'a>> {
+    if is_empty(rt, to)? {
         fill_folder(rt, to, base)
     } else {
         Err(Fault::CannotUse(to))
-    };
-    let _ = locked.unlock();
-    filled
+    }
 }
 
 // Makes a base file at a path that nothing has.
@@ -56,10 +89,15 @@ fn save_file<'a>(rt: &HostRuntime, base: &Base<RandomState>, to: &'a str) -> Res
     let mut file = Watched::new(Vec::new(rt.alloc()));
     base.save(&mut file)?;
     let bytes = file.into_inner();
+    create_base(rt, &bytes, to)
+}
+
+// Makes the file with these bytes.
+fn create_base<'a>(rt: &HostRuntime, bytes: &[u8], to: &'a str) -> Result<(), Fault<'a>> {
     let new = NewFile {
         path: to,
         own: OWN,
-        bytes: &bytes,
+        bytes,
         known_by: BASE_START.len(),
     };
     create_file(rt.alloc(), rt, new).map_err(|fault| output_fault(fault, to))?;

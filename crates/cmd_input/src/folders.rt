@@ -6,6 +6,7 @@ use base_store::SipDigest;
 use cmd_status::Fault;
 use disk_system::{RealDisk, Unknown, flush_path};
 use std::collections::hash_map::RandomState;
+use std::fs::DirEntry;
 use std::hash::{BuildHasher, Hasher};
 use std::{fs, io};
 
@@ -73,13 +74,29 @@ pub fn base_bytes<'a>(rt: &HostRuntime, base: &'a str) -> Result<Vec<u8>, Fault<
     if !is_folder(rt, base) {
         return read_file(rt, base, usize::MAX);
     }
-    Ok(look_into(rt, base, 0)?.as_file::<SipDigest>(rt.alloc())?)
+    let snapshot = look_into(rt, base, 0)?;
+    snapshot_bytes(rt, &snapshot)
+}
+
+// The bytes of a base file with the messages of a base folder.
+fn snapshot_bytes<'a>(rt: &HostRuntime, snapshot: &FolderSnapshot) -> Result<Vec<u8>, Fault<'a>> {
+    Ok(snapshot.as_file::<SipDigest>(rt.alloc())?)
 }
 
 /// Whether nothing was ever committed in the folder, and all its files can belong to a base folder.
 pub fn is_empty<'a>(rt: &HostRuntime, base: &'a str) -> Result<bool, Fault<'a>> {
     let strange = is_strange(rt, base)?;
     let path = folder_path(rt, base)?;
+    is_empty_at(rt, base, path.as_str(), strange)
+}
+
+// The same. The files have `path` before their names.
+fn is_empty_at<'a>(
+    rt: &HostRuntime,
+    base: &'a str,
+    path: &str,
+    strange: bool,
+) -> Result<bool, Fault<'a>> {
     let mut disk = RealDisk::new(rt, Unknown);
     match log_end(rt.alloc(), &mut disk, path.as_bytes(), strange) {
         Ok(end) => Ok(end.gate == 0),
@@ -105,18 +122,20 @@ fn half_of(state: &RandomState, number: u8) -> u64 {
 pub fn is_strange<'a>(rt: &HostRuntime, base: &'a str) -> Result<bool, Fault<'a>> {
     let names = fs::read_dir(rt, base).map_err(|error| folder_fault(&error, base))?;
     for entry in names {
-        match entry {
-            Ok(entry) => {
-                if !is_own(entry.file_name()) {
-                    return Ok(true);
-                }
-            }
-            // A name that is no text cannot belong to a base folder.
-            Err(error) if error.kind() == io::ErrorKind::InvalidFilename => return Ok(true),
-            Err(error) => return Err(folder_fault(&error, base)),
+        if is_strange_entry(entry, base)? {
+            return Ok(true);
         }
     }
     Ok(false)
+}
+
+// Whether the entry of a folder cannot belong to a base folder. A name that is no text cannot.
+fn is_strange_entry<'a>(entry: io::Result<DirEntry>, base: &'a str) -> Result<bool, Fault<'a>> {
+    match entry {
+        Ok(entry) => Ok(!is_own(entry.file_name())),
+        Err(error) if error.kind() == io::ErrorKind::InvalidFilename => Ok(true),
+        Err(error) => Err(folder_fault(&error, base)),
+    }
 }
 
 // Whether a file of a base folder can have the name.

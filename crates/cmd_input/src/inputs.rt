@@ -74,17 +74,22 @@ pub fn read_links<'a>(
     links: &'a PathNames<'a>,
 ) -> (Vec<Items<u8>>, Option<Fault<'a>>) {
     let mut files = Vec::new(rt.alloc());
-    for name in &links.names {
-        match read_link_file(rt, name) {
-            Ok(bytes) => {
-                if files.push(Items::new(bytes)).is_err() {
-                    return (files, Some(Fault::OutOfMemory));
-                }
-            }
-            Err(fault) => return (files, Some(fault)),
-        }
+    match push_links(rt, links, &mut files) {
+        Ok(()) => (files, links.stopped),
+        Err(fault) => (files, Some(fault)),
     }
-    (files, links.stopped)
+}
+
+// Adds the bytes of each link file.
+fn push_links<'a>(
+    rt: &HostRuntime,
+    links: &'a PathNames<'a>,
+    files: &mut Vec<Items<u8>>,
+) -> Result<(), Fault<'a>> {
+    for name in &links.names {
+        files.push(Items::new(read_link_file(rt, name)?))?;
+    }
+    Ok(())
 }
 
 /// The bytes of the link file with this name.

@@ -26,8 +26,8 @@ pub use inputs::{
     MAX_INPUT, MAX_TEXT_FILE, input_fault, output_fault, read_file, read_given, read_if_given,
     read_link_file, read_links, read_script, read_standard_input,
 };
-pub use locks::{BaseLock, LinkLock, folder_fault, lock_file, locked_folder};
+pub use locks::{BaseLock, LinkLock, folder_fault, lead_to_one, lock_file, locked_folder};
 pub use moment::{shown_at, stamp_at};
 pub use packets::{PacketInput, PacketPaths, Tossing};
-pub use paths::{PathName, PathNames, folder_of, folder_path, names_of};
+pub use paths::{PathName, PathNames, folder_of, folder_path, names_of, text_path};
 pub use progress::{Cleared, Messages, Progress};

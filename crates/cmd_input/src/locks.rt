@@ -3,7 +3,7 @@ ghost use Rattle.std.specs.Prelude.{◌≡◌, ◌≤◌, None};
 ghost use Rattle.disk_io.specs.Device.{Failed};
 ghost use Rattle.disk_io.specs.declared.disk_error.DiskError.TheVariants.{Device};
 
-use crate::paths::folder_of;
+use crate::paths::{folder_of, text_path};
 use cmd_status::{Fault, print_rest};
 use disk_io::{DiskError, Watched};
 use echo_addr::Items;
@@ -13,7 +13,7 @@ use std::alloc::AllocError;
 use std::fs::{File, Metadata, TryLockError};
 use std::io::{ErrorKind, IsTerminal};
 use std::os::unix::fs::MetadataExt;
-use std::{fs, io, str};
+use std::{fs, io};
 
 /// How often a file is locked that lost its path before, until that is a fault.
 const MOST_TRIES: u32 = 1_000;
@@ -46,12 +46,10 @@ impl<'r> LinkLock<'r> {
         ensures path { self.new.path ≡ self.old.path }
         ensures failures { self.new.failures ≡ self.old.failures }
     {
-        if let Some(file) = self.file.take() {
-            if let Ok(true) = has_path(self.rt, &file, path) {
-                return Ok(file);
-            }
+        match if_at(self.rt, self.file.take(), path) {
+            Some(file) => Ok(file),
+            None => locked_at(self.rt, path),
         }
-        locked_at(self.rt, path)
     }
 }
 
@@ -62,7 +60,7 @@ impl FileLock for LinkLock<'_> {
 
     fn lock(&mut self, path: &[u8]) -> Result<(), DiskError> {
         let kept = Items::new(Vec::from_slice(self.rt.alloc(), path)?);
-        match self.locked(text_of(path)) {
+        match self.locked(text_path(path)) {
             Ok(file) => {
                 self.file = Some(file);
                 self.path = Some(kept);
@@ -109,7 +107,7 @@ impl FileLock for BaseLock<'_> {
 
     fn lock(&mut self, path: &[u8]) -> Result<(), DiskError> {
         let kept = Items::new(Vec::from_slice(self.rt.alloc(), path)?);
-        match locked_base(self.rt, self.links, text_of(path)) {
+        match locked_base(self.rt, self.links, text_path(path)) {
             Ok(file) => {
                 self.file = file;
                 self.path = Some(kept);
@@ -118,11 +116,6 @@ impl FileLock for BaseLock<'_> {
             Err(error) => Err(counted(&mut self.failures, &error)),
         }
     }
-}
-
-// A path as text. Nothing has the empty path.
-fn text_of(path: &[u8]) -> &str {
-    str::from_utf8(path).unwrap_or("")
 }
 
 // The error for a disk. A failure of the device is counted.
@@ -143,12 +136,26 @@ fn counted(failures: &mut u64, error: &io::Error) -> DiskError
 fn locked_at(rt: &HostRuntime, path: &str) -> io::Result<File> {
     'tries: for _ in 0..MOST_TRIES {
         let file = fs::open(rt, path)?;
-        lock_file(rt, &file, path)?;
-        if has_path(rt, &file, path)? {
+        if lock_at_path(rt, &file, path)? {
             return Ok(file);
         }
     }
     Err(ErrorKind::Other.into())
+}
+
+// Locks an open file. Answers whether it still has the path.
+fn lock_at_path(rt: &HostRuntime, file: &File, path: &str) -> io::Result<bool> {
+    lock_file(rt, file, path)?;
+    has_path(rt, file, path)
+}
+
+// The file, if it has this path.
+fn if_at(rt: &HostRuntime, file: Option<File>, path: &str) -> Option<File> {
+    let file = file?;
+    match has_path(rt, &file, path) {
+        Ok(true) => Some(file),
+        _ => None,
+    }
 }
 
 // Whether the path leads to this open file.
@@ -158,6 +165,22 @@ fn has_path(rt: &HostRuntime, file: &File, path: &str) -> io::Result<bool> {
 
 fn are_same(one: &Metadata, other: &Metadata) -> bool {
     (one.dev(), one.ino()) == (other.dev(), other.ino())
+}
+
+/// Whether both paths lead to one file or folder.
+pub fn lead_to_one(rt: &HostRuntime, one: &str, other: &str) -> bool {
+    match fs::metadata(rt, one) {
+        Ok(found) => leads_to(rt, other, &found),
+        Err(_) => false,
+    }
+}
+
+// Whether the path leads to this file or folder.
+fn leads_to(rt: &HostRuntime, path: &str, found: &Metadata) -> bool {
+    match fs::metadata(rt, path) {
+        Ok(other) => are_same(found, &other),
+        Err(_) => false,
+    }
 }
 
 // The open and locked base with this path, if it has its own lock. If there is no base, it is the folder, so that
@@ -189,15 +212,16 @@ fn unless_missing(found: io::Result<File>) -> io::Result<Option<File>> {
 // its writer.
 fn locked_if_own(rt: &HostRuntime, links: &str, path: &str) -> io::Result<Option<File>> {
     let found = fs::metadata(rt, path)?;
-    let is_lockable = found.is_file() || found.is_dir();
-    let is_links = match fs::metadata(rt, links) {
-        Ok(links) => are_same(&found, &links),
-        Err(_) => false,
-    };
-    if !is_lockable || is_links {
-        return Ok(None);
+    if has_own_lock(rt, links, &found) {
+        Ok(Some(locked_at(rt, path)?))
+    } else {
+        Ok(None)
     }
-    Ok(Some(locked_at(rt, path)?))
+}
+
+// Whether a base is a file or a folder, and not the link file.
+fn has_own_lock(rt: &HostRuntime, links: &str, base: &Metadata) -> bool {
+    (base.is_file() || base.is_dir()) && !leads_to(rt, links, base)
 }
 
 /// Takes the lock of an open file with this path, once no other run holds it. A wait is reported on standard error, if
@@ -240,8 +264,14 @@ fn tell_waiting(rt: &HostRuntime, path: &str) {
 
 // That line.
 fn waiting_line(rt: &HostRuntime, path: &str) -> Result<Vec<u8>, AllocError> {
-    let mut line = Vec::from_slice(rt.alloc(), b"echonet: waiting for the lock of ")?;
-    push_word(&mut line, path.as_bytes())?;
-    line.push(b'\n')?;
+    let mut line = Vec::new(rt.alloc());
+    push_waiting(&mut line, path)?;
     Ok(line)
+}
+
+fn push_waiting(line: &mut Vec<u8>, path: &str) -> Result<(), AllocError> {
+    line.extend_from_slice(b"echonet: waiting for the lock of ")?;
+    push_word(line, path.as_bytes())?;
+    line.push(b'\n')?;
+    Ok(())
 }

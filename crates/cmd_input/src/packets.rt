@@ -51,21 +51,30 @@ impl<'r> PacketFiles<'r> for PacketPaths<'r> {
     }
 }
 
-// A reader of the packet file with this name, which must be a regular file.
+// A reader of the packet file with this name.
 fn packet_reader<'r>(
     packets: &PacketPaths<'r>,
     name: &'r PathName,
 ) -> Result<Buffered<Watched<PacketInput<'r>>>, Fault<'r>> {
-    let path = name.path()?;
-    let file = open_regular(packets.rt, path).map_err(|fault| input_fault(fault, path))?;
-    let input = PacketInput {
-        file,
-        read: 0,
-        number: packets.packets.saturating_sub(packets.names.len()),
-        packets: packets.packets,
-        progress: packets.progress,
-    };
+    let input = packet_input(packets, name.path()?)?;
     Ok(Buffered::new(packets.rt.alloc(), Watched::new(input), BUFFER)?)
+}
+
+// The packet file with this path, which must be a regular file.
+fn packet_input<'r>(
+    packets: &PacketPaths<'r>,
+    path: &'r str,
+) -> Result<PacketInput<'r>, Fault<'r>> {
+    match open_regular(packets.rt, path) {
+        Ok(file) => Ok(PacketInput {
+            file,
+            read: 0,
+            number: packets.packets.saturating_sub(packets.names.len()),
+            packets: packets.packets,
+            progress: packets.progress,
+        }),
+        Err(fault) => Err(input_fault(fault, path)),
+    }
 }
 
 /// A packet file that reports how much of it was read.

@@ -93,29 +93,30 @@ impl<'r> Progress<'r> {
     // Prints a line, if there was memory for it.
     fn tell_line(&self, line: Result<String, AllocError>) {
         if let Ok(line) = line {
-            let _ = self.write_over(line.as_str());
+            self.write_over(line.as_str());
         }
     }
 
     /// Erases the line.
     pub fn clear(&self) {
         if self.shown.get() > 0 {
-            let _ = self.write_over("");
+            self.write_over("");
         }
     }
 
     // Writes a line over the present one, and goes back to its beginning.
-    fn write_over(&self, line: &str) -> Result<(), AllocError> {
-        let mut bytes = Vec::from_slice(self.rt.alloc(), b"\r")?;
-        push_over(&mut bytes, line, self.shown.get())?;
-        self.shown.set(line.len());
-        let _ = print_rest(&mut bytes, &mut Watched::new(self.rt.stderr()));
-        Ok(())
+    fn write_over(&self, line: &str) {
+        let mut bytes = Vec::new(self.rt.alloc());
+        if push_over(&mut bytes, line, self.shown.get()).is_ok() {
+            self.shown.set(line.len());
+            let _ = print_rest(&mut bytes, &mut Watched::new(self.rt.stderr()));
+        }
     }
 }
 
 // Adds a line with spaces up to the end of the previous one, which had this many bytes.
 fn push_over(bytes: &mut Vec<u8>, line: &str, shown: usize) -> Result<(), AllocError> {
+    bytes.push(b'\r')?;
     bytes.extend_from_slice(line.as_bytes())?;
     let width = bytes.len().max(shown.saturating_add(1));
     bytes.resize(width, b' ')?;
