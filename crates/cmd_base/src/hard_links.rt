@@ -47,7 +47,7 @@ fn has_hard_links<'a>(rt: &HostRuntime, base: &'a str) -> Result<bool, Fault<'a>
                     return Ok(true);
                 }
             }
-            // A name that is no text is none of a base folder.
+            // A name that is no text cannot belong to a base folder.
             Err(_) => {}
         }
     }
@@ -61,7 +61,7 @@ fn is_linked_entry(entry: &DirEntry) -> bool {
     }
 }
 
-// A number whose files do not count.
+// A number of files that do not count.
 fn spare_number(used: u8) -> u8
     ensures digit { result < 10 }
     ensures other { result ≢ used }

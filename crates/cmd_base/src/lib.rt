@@ -1,12 +1,10 @@
-//! How commands that change a base open it: a base file, or a base folder.
+//! The base of a station, a file or a folder, for the commands that change it. Promise: the listed packets of earlier scans
+//! are noted unchanged (`copies_of`). All else is proved to be safe and to end, and no more. Begin with
+//! `base_files`, the files of the system on which a base file is replaced.
 //!
-//! They are proved to be safe and to end, and no more, with one exception: a copy of the packets that earlier scans
-//! left is equal to the original (`copies_of`).
-//!
-//! Modules in reading order, for a base file: `base_files` (it is replaced), `scan_files` (the same, and the packets
-//! of a scan) and `left_files` (the packets that earlier scans left). For a base folder: `hard_links` (snapshots that
-//! share its files), `found` (its state before it is opened), `opened` (work on the open folder) and `expecting` (the
-//! keys of the messages that `toss` will read).
+//! `scan_files` adds the packets of a scan, `left_files` lists those of earlier scans. For a base folder, `hard_links`
+//! keeps snapshots unchanged, `found` is its state before it is opened, and `opened` is work on the open folder.
+//! `expecting` has the keys of the messages that `toss` will read.
 #![tactic(auto)]
 
 mod base_files;

@@ -15,7 +15,7 @@ use std::rt::Files;
 /// The end of a packet's path.
 const PACKET: &str = ".pkt";
 
-/// The files of the system, for a scan of this base file into this folder, whose path ends in a slash.
+/// The files of the system, for a scan of this base file into this folder. The folder's path ends in a slash.
 #[derive(Drop)]
 pub struct ScanFiles<'p, 'r> {
     rt: &'r HostRuntime,
@@ -75,7 +75,7 @@ impl<'p, 'r> ScanFiles<'p, 'r> {
         self.taken.take()
     }
 
-    // The path of the packet there, or in that staging file.
+    // The path of the packet, if it is a packet's path or that of its staging file.
     fn packet_at<'q>(&self, path: &'q str) -> Option<&'q str> {
         let packet = target_staging(path).unwrap_or(path);
         let name = packet.strip_prefix(self.folder)?;
@@ -85,7 +85,7 @@ impl<'p, 'r> ScanFiles<'p, 'r> {
         Some(packet)
     }
 
-    // Keeps a path, if none is kept and memory suffices.
+    // Keeps the first path, if memory suffices.
     fn keep(&self, cell: &Cell<Option<String>>, path: &str) {
         let kept = match cell.take() {
             Some(kept) => Some(kept),

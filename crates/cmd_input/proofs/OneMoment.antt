@@ -1,4 +1,4 @@
--- A moment has one stamp.
+-- A second has one stamp.
 use Rattle.std.proofs.Common.{◌≡◌, ℕ, ◌/◌, ◌%◌, ◌∙◌, sym, subst, arith, pos}
 use Rattle.model_steps.specs.declared.stamp.Stamp.{Stamp}
 use Rattle.jiff_core.specs.declared.civil.date.Date.{Date}
@@ -7,7 +7,7 @@ use Rattle.jiff_core.specs.Date.{epoch_day}
 use Rattle.jiff_core.proofs.DateLemmas.{epoch_day_injective, epoch_day_range}
 use Rattle.cmd_input.specs.Moment.{IsMomentAt}
 
--- the date of a stamp
+-- the date of a stamp.
 abbrev pub date_of : (seconds : ℕ) (s : Stamp) → IsMomentAt seconds s → Date
 date_of seconds s at = record {
   year = pos s.year;
@@ -18,16 +18,16 @@ date_of seconds s at = record {
   day_in = at.date.2;
 }
 
--- the library has the day of a moment that has a stamp
+-- the library has the day of a second with a stamp
 pub day_fits : (seconds : ℕ) (s : Stamp) → IsMomentAt seconds s → IsEpochDay (pos (seconds / 86400))
 day_fits seconds s at = subst IsEpochDay at.days (epoch_day_range (date_of seconds s at))
 
--- a date with this day number is that of the stamp
+-- a date with this day number is that of the stamp.
 pub same_date : (seconds : ℕ) (s : Stamp) → IsMomentAt seconds s → (d : Date) → epoch_day d ≡ pos (seconds / 86400)
     → (d.year ≡ pos s.year) × (d.month ≡ s.month) × (d.day ≡ s.day)
 same_date seconds s at d is = epoch_day_injective d (date_of seconds s at) (is ∙ sym at.days)
 
--- and so is the time
+-- the time of this second is that of the stamp.
 pub same_time : (seconds : ℕ) (s : Stamp) → IsMomentAt seconds s
     → (seconds % 86400 / 3600 ≡ s.hour) × (seconds % 86400 / 60 % 60 ≡ s.minute) × (seconds % 86400 % 60 ≡ s.second)
 same_time seconds s at =

@@ -1,4 +1,4 @@
-//! The clock, for words that leave the moment or the serial to it.
+//! The clock, for words that leave the stamp or the serial to it.
 
 use crate::local::seconds_ahead;
 use crate::moment::{shown_at, stamp_at};
@@ -6,13 +6,14 @@ use cmd_status::{Fault, serial_of, stamp_of};
 use model_steps::Stamp;
 use std::time::{SystemTime, UNIX_EPOCH};
 
-/// What a fault calls the clock.
+/// How a fault names the clock.
 const CLOCK: &str = "clock";
 
-/// How many serials there are.
+/// The number of serials.
 const SERIALS: u64 = 1 << 32;
 
-/// The moment that the word names: that of the clock, where it is `now` (UTC) or `local` (in the time zone of the system).
+/// The stamp that the word names. For `now` it is that of the clock (UTC), for `local` that of the clock in the
+/// system's time zone.
 pub fn moment_of<'a>(rt: &HostRuntime, word: &str) -> Result<Stamp, Fault<'a>> {
     let stamp = match word {
         "now" => stamp_at(seconds(rt)?),
@@ -28,8 +29,8 @@ pub fn moment_of<'a>(rt: &HostRuntime, word: &str) -> Result<Stamp, Fault<'a>> {
     }
 }
 
-/// The serial that the word names, and whether the first free one from it on is meant: where the word is
-/// `auto`, from the seconds since 1970 began.
+/// The serial that the word names, and whether the first free serial from it on is meant. `auto` means the latter,
+/// from the seconds since 1970 on.
 pub fn serial_from<'a>(rt: &HostRuntime, word: &str) -> Result<(u32, bool), Fault<'a>> {
     if word != "auto" {
         return Ok((serial_of(word)?, false));
@@ -38,12 +39,12 @@ pub fn serial_from<'a>(rt: &HostRuntime, word: &str) -> Result<(u32, bool), Faul
     Ok((serial as u32, true))
 }
 
-/// The seconds since 1970 began as a number of four bytes, as files of the field have them.
+/// The seconds since 1970 as a number of four bytes.
 pub fn created_now<'a>(rt: &HostRuntime) -> Result<u32, Fault<'a>> {
     Ok((seconds(rt)? % SERIALS) as u32)
 }
 
-// The seconds since 1970 began, as the clock has them.
+// The seconds since 1970 by the clock.
 fn seconds<'a>(rt: &HostRuntime) -> Result<u64, Fault<'a>> {
     let now = SystemTime::now(rt).map_err(|_| Fault::CannotUse(CLOCK))?;
     match now.duration_since(UNIX_EPOCH) {

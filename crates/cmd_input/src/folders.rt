@@ -6,6 +6,7 @@ use base_store::SipDigest;
 use cmd_status::Fault;
 use disk_system::{RealDisk, Unknown, flush_path};
 use std::collections::hash_map::RandomState;
+use std::fs::DirEntry;
 use std::hash::{BuildHasher, Hasher};
 use std::{fs, io};
 
@@ -17,7 +18,7 @@ pub fn is_folder(rt: &HostRuntime, path: &str) -> bool {
     }
 }
 
-/// Fills the base folder with this path, which is empty, with the messages of a base.
+/// Fills the empty base folder with this path with the messages of a base.
 pub fn fill_folder<'a>(
     rt: &HostRuntime,
     to: &'a str,
@@ -29,7 +30,7 @@ pub fn fill_folder<'a>(
     fill_at(rt, to, path.as_str(), strange, base)
 }
 
-// Fills it at the path that its files have before their names.
+// Fills it. Its files have `path` before their names.
 fn fill_at<'a>(
     rt: &HostRuntime,
     to: &'a str,
@@ -45,7 +46,7 @@ fn fill_at<'a>(
     }
 }
 
-/// Flushes the folder in which a base folder of so many messages stands: one without any may have been made just now.
+/// Syncs the name of a base folder with this many messages, if it has none: then it may be new.
 pub fn flush_name<'a>(rt: &HostRuntime, base: &'a str, messages: usize) -> Result<(), Fault<'a>> {
     if messages > 0 {
         return Ok(());
@@ -54,7 +55,7 @@ pub fn flush_name<'a>(rt: &HostRuntime, base: &'a str, messages: usize) -> Resul
     flush_path(rt.alloc(), rt, name).map_err(|fault| output_fault(fault, base))
 }
 
-/// What the base folder with this path holds, of its messages those from this number on. Nothing of it is changed.
+/// A snapshot of the base folder with this path, with its messages from this number on. It changes nothing.
 pub fn look_into<'a>(
     rt: &HostRuntime,
     base: &'a str,
@@ -68,18 +69,34 @@ pub fn look_into<'a>(
     ))
 }
 
-/// The bytes of a base file, or of the base file of the same messages where the base is a folder.
+/// The bytes of a base file, or for a base folder those of a base file with the same messages.
 pub fn base_bytes<'a>(rt: &HostRuntime, base: &'a str) -> Result<Vec<u8>, Fault<'a>> {
     if !is_folder(rt, base) {
         return read_file(rt, base, usize::MAX);
     }
-    Ok(look_into(rt, base, 0)?.as_file::<SipDigest>(rt.alloc())?)
+    let snapshot = look_into(rt, base, 0)?;
+    snapshot_bytes(rt, &snapshot)
 }
 
-/// Whether nothing was ever committed in the folder, and it has no other files than those of a base folder.
+// The bytes of a base file with the messages of a base folder.
+fn snapshot_bytes<'a>(rt: &HostRuntime, snapshot: &FolderSnapshot) -> Result<Vec<u8>, Fault<'a>> {
+    Ok(snapshot.as_file::<SipDigest>(rt.alloc())?)
+}
+
+/// Whether nothing was ever committed in the folder, and all its files can belong to a base folder.
 pub fn is_empty<'a>(rt: &HostRuntime, base: &'a str) -> Result<bool, Fault<'a>> {
     let strange = is_strange(rt, base)?;
     let path = folder_path(rt, base)?;
+    is_empty_at(rt, base, path.as_str(), strange)
+}
+
+// The same. The files have `path` before their names.
+fn is_empty_at<'a>(
+    rt: &HostRuntime,
+    base: &'a str,
+    path: &str,
+    strange: bool,
+) -> Result<bool, Fault<'a>> {
     let mut disk = RealDisk::new(rt, Unknown);
     match log_end(rt.alloc(), &mut disk, path.as_bytes(), strange) {
         Ok(end) => Ok(end.gate == 0),
@@ -88,7 +105,7 @@ pub fn is_empty<'a>(rt: &HostRuntime, base: &'a str) -> Result<bool, Fault<'a>> 
     }
 }
 
-/// A key for digests, as two halves. A seed that cannot be had is a failed read.
+/// A key for digests, as two halves. If the system gives no seed, that is a failed read.
 pub fn drawn_key<'a>(rt: &HostRuntime) -> Result<(u64, u64), Fault<'a>> {
     let state = RandomState::new(rt).map_err(|_| Fault::Base(BaseFault::Read))?;
     Ok((half_of(&state, 1), half_of(&state, 2)))
@@ -101,25 +118,27 @@ fn half_of(state: &RandomState, number: u8) -> u64 {
     hasher.finish()
 }
 
-/// Whether the folder has other files than those of a base folder.
+/// Whether the folder has a file that cannot belong to a base folder.
 pub fn is_strange<'a>(rt: &HostRuntime, base: &'a str) -> Result<bool, Fault<'a>> {
     let names = fs::read_dir(rt, base).map_err(|error| folder_fault(&error, base))?;
     for entry in names {
-        match entry {
-            Ok(entry) => {
-                if !is_own(entry.file_name()) {
-                    return Ok(true);
-                }
-            }
-            // A name that is no text is none of a base folder.
-            Err(error) if error.kind() == io::ErrorKind::InvalidFilename => return Ok(true),
-            Err(error) => return Err(folder_fault(&error, base)),
+        if is_strange_entry(entry, base)? {
+            return Ok(true);
         }
     }
     Ok(false)
 }
 
-// Whether a file of a base folder has the name.
+// Whether the entry of a folder cannot belong to a base folder. A name that is no text cannot.
+fn is_strange_entry<'a>(entry: io::Result<DirEntry>, base: &'a str) -> Result<bool, Fault<'a>> {
+    match entry {
+        Ok(entry) => Ok(!is_own(entry.file_name())),
+        Err(error) if error.kind() == io::ErrorKind::InvalidFilename => Ok(true),
+        Err(error) => Err(folder_fault(&error, base)),
+    }
+}
+
+// Whether a file of a base folder can have the name.
 fn is_own(name: &str) -> bool {
     match name.rsplit_once('.') {
         Some(("messages" | "keys", digit)) => digit.len() == 1

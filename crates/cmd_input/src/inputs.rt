@@ -1,4 +1,4 @@
-//! The files that the command line names, and standard input.
+//! The bytes of files and of standard input.
 
 use crate::paths::{PathName, PathNames};
 use cmd_status::Fault;
@@ -6,10 +6,10 @@ use disk_io::Watched;
 use disk_system::{InputFault, OutputFault, read_whole};
 use echo_addr::Items;
 
-/// How many bytes a packet given to `show`, or a nodelist, may have.
+/// The most bytes of a nodelist, and of a packet given to `show`.
 pub const MAX_INPUT: usize = 67_108_864;
 
-/// How many bytes a link file, a script or a posted body may have.
+/// The most bytes of a link file, a script or a posted body.
 pub const MAX_TEXT_FILE: usize = 1_048_576;
 
 /// Why the file with this path was not read.
@@ -34,7 +34,7 @@ pub fn read_file<'a>(rt: &HostRuntime, path: &'a str, most: usize) -> Result<Vec
     disk_system::read_file(rt.alloc(), rt, path, most).map_err(|fault| input_fault(fault, path))
 }
 
-/// The bytes of a file, where one is given.
+/// The bytes of a file, if one is given.
 pub fn read_if_given<'a>(
     rt: &HostRuntime,
     path: Option<&'a str>,
@@ -46,7 +46,7 @@ pub fn read_if_given<'a>(
     }
 }
 
-/// The bytes of a file, or of standard input where the path is `-`.
+/// The bytes of a file, or of standard input if the path is `-`.
 pub fn read_given<'a>(rt: &HostRuntime, path: &'a str, most: usize) -> Result<Vec<u8>, Fault<'a>> {
     if path == "-" {
         read_standard_input(rt, most)
@@ -67,24 +67,29 @@ pub fn read_script<'a>(rt: &HostRuntime, path: &'a str) -> Result<Vec<u8>, Fault
     read_file(rt, path, MAX_TEXT_FILE)
 }
 
-/// The bytes of link files one after another, and the fault of the first that cannot be read, or why the
-/// list of them was not read.
+/// The bytes of link files in order, up to the first that cannot be read. The fault is that of this file, or the
+/// reason why the list of link files was not read.
 pub fn read_links<'a>(
     rt: &HostRuntime,
     links: &'a PathNames<'a>,
 ) -> (Vec<Items<u8>>, Option<Fault<'a>>) {
     let mut files = Vec::new(rt.alloc());
-    for name in &links.names {
-        match read_link_file(rt, name) {
-            Ok(bytes) => {
-                if files.push(Items::new(bytes)).is_err() {
-                    return (files, Some(Fault::OutOfMemory));
-                }
-            }
-            Err(fault) => return (files, Some(fault)),
-        }
+    match push_links(rt, links, &mut files) {
+        Ok(()) => (files, links.stopped),
+        Err(fault) => (files, Some(fault)),
     }
-    (files, links.stopped)
+}
+
+// Adds the bytes of each link file.
+fn push_links<'a>(
+    rt: &HostRuntime,
+    links: &'a PathNames<'a>,
+    files: &mut Vec<Items<u8>>,
+) -> Result<(), Fault<'a>> {
+    for name in &links.names {
+        files.push(Items::new(read_link_file(rt, name)?))?;
+    }
+    Ok(())
 }
 
 /// The bytes of the link file with this name.

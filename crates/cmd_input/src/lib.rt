@@ -1,13 +1,11 @@
-//! The input of commands: the files that the command line names, standard input, the clock, locks and bases. It
-//! also shows on a terminal how far a command is. The command `convert` is here too.
+//! The input of commands: files, standard input, the clock, locks and bases. The progress line and the command
+//! `convert` are here too. Promise: the stamp of a second is the one that the calendar gives it, and there is none
+//! exactly if its year has more than four digits (`stamp_at`, `shown_at`). All else is proved to be safe and to end, and
+//! no more. Begin with `paths`, the names of files.
 //!
-//! The contract for the program: the stamp of a second is the one that the calendar has for it. There is none just where
-//! the year has more than four digits (`stamp_at`). A clock in another time zone shows that of a second so much later
-//! (`shown_at`). The rest is proved to be safe and to end, and no more.
-//!
-//! Modules in reading order: `paths` (the names of files), `inputs` (their bytes) and `packets` (the packet files of
-//! `toss`); `moment` (seconds as a stamp), `local` (the time zone) and `clock`; `locks`; `progress`; `folders` (base folders, and the bytes of any
-//! base) and `converting`.
+//! `inputs` reads files, `packets` the packet files of `toss`. `moment` turns seconds into a stamp, `local` finds the
+//! time zone, `clock` reads the clock. `locks` has the locks of a station, `progress` the progress line. `folders`
+//! reads and fills base folders, and `converting` is the command `convert`.
 #![tactic(auto)]
 
 mod clock;
@@ -28,8 +26,8 @@ pub use inputs::{
     MAX_INPUT, MAX_TEXT_FILE, input_fault, output_fault, read_file, read_given, read_if_given,
     read_link_file, read_links, read_script, read_standard_input,
 };
-pub use locks::{BaseLock, LinkLock, folder_fault, lock_file, locked_folder};
+pub use locks::{BaseLock, LinkLock, folder_fault, lead_to_one, lock_file, locked_folder};
 pub use moment::{shown_at, stamp_at};
 pub use packets::{PacketInput, PacketPaths, Tossing};
-pub use paths::{PathName, PathNames, folder_of, folder_path, names_of};
+pub use paths::{PathName, PathNames, folder_of, folder_path, names_of, text_path};
 pub use progress::{Cleared, Messages, Progress};

@@ -6,56 +6,87 @@ use jiff_tz::{SystemTimeZone, TimeZoneDatabase, Tzif};
 use std::env;
 use std::io::ErrorKind;
 
-/// What a fault calls the time zone.
+/// How a fault names the time zone.
 const ZONE: &str = "time zone";
 
-/// The folder of the files of time zones.
+/// The folder with the files of time zones.
 const ZONES: &str = "/usr/share/zoneinfo";
 
-/// How many bytes such a file may have.
+/// The most bytes of such a file.
 const MAX_ZONE: usize = 1_048_576;
 
-/// How many seconds a clock in the time zone of the system is ahead of UTC, so many seconds after 1970 began.
+/// How many seconds the system's time zone was ahead of UTC this many seconds after 1970 began.
 pub(crate) fn seconds_ahead<'a>(rt: &HostRuntime, seconds: u64) -> Result<i32, Fault<'a>> {
     let nanoseconds = i128::from(seconds) * 1_000_000_000;
-    let at = Timestamp::from_nanosecond(nanoseconds).map_err(|_| Fault::BadStamp)?;
-    let offset = match SystemTimeZone::read(rt) {
-        Ok(zone) => offset_in(rt, &zone, at)?,
-        Err(error) if is_none_set(rt, &error) => Offset::UTC,
-        Err(error) => return Err(zone_fault(&error)),
-    };
-    Ok(offset.seconds)
+    match Timestamp::from_nanosecond(nanoseconds) {
+        Ok(at) => Ok(offset_at(rt, at)?.seconds),
+        Err(_) => Err(Fault::BadStamp),
+    }
 }
 
-// The offset of a zone. A name without a file beside it is that of a file in the folder.
+// The offset of the system's time zone.
+fn offset_at<'a>(rt: &HostRuntime, at: Timestamp) -> Result<Offset, Fault<'a>> {
+    match SystemTimeZone::read(rt) {
+        Ok(zone) => offset_in(rt, &zone, at),
+        Err(error) => offset_unread(rt, &error),
+    }
+}
+
+// The offset where no time zone could be read: that of UTC, unless there is one.
+fn offset_unread<'a>(rt: &HostRuntime, error: &Error) -> Result<Offset, Fault<'a>> {
+    if is_none_set(rt, error) {
+        Ok(Offset::UTC)
+    } else {
+        Err(zone_fault(error))
+    }
+}
+
+// The offset of a time zone.
 fn offset_in<'a>(
     rt: &HostRuntime,
     zone: &SystemTimeZone,
     at: Timestamp,
 ) -> Result<Offset, Fault<'a>> {
     let known = TimeZoneDatabase::new(rt.alloc());
-    match (zone.time_zone(&known), zone) {
-        (Ok(found), _) => Ok(found.to_offset(at)),
-        (Err(Error::TimeZoneNotFound), SystemTimeZone::Name { name, .. }) => {
-            offset_named(rt, name.as_str(), at)
-        }
-        (Err(error), _) => Err(zone_fault(&error)),
+    match zone.time_zone(&known) {
+        Ok(found) => Ok(found.to_offset(at)),
+        Err(error) => offset_by_name(rt, zone, &error, at),
     }
 }
 
-// The offset of the zone with this name.
+// The offset of a time zone that has only a name. A name without a file is that of a file in the folder.
+fn offset_by_name<'a>(
+    rt: &HostRuntime,
+    zone: &SystemTimeZone,
+    error: &Error,
+    at: Timestamp,
+) -> Result<Offset, Fault<'a>> {
+    match (error, zone) {
+        (Error::TimeZoneNotFound, SystemTimeZone::Name { name, .. }) => {
+            offset_named(rt, name.as_str(), at)
+        }
+        _ => Err(zone_fault(error)),
+    }
+}
+
+// The offset of the time zone with this name.
 fn offset_named<'a>(rt: &HostRuntime, name: &str, at: Timestamp) -> Result<Offset, Fault<'a>> {
     let path = format!(in rt.alloc(); "{ZONES}/{name}")?;
-    let bytes = disk_system::read_file(rt.alloc(), rt, path.as_str(), MAX_ZONE).map_err(
-        |_| Fault::CannotUse(ZONE),
-    )?;
-    match Tzif::parse(rt.alloc(), None, &bytes) {
+    match disk_system::read_file(rt.alloc(), rt, path.as_str(), MAX_ZONE) {
+        Ok(bytes) => offset_of_table(rt, &bytes, at),
+        Err(_) => Err(Fault::CannotUse(ZONE)),
+    }
+}
+
+// The offset by the file of a time zone with these bytes.
+fn offset_of_table<'a>(rt: &HostRuntime, bytes: &[u8], at: Timestamp) -> Result<Offset, Fault<'a>> {
+    match Tzif::parse(rt.alloc(), None, bytes) {
         Ok(table) => Ok(table.to_offset(at)),
         Err(error) => Err(zone_fault(&error)),
     }
 }
 
-// Whether no zone was named, and the file of the system's is not there.
+// Whether no time zone is set, and the system has no file of one.
 fn is_none_set(rt: &HostRuntime, error: &Error) -> bool {
     matches!(error, Error::Io(ErrorKind::NotFound)) && env::var(rt, "TZ").is_err()
 }

@@ -1,9 +1,9 @@
-//! Locks of files and of folders, and the line that says that one is waited for.
+//! Locks of files and folders, and the line that says that this run waits for one.
 ghost use Rattle.std.specs.Prelude.{◌≡◌, ◌≤◌, None};
 ghost use Rattle.disk_io.specs.Device.{Failed};
 ghost use Rattle.disk_io.specs.declared.disk_error.DiskError.TheVariants.{Device};
 
-use crate::paths::folder_of;
+use crate::paths::{folder_of, text_path};
 use cmd_status::{Fault, print_rest};
 use disk_io::{DiskError, Watched};
 use echo_addr::Items;
@@ -13,12 +13,12 @@ use std::alloc::AllocError;
 use std::fs::{File, Metadata, TryLockError};
 use std::io::{ErrorKind, IsTerminal};
 use std::os::unix::fs::MetadataExt;
-use std::{fs, io, str};
+use std::{fs, io};
 
-/// How often a file is locked that has lost its name meanwhile, before that is a fault.
+/// How often a file is locked that lost its path before, until that is a fault.
 const MOST_TRIES: u32 = 1_000;
 
-/// The lock of a link file, which is held until this value goes.
+/// The lock of a link file. It is held until this value is dropped.
 #[derive(Drop)]
 pub struct LinkLock<'r> {
     rt: &'r HostRuntime,
@@ -28,8 +28,8 @@ pub struct LinkLock<'r> {
 }
 
 impl<'r> LinkLock<'r> {
-    /// No lock is asked for as yet. The file with this path is locked already, where it can be, so that others change nothing
-    /// of its station from now on.
+    /// The lock counts as not taken yet. But the file with this path is already locked, if possible, so that no other
+    /// run changes the station from now on.
     pub fn ahead(rt: &'r HostRuntime, path: &str) -> LinkLock<'r>
         ensures { result.path ≡ None }
     {
@@ -41,17 +41,15 @@ impl<'r> LinkLock<'r> {
         }
     }
 
-    // The file with this path, which is locked: that which is locked already, where it has the path still.
+    // The locked file with this path: the one that is already locked, if it still has the path.
     fn locked(&mut self, path: &str) -> io::Result<File>
         ensures path { self.new.path ≡ self.old.path }
         ensures failures { self.new.failures ≡ self.old.failures }
     {
-        if let Some(file) = self.file.take() {
-            if let Ok(true) = has_path(self.rt, &file, path) {
-                return Ok(file);
-            }
+        match if_at(self.rt, self.file.take(), path) {
+            Some(file) => Ok(file),
+            None => locked_at(self.rt, path),
         }
-        locked_at(self.rt, path)
     }
 }
 
@@ -62,7 +60,7 @@ impl FileLock for LinkLock<'_> {
 
     fn lock(&mut self, path: &[u8]) -> Result<(), DiskError> {
         let kept = Items::new(Vec::from_slice(self.rt.alloc(), path)?);
-        match self.locked(text_of(path)) {
+        match self.locked(text_path(path)) {
             Ok(file) => {
                 self.file = Some(file);
                 self.path = Some(kept);
@@ -73,11 +71,11 @@ impl FileLock for LinkLock<'_> {
     }
 }
 
-/// The lock of the base of a station, which is held until this value goes. Where no base is there yet it is that of the folder
-/// in which a base file is made. The lock of the link file stands for it where nothing is there that can be locked, or the
-/// link file itself is.
+/// The lock of the base of a station. It is held until this value is dropped. If there is no base yet, it is the lock
+/// of the folder in which a base file is made. If nothing there can be locked, or the base is the link file, the lock of
+/// the link file serves for both.
 ///
-/// Runs cannot wait for each other: each takes the lock of a link file first, then this one, and none behind it.
+/// Runs cannot wait for each other: each takes the lock of a link file first, then this one, and none after it.
 #[derive(Drop)]
 pub struct BaseLock<'r> {
     rt: &'r HostRuntime,
@@ -88,7 +86,7 @@ pub struct BaseLock<'r> {
 }
 
 impl<'r> BaseLock<'r> {
-    /// No lock is held as yet. The station has the link file with this path.
+    /// No lock is held yet. `links` is the path of the station's link file.
     pub fn new(rt: &'r HostRuntime, links: &'r str) -> BaseLock<'r>
         ensures { result.path ≡ None }
     {
@@ -109,7 +107,7 @@ impl FileLock for BaseLock<'_> {
 
     fn lock(&mut self, path: &[u8]) -> Result<(), DiskError> {
         let kept = Items::new(Vec::from_slice(self.rt.alloc(), path)?);
-        match locked_base(self.rt, self.links, text_of(path)) {
+        match locked_base(self.rt, self.links, text_path(path)) {
             Ok(file) => {
                 self.file = file;
                 self.path = Some(kept);
@@ -120,12 +118,7 @@ impl FileLock for BaseLock<'_> {
     }
 }
 
-// A path as text. Nothing is at the empty path.
-fn text_of(path: &[u8]) -> &str {
-    str::from_utf8(path).unwrap_or("")
-}
-
-// What the error is to a disk. Where the device failed that is counted.
+// The error for a disk. A failure of the device is counted.
 fn counted(failures: &mut u64, error: &io::Error) -> DiskError
     ensures later { failures.old ≤ failures.new }
     ensures failed { result ≡ Device → Failed failures.old failures.new }
@@ -139,16 +132,30 @@ fn counted(failures: &mut u64, error: &io::Error) -> DiskError
     }
 }
 
-// The file with this path, open and locked. Where another file got that path while this run waited, that one is locked.
+// The open and locked file with this path. If another file got the path while this run waited, that file is locked.
 fn locked_at(rt: &HostRuntime, path: &str) -> io::Result<File> {
     'tries: for _ in 0..MOST_TRIES {
         let file = fs::open(rt, path)?;
-        lock_file(rt, &file, path)?;
-        if has_path(rt, &file, path)? {
+        if lock_at_path(rt, &file, path)? {
             return Ok(file);
         }
     }
     Err(ErrorKind::Other.into())
+}
+
+// Locks an open file. Answers whether it still has the path.
+fn lock_at_path(rt: &HostRuntime, file: &File, path: &str) -> io::Result<bool> {
+    lock_file(rt, file, path)?;
+    has_path(rt, file, path)
+}
+
+// The file, if it has this path.
+fn if_at(rt: &HostRuntime, file: Option<File>, path: &str) -> Option<File> {
+    let file = file?;
+    match has_path(rt, &file, path) {
+        Ok(true) => Some(file),
+        _ => None,
+    }
 }
 
 // Whether the path leads to this open file.
@@ -160,8 +167,24 @@ fn are_same(one: &Metadata, other: &Metadata) -> bool {
     (one.dev(), one.ino()) == (other.dev(), other.ino())
 }
 
-// The base with this path, open and locked, where it has a lock of its own. Where no base is there its folder is, so that one
-// run alone makes it; a base that another run made before that was locked is locked itself.
+/// Whether both paths lead to one file or folder.
+pub fn lead_to_one(rt: &HostRuntime, one: &str, other: &str) -> bool {
+    match fs::metadata(rt, one) {
+        Ok(found) => leads_to(rt, other, &found),
+        Err(_) => false,
+    }
+}
+
+// Whether the path leads to this file or folder.
+fn leads_to(rt: &HostRuntime, path: &str, found: &Metadata) -> bool {
+    match fs::metadata(rt, path) {
+        Ok(other) => are_same(found, &other),
+        Err(_) => false,
+    }
+}
+
+// The open and locked base with this path, if it has its own lock. If there is no base, it is the folder, so that
+// only one run makes the base. If another run made it before the folder was locked, that base is locked.
 fn locked_base(rt: &HostRuntime, links: &str, path: &str) -> io::Result<Option<File>> {
     'tries: for _ in 0..MOST_TRIES {
         match locked_if_own(rt, links, path) {
@@ -176,7 +199,7 @@ fn locked_base(rt: &HostRuntime, links: &str, path: &str) -> io::Result<Option<F
     Err(ErrorKind::Other.into())
 }
 
-// A file, where it is there.
+// A file, if it exists.
 fn unless_missing(found: io::Result<File>) -> io::Result<Option<File>> {
     match found {
         Ok(file) => Ok(Some(file)),
@@ -185,22 +208,24 @@ fn unless_missing(found: io::Result<File>) -> io::Result<Option<File>> {
     }
 }
 
-// The same of one that is there. To open a pipe would wait for whoever writes to it.
+// The open and locked base, if it exists and has its own lock. A pipe is not opened, since that would wait for
+// its writer.
 fn locked_if_own(rt: &HostRuntime, links: &str, path: &str) -> io::Result<Option<File>> {
     let found = fs::metadata(rt, path)?;
-    let is_lockable = found.is_file() || found.is_dir();
-    let is_links = match fs::metadata(rt, links) {
-        Ok(links) => are_same(&found, &links),
-        Err(_) => false,
-    };
-    if !is_lockable || is_links {
-        return Ok(None);
+    if has_own_lock(rt, links, &found) {
+        Ok(Some(locked_at(rt, path)?))
+    } else {
+        Ok(None)
     }
-    Ok(Some(locked_at(rt, path)?))
 }
 
-/// Takes the lock of an open file with this path, once no other run holds it. Where one does, and standard error is
-/// a terminal, that is said there.
+// Whether a base is a file or a folder, and not the link file.
+fn has_own_lock(rt: &HostRuntime, links: &str, base: &Metadata) -> bool {
+    (base.is_file() || base.is_dir()) && !leads_to(rt, links, base)
+}
+
+/// Takes the lock of an open file with this path, once no other run holds it. A wait is reported on standard error, if
+/// that is a terminal.
 pub fn lock_file(rt: &HostRuntime, file: &File, path: &str) -> io::Result<()> {
     match file.try_lock() {
         Ok(()) => Ok(()),
@@ -227,7 +252,7 @@ pub fn folder_fault<'a>(error: &io::Error, folder: &'a str) -> Fault<'a> {
     }
 }
 
-// Says that the lock is waited for, where standard error is a terminal.
+// Reports that this run waits for the lock, if standard error is a terminal.
 fn tell_waiting(rt: &HostRuntime, path: &str) {
     let errors = rt.stderr();
     if errors.is_terminal() {
@@ -237,10 +262,16 @@ fn tell_waiting(rt: &HostRuntime, path: &str) {
     }
 }
 
-// The line that says it.
+// That line.
 fn waiting_line(rt: &HostRuntime, path: &str) -> Result<Vec<u8>, AllocError> {
-    let mut line = Vec::from_slice(rt.alloc(), b"echonet: waiting for the lock of ")?;
-    push_word(&mut line, path.as_bytes())?;
-    line.push(b'\n')?;
+    let mut line = Vec::new(rt.alloc());
+    push_waiting(&mut line, path)?;
     Ok(line)
+}
+
+fn push_waiting(line: &mut Vec<u8>, path: &str) -> Result<(), AllocError> {
+    line.extend_from_slice(b"echonet: waiting for the lock of ")?;
+    push_word(line, path.as_bytes())?;
+    line.push(b'\n')?;
+    Ok(())
 }

@@ -8,11 +8,11 @@ ghost use Rattle.cmd_input.specs.Moment.{IsMomentAt, IsShownAt};
 use jiff_core::civil::Date;
 use model_steps::Stamp;
 
-/// How many seconds a day has.
+/// The seconds of a day.
 const A_DAY: u64 = 86_400;
 
-/// The moment so many seconds after 1970 began (UTC, where each day has as many seconds). None where its
-/// year has more than four digits.
+/// The stamp of the second this many seconds after 1970 began, in UTC without leap seconds. There is none if its year
+/// has more than four digits.
 pub fn stamp_at(seconds: u64) -> Option<Stamp>
     ensures moment { IfSome result (IsMomentAt seconds) }
     ensures only { (stamp : model.Stamp) → IsMomentAt seconds stamp → result ≡ Some stamp }
@@ -30,7 +30,7 @@ pub fn stamp_at(seconds: u64) -> Option<Stamp>
     })
 }
 
-/// The moment that a clock so many seconds ahead of UTC shows, so many seconds after 1970 began.
+/// The stamp that a clock this many seconds ahead of UTC shows, this many seconds after 1970 began.
 pub fn shown_at(seconds: u64, ahead: i32) -> Option<Stamp>
     ensures { IfSome result (IsShownAt seconds ahead) }
 {
@@ -40,7 +40,7 @@ pub fn shown_at(seconds: u64, ahead: i32) -> Option<Stamp>
     Some(stamp)
 }
 
-// The date of this day, counted from 0 for the first of 1970.
+// The date of the day with this number. The first day of 1970 has the number 0.
 fn date_at(day: u64) -> Option<Date>
     ensures { MatchOption result (IsEpochDay (pos day) → ⊥) (λ date. epoch_day date ≡ pos day) }
 {
@@ -48,7 +48,7 @@ fn date_at(day: u64) -> Option<Date>
     Date::from_unix_epoch_day(day).ok()
 }
 
-// The year, where it is none before the year 0.
+// The year, if it is not before the year 0.
 fn year_of(date: Date) -> Option<u16>
     ensures is { IfSome result (λ year. date.year ≡ pos year) }
     ensures only { (year : ℕ) → date.year ≡ pos year → result ≡ Some year }

@@ -15,11 +15,11 @@ use std::fs::File;
 use std::io;
 use std::io::Read;
 
-/// How many bytes of a packet file are read at once.
+/// The most bytes of a packet file that are read at once.
 const BUFFER: usize = 65_536;
 
-/// How packets are tossed: the names of their files, what is taken of them, and whether each message that is not filed
-/// has a line.
+/// How packets are tossed: the names of their files, their limits, and whether each message that is not filed is
+/// printed.
 #[derive(Clone, Copy)]
 pub struct Tossing<'a> {
     pub names: &'a [PathName],
@@ -27,7 +27,7 @@ pub struct Tossing<'a> {
     pub each: bool,
 }
 
-/// The packet files with these names, each opened when its turn comes, and how many there are in all.
+/// The packet files with these names, and their number in all. Each is opened when its turn comes.
 #[derive(Drop)]
 pub struct PacketPaths<'r> {
     pub rt: &'r HostRuntime,
@@ -51,29 +51,38 @@ impl<'r> PacketFiles<'r> for PacketPaths<'r> {
     }
 }
 
-// What reads the packet file with this name. It has to be a regular file.
+// A reader of the packet file with this name.
 fn packet_reader<'r>(
     packets: &PacketPaths<'r>,
     name: &'r PathName,
 ) -> Result<Buffered<Watched<PacketInput<'r>>>, Fault<'r>> {
-    let path = name.path()?;
-    let file = open_regular(packets.rt, path).map_err(|fault| input_fault(fault, path))?;
-    let input = PacketInput {
-        file,
-        read: 0,
-        number: packets.packets.saturating_sub(packets.names.len()),
-        packets: packets.packets,
-        progress: packets.progress,
-    };
+    let input = packet_input(packets, name.path()?)?;
     Ok(Buffered::new(packets.rt.alloc(), Watched::new(input), BUFFER)?)
 }
 
-/// A packet file that is read, which tells how far it is.
+// The packet file with this path, which must be a regular file.
+fn packet_input<'r>(
+    packets: &PacketPaths<'r>,
+    path: &'r str,
+) -> Result<PacketInput<'r>, Fault<'r>> {
+    match open_regular(packets.rt, path) {
+        Ok(file) => Ok(PacketInput {
+            file,
+            read: 0,
+            number: packets.packets.saturating_sub(packets.names.len()),
+            packets: packets.packets,
+            progress: packets.progress,
+        }),
+        Err(fault) => Err(input_fault(fault, path)),
+    }
+}
+
+/// A packet file that reports how much of it was read.
 #[derive(Drop)]
 pub struct PacketInput<'r> {
     file: File,
     read: u64,
-    // Which of the packets it is, from 1 on, and how many there are.
+    // The number of this packet, from 1 on, and of all packets.
     number: usize,
     packets: usize,
     progress: &'r Progress<'r>,
@@ -92,7 +101,7 @@ impl Read for PacketInput<'_> {
 }
 
 impl PacketInput<'_> {
-    // How much of the file was read, in hundredths.
+    // The percentage of the file that was read.
     fn share(&self) -> u128 {
         match self.file.metadata() {
             Ok(found) => share_of(self.read, found.len()),

@@ -1,4 +1,4 @@
-//! The paths of files, as words of the command line or the lines of a file name them.
+//! The paths of files: words of the command line, or lines of a list.
 
 use crate::inputs::{MAX_INPUT, read_given};
 use cmd_status::Fault;
@@ -7,11 +7,10 @@ use echo_charset::push_word;
 use std::alloc::AllocError;
 use std::str;
 
-/// What ends a path in a list that has this byte, in place of 0A.
+/// The end of each path in a list that has this byte. In other lists it is 0A.
 const NUL: u8 = 0;
 
-/// The path of a file as it is printed. One that is no UTF-8 is printed escaped, and can't be
-/// opened.
+/// The path of a file as it is printed. A path that is no UTF-8 is printed escaped, and cannot be opened.
 #[derive(Drop)]
 pub struct PathName {
     shown: String,
@@ -35,14 +34,14 @@ impl PathName {
     }
 }
 
-/// The files that are named, and why the list of them was not read.
+/// The named files, or none and why the list of them was not read.
 #[derive(Drop)]
 pub struct PathNames<'a> {
     pub names: Vec<PathName>,
     pub stopped: Option<Fault<'a>>,
 }
 
-/// The files that words name, or a list.
+/// The files that are named by words or by a list.
 pub fn names_of<'a>(rt: &HostRuntime, paths: &Paths<'a>) -> PathNames<'a> {
     let found = match paths.from {
         Some(list) => listed_names(rt, list),
@@ -63,47 +62,71 @@ pub fn names_of<'a>(rt: &HostRuntime, paths: &Paths<'a>) -> PathNames<'a> {
 // The names that are words of the command line.
 fn given_names<'a>(rt: &HostRuntime, words: &[&'a str]) -> Result<Vec<PathName>, Fault<'a>> {
     let mut names = Vec::new(rt.alloc());
-    for word in words {
-        names.push(PathName {
-            shown: String::from_str(rt.alloc(), *word)?,
-            is_text: true,
-        })?;
-    }
+    push_given(rt, words, &mut names)?;
     Ok(names)
 }
 
-// The names in a list: each ended by 00 where the list has one, else one a line. Empty ones are skipped.
+fn push_given(
+    rt: &HostRuntime,
+    words: &[&str],
+    names: &mut Vec<PathName>,
+) -> Result<(), AllocError> {
+    for word in words {
+        names.push(text_name(rt, *word)?)?;
+    }
+    Ok(())
+}
+
+// The names in a list: each ends in 00 if the list has this byte, else each has a line. Empty ones are skipped.
 fn listed_names<'a>(rt: &HostRuntime, list: &'a str) -> Result<Vec<PathName>, Fault<'a>> {
     let bytes = read_given(rt, list, MAX_INPUT)?;
-    let end = if bytes.contains(&NUL) { NUL } else { b'\n' };
+    Ok(names_in(rt, &bytes)?)
+}
+
+fn names_in(rt: &HostRuntime, list: &[u8]) -> Result<Vec<PathName>, AllocError> {
     let mut names = Vec::new(rt.alloc());
-    for path in bytes.split(|byte| *byte == end) {
+    push_listed(rt, list, &mut names)?;
+    Ok(names)
+}
+
+fn push_listed(rt: &HostRuntime, list: &[u8], names: &mut Vec<PathName>) -> Result<(), AllocError> {
+    let end = if list.contains(&NUL) { NUL } else { b'\n' };
+    for path in list.split(|byte| *byte == end) {
         if !path.is_empty() {
             names.push(name_of(rt, path)?)?;
         }
     }
-    Ok(names)
+    Ok(())
 }
 
-// The name that these bytes are.
+// The name with these bytes.
 fn name_of(rt: &HostRuntime, path: &[u8]) -> Result<PathName, AllocError> {
     match str::from_utf8(path) {
-        Ok(text) => Ok(PathName {
-            shown: String::from_str(rt.alloc(), text)?,
-            is_text: true,
-        }),
-        Err(_) => Ok(PathName {
-            shown: printed(rt, path)?,
-            is_text: false,
-        }),
+        Ok(text) => text_name(rt, text),
+        Err(_) => escaped_name(rt, path),
     }
 }
 
-// A path that is no UTF-8 as it is printed.
-fn printed(rt: &HostRuntime, path: &[u8]) -> Result<String, AllocError> {
+fn text_name(rt: &HostRuntime, text: &str) -> Result<PathName, AllocError> {
+    Ok(PathName {
+        shown: String::from_str(rt.alloc(), text)?,
+        is_text: true,
+    })
+}
+
+// The name of a path that is no UTF-8.
+fn escaped_name(rt: &HostRuntime, path: &[u8]) -> Result<PathName, AllocError> {
     let mut bytes = Vec::new(rt.alloc());
     push_word(&mut bytes, path)?;
-    String::from_str(rt.alloc(), str::from_utf8(&bytes).unwrap_or(""))
+    Ok(PathName {
+        shown: String::from_str(rt.alloc(), str::from_utf8(&bytes).unwrap_or(""))?,
+        is_text: false,
+    })
+}
+
+/// A path as text. One that is no UTF-8 becomes the empty path, which no file has.
+pub fn text_path(path: &[u8]) -> &str {
+    str::from_utf8(path).unwrap_or("")
 }
 
 /// The folder of the file with this path.
@@ -115,7 +138,7 @@ pub fn folder_of(path: &str) -> &str {
     }
 }
 
-/// The folder, and a `/` where it ends in none.
+/// The path of a folder, ended by a slash.
 pub fn folder_path(rt: &HostRuntime, folder: &str) -> Result<String, AllocError> {
     let mut path = String::from_str(rt.alloc(), folder)?;
     if !folder.ends_with('/') {

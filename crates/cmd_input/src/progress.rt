@@ -1,5 +1,5 @@
-//! How far a command is, as a terminal is told. The line stands on standard error from a second after the command
-//! began on, is written over in place, and goes before anything else is printed.
+//! The progress of a command, for a terminal. One second after the command began, its line appears on standard error.
+//! It is overwritten in place, and erased before anything else is printed.
 
 use cmd_status::print_rest;
 use disk_io::Watched;
@@ -10,27 +10,27 @@ use std::io;
 use std::io::{IsTerminal, Write};
 use std::time::Instant;
 
-/// When the line comes, and how long it stays as it is, in milliseconds.
+/// When the line appears, and how long it is left unchanged, in milliseconds.
 const FIRST: u128 = 1_000;
 
 const EACH: u128 = 200;
 
-/// When it comes where there is no terminal.
+/// When it appears if there is no terminal.
 const NEVER: u128 = u128::MAX;
 
-/// How far a command is. Where standard error is no terminal nobody is told.
+/// The progress of a command. If standard error is no terminal, nothing is printed.
 #[derive(Drop)]
 pub struct Progress<'r> {
     rt: &'r HostRuntime,
     begun: Option<Instant>,
-    // When it is told next, in milliseconds after it began.
+    // When it is printed next, in milliseconds after the command began.
     next: Cell<u128>,
-    // How many bytes the line has that stands there.
+    // The number of bytes of the present line.
     shown: Cell<usize>,
 }
 
 impl<'r> Progress<'r> {
-    /// Of a command that begins now. Without a clock nothing is told.
+    /// For a command that begins now. Without a clock nothing is printed.
     pub fn new(rt: &'r HostRuntime) -> Progress<'r> {
         Progress {
             rt,
@@ -40,8 +40,7 @@ impl<'r> Progress<'r> {
         }
     }
 
-    /// Whether it is time to tell how far the command is. Only the first call after a second looks whether there is
-    /// a terminal.
+    /// Whether it is time to print the progress. Only the first call after a second looks for a terminal.
     pub fn is_due(&self) -> bool {
         if self.next.get() == NEVER {
             return false;
@@ -61,7 +60,7 @@ impl<'r> Progress<'r> {
         is_terminal
     }
 
-    // For how long the command has run.
+    // How long the command has run.
     fn milliseconds(&self) -> Option<u128> {
         match self.begun?.elapsed(self.rt) {
             Ok(since) => Some(since.as_millis()),
@@ -69,54 +68,55 @@ impl<'r> Progress<'r> {
         }
     }
 
-    /// Tells that this share of a packet was read, in hundredths. Packets are counted from 1.
+    /// Prints what percentage of a packet was read. Packets are counted from 1.
     pub fn tell_packet(&self, packet: usize, packets: usize, share: u128) {
         self.tell_line(format!(in self.rt.alloc();
             "echonet: packet {packet} of {packets}, {share}%"
         ));
     }
 
-    /// Tells which of the packets of a scan is written.
+    /// Prints which packet of a scan is written.
     pub fn tell_written(&self, packet: usize, packets: usize) {
         self.tell_line(format!(in self.rt.alloc(); "echonet: packet {packet} of {packets}"));
     }
 
-    /// Tells which of the messages of a base was read; messages are counted from 1.
+    /// Prints which message of a base was read. Messages are counted from 1.
     pub fn tell_message(&self, message: u64, messages: u64) {
         self.tell_line(format!(in self.rt.alloc(); "echonet: message {message} of {messages}"));
     }
 
-    /// Tells how many events of a replay happened.
+    /// Prints how many events of a replay happened.
     pub fn tell_event(&self, happened: usize, events: usize) {
         self.tell_line(format!(in self.rt.alloc(); "echonet: event {happened} of {events}"));
     }
 
-    // Tells a line, if there was memory for it.
+    // Prints a line, if there was memory for it.
     fn tell_line(&self, line: Result<String, AllocError>) {
         if let Ok(line) = line {
-            let _ = self.write_over(line.as_str());
+            self.write_over(line.as_str());
         }
     }
 
-    /// Takes the line away.
+    /// Erases the line.
     pub fn clear(&self) {
         if self.shown.get() > 0 {
-            let _ = self.write_over("");
+            self.write_over("");
         }
     }
 
-    // Writes a line over the one that stands there, and goes back to its beginning.
-    fn write_over(&self, line: &str) -> Result<(), AllocError> {
-        let mut bytes = Vec::from_slice(self.rt.alloc(), b"\r")?;
-        push_over(&mut bytes, line, self.shown.get())?;
-        self.shown.set(line.len());
-        let _ = print_rest(&mut bytes, &mut Watched::new(self.rt.stderr()));
-        Ok(())
+    // Writes a line over the present one, and goes back to its beginning.
+    fn write_over(&self, line: &str) {
+        let mut bytes = Vec::new(self.rt.alloc());
+        if push_over(&mut bytes, line, self.shown.get()).is_ok() {
+            self.shown.set(line.len());
+            let _ = print_rest(&mut bytes, &mut Watched::new(self.rt.stderr()));
+        }
     }
 }
 
-// Adds a line with spaces up to the end of the one before it, which had so many bytes.
+// Adds a line with spaces up to the end of the previous one, which had this many bytes.
 fn push_over(bytes: &mut Vec<u8>, line: &str, shown: usize) -> Result<(), AllocError> {
+    bytes.push(b'\r')?;
     bytes.extend_from_slice(line.as_bytes())?;
     let width = bytes.len().max(shown.saturating_add(1));
     bytes.resize(width, b' ')?;
@@ -124,7 +124,7 @@ fn push_over(bytes: &mut Vec<u8>, line: &str, shown: usize) -> Result<(), AllocE
     Ok(())
 }
 
-/// A terminal that is told at which message a command is, if one is to be told.
+/// Reports at which message a command is, if a progress line is given.
 #[derive(Clone, Copy, Drop)]
 pub struct Messages<'p, 'r> {
     pub progress: Option<&'p Progress<'r>>,
@@ -140,12 +140,12 @@ impl MessageProgress for Messages<'_, '_> {
     }
 }
 
-/// How much so many of so many are, in hundredths.
+/// The percentage of `all` that `some` is.
 pub fn share_of(some: u64, all: u64) -> u128 {
     (u128::from(some) * 100 / u128::from(all.max(1))).min(100)
 }
 
-/// Standard output or standard error, before which the line goes.
+/// Standard output or standard error, on which the progress line is erased before anything is written.
 #[derive(Drop)]
 pub struct Cleared<'p, 'r, W> {
     progress: &'p Progress<'r>,

@@ -1,5 +1,5 @@
-//! The commands that change the base of a system, as their words ask for them. They hold the lock of its link file from
-//! before it is read until their last file stands, and wait where another run holds it.
+//! The commands that change the base of a station, by their words. They take the lock of its link file before they read it,
+//! and hold it until they end. They wait while another run holds it.
 ghost use Rattle.std.specs.Prelude.{◌≡◌, None, OnOk};
 ghost use Rattle.station.specs.Opening.{AreFree};
 
@@ -19,7 +19,7 @@ use echo_stored::{StoredFault, read_stored};
 use model_steps::Stamp;
 use station::{FileLock, Locks, lock_links};
 
-/// A command whose words and whose body were read.
+/// A command with its words and its body.
 #[derive(Drop)]
 enum Asked<'w> {
     Post(Post<'w>),
@@ -28,7 +28,7 @@ enum Asked<'w> {
     Purge(Purge),
 }
 
-// Runs a command on a station. What was not read before comes behind the faults of its files.
+// Runs a command on a station. Faults of its files precede the fault of an earlier input, `unread`.
 fn change<W: Sink, E: Sink>(
     rt: &HostRuntime,
     place: Place<'_>,
@@ -48,7 +48,7 @@ fn change<W: Sink, E: Sink>(
     }
 }
 
-// Runs it on a station whose base was found.
+// Runs it on a station with a found base.
 fn change_at<'a, L: FileLock, K: FileLock, W: Sink>(
     at: Station<'a>,
     locks: &mut Locks<L, K>,
@@ -72,8 +72,8 @@ fn change_at<'a, L: FileLock, K: FileLock, W: Sink>(
     }
 }
 
-/// `post`: the serial and the stamp are judged first, then the files, then standard input. That is read
-/// before the lock is taken, since it may take its time.
+/// `post`: the serial and the stamp are judged first, then the files, then standard input. Standard input is read before
+/// the lock is taken, since that may take long.
 pub fn run_post<W: Sink, E: Sink>(
     rt: &HostRuntime,
     words: &PostWords<'_>,
@@ -97,7 +97,7 @@ pub fn run_post<W: Sink, E: Sink>(
     change(rt, place, &mut Asked::Post(post), unread, out, errors)
 }
 
-// The body of a message, from standard input, and why it was not read.
+// The body of a message, from standard input, and the fault that stopped its reading.
 fn read_body<'a>(rt: &HostRuntime) -> (Vec<u8>, Option<Fault<'a>>) {
     match read_standard_input(rt, MAX_TEXT_FILE) {
         Ok(body) => (body, None),
@@ -105,7 +105,7 @@ fn read_body<'a>(rt: &HostRuntime) -> (Vec<u8>, Option<Fault<'a>>) {
     }
 }
 
-// What is to be posted, but for the body, and whether its serial is the first free one from that on.
+// The words of a posting without its body, and whether it gets the first free serial from this one on.
 fn posting_of<'a>(
     rt: &HostRuntime,
     words: &PostWords<'a>,
@@ -155,7 +155,7 @@ fn refuse_mail<E: Sink>(
     }
 }
 
-// A fault, unless the link file can be read under its lock.
+// A fault if the link file cannot be read under its lock.
 fn check_links<'a, D: Disk, L: FileLock>(
     rt: &HostRuntime,
     disk: &mut D,
@@ -217,7 +217,7 @@ pub fn run_reply<W: Sink, E: Sink>(
     change(rt, place, &mut Asked::Reply(reply), unread, out, errors)
 }
 
-// What an answer says that its message does not, and the number of that.
+// The words of an answer, and the number of the message that it answers.
 fn answer_of<'a>(rt: &HostRuntime, words: &ReplyWords<'a>) -> Result<(Answer<'a>, u64), Fault<'a>> {
     let (serial, free) = serial_from(rt, words.serial)?;
     let stamp = moment_of(rt, words.at)?;
@@ -268,7 +268,7 @@ pub fn run_post_stored<W: Sink, E: Sink>(
     change(rt, place, &mut Asked::Post(post), None, out, errors)
 }
 
-// The serial, whether it is the first free one from that on, the stamp, and the bytes of the stored message.
+// A stored message to post: its serial, whether it gets the first free one from that on, its stamp, and its bytes.
 fn stored_given<'a>(
     rt: &HostRuntime,
     words: &PostStoredWords<'a>,

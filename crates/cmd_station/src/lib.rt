@@ -1,13 +1,10 @@
-//! The commands that change the base of a system, on the files of the system: `post`, `reply`, `toss`, `scan` and
-//! `purge`.
+//! The commands that change the base of a station, on the files of the system: `post`, `reply`, `toss`, `scan` and
+//! `purge`. Promise: each word of `post` is the field of the message that it names (`new_message`). The rest is proved to
+//! be safe and to end, and no more: the crates `station` and `station_scan` promise what a command reads and writes on any
+//! disk. Begin with `place`, the paths, the locks and the base of a station.
 //!
-//! The contract for the program: each word of `post` is the field of the message that it names (`new_message`). The rest
-//! is proved to be safe and to end, and no more. What these commands read and write is promised by the crates that run
-//! them on any disk.
-//!
-//! Modules in reading order: `place` (the locks of a station, and whether its base is a file or a folder), `running` (a command
-//! on it), `posting` (the words of `post`), `changing` and `tossing` (the commands as their words ask for them), `scanning`,
-//! and `unplaced` (the file at which a scan failed).
+//! `running` runs a command on it. `posting` has the words of `post`. `changing`, `tossing` and `scanning` are the
+//! commands by their words. `unplaced` reports the path at which a scan failed.
 #![tactic(auto)]
 
 mod changing;

@@ -1,4 +1,4 @@
-//! Where the base of a system is, and what is found of it before it is opened.
+//! The paths of a station, and the state of its base before it is opened.
 ghost use Rattle.std.specs.Prelude.{OnOk};
 ghost use Rattle.station.specs.Opening.{AreFree};
 
@@ -10,15 +10,15 @@ use disk_system::{OutputFault, RealDisk, Unknown, target_of};
 use station::{FileLock, Locks, links_at, lock_at};
 use station_bases::FolderProbe;
 
-/// The paths of the link file and of the base of a system.
+/// The paths of the link file and of the base of a station.
 #[derive(Clone, Copy)]
 pub struct Place<'a> {
     pub links: &'a str,
     pub base: &'a str,
 }
 
-/// What is found of a base, and the files of the system for it. A base file has this path; the files of a base folder have it
-/// before their names.
+/// The state of a base, and the files of the system for it. `path` is that of a base file, or the one before the names of
+/// the files in a base folder.
 #[derive(Drop)]
 pub struct FoundBase<'r> {
     path: String,
@@ -26,15 +26,15 @@ pub struct FoundBase<'r> {
     files: BaseFiles<'r>,
 }
 
-/// A station whose base was found.
+/// A station with a found base.
 #[derive(Clone, Copy)]
 pub struct Station<'a> {
     pub rt: &'a HostRuntime,
     pub place: Place<'a>,
     pub path: &'a str,
-    /// What was found of its base, where that is a folder.
+    /// The state of its base, if that is a folder.
     pub folder: Option<FolderProbe>,
-    /// What its base is replaced on, where that is a file.
+    /// The files of the system, on which a base file is replaced.
     pub files: &'a BaseFiles<'a>,
 }
 
@@ -51,8 +51,8 @@ impl FoundBase<'_> {
     }
 }
 
-/// The locks of a station, of which that of the link file is taken already where it can be. So others change nothing of the
-/// station from before its base is found until the command ends.
+/// The locks of a station. The link file is already locked, if possible. So no other run changes the station from before
+/// its base is found until the command ends.
 pub fn locks_of<'a>(rt: &'a HostRuntime, place: Place<'a>) -> Locks<LinkLock<'a>, BaseLock<'a>>
     ensures { AreFree (⟦<LinkLock<'a> as FileLock>⟧.held result.links) (⟦<BaseLock<'a> as FileLock>⟧.held result.base) }
 {
@@ -62,7 +62,7 @@ pub fn locks_of<'a>(rt: &'a HostRuntime, place: Place<'a>) -> Locks<LinkLock<'a>
     }
 }
 
-/// Finds the base of a station. A fault of a folder comes behind those of the link file and of the locks.
+/// Finds the base of a station. Faults of the link file and of the locks precede that of a folder.
 pub fn find_base<'a, L: FileLock, K: FileLock>(
     rt: &'a HostRuntime,
     place: Place<'a>,
@@ -81,7 +81,7 @@ pub fn find_base<'a, L: FileLock, K: FileLock>(
     }
 }
 
-// What is found at the path of a base.
+// The state of the base with this path.
 fn found_at<'a>(rt: &'a HostRuntime, base: &'a str) -> Result<FoundBase<'a>, Fault<'a>> {
     let (path, folder) = if is_folder(rt, base) {
         let FolderState { path, found } = found_in(rt, base)?;
@@ -96,7 +96,7 @@ fn found_at<'a>(rt: &'a HostRuntime, base: &'a str) -> Result<FoundBase<'a>, Fau
     })
 }
 
-// The path of a base file: that which a symbolic link leads to. One that leads to none is a fault where the base is
+// The path of a base file, with symbolic links followed. If they lead to no file, that is a fault when the base is
 // written.
 fn followed<'a>(rt: &HostRuntime, base: &'a str) -> Result<String, Fault<'a>> {
     match target_of(rt.alloc(), rt, base) {
@@ -106,7 +106,7 @@ fn followed<'a>(rt: &HostRuntime, base: &'a str) -> Result<String, Fault<'a>> {
     }
 }
 
-// Judges the link file under its lock, and takes that of the base.
+// Takes both locks. The link file is judged between them.
 fn lock_both<'a, D: Disk, L: FileLock, K: FileLock>(
     rt: &HostRuntime,
     disk: &mut D,

@@ -1,11 +1,11 @@
-//! What `post` posts.
+//! The message that `post` posts.
 ghost use Rattle.std.specs.Prelude.{◌≡◌, [], None, IfSome};
 
 use cmd_report::NewMessage;
 use cmd_words::PostWords;
 use model_steps::Stamp;
 
-/// What is to be posted by these words, but for the body. Without `--reply` it answers no message.
+/// The message of these words, without its body. Without `--reply` it answers no message.
 pub fn new_message<'a>(words: &PostWords<'a>, serial: u32, stamp: Stamp) -> NewMessage<'a>
     ensures tag { result.tag.now ≡ words.now.area.now }
     ensures to { result.to_name.now ≡ words.now.to.now }

@@ -1,6 +1,5 @@
-//! A command is run on a station, whatever its base is kept in, on the files of the system. What it reads, and what it
-//! puts in place, is settled by what `run_command` does over any disk. The locks are held until what the command left
-//! beside the base is gone, and what is damaged was found.
+//! Runs a command on a station of either kind, on the files of the system. The contract of `run_command` says what it reads
+//! and writes on any disk. The locks are held until its staging file is gone, and a damaged message was found.
 ghost use Rattle.std.specs.Prelude.{◌≡◌, None, OnOk};
 ghost use Rattle.disk_io.specs.Disk.{Honestly};
 ghost use Rattle.base_log.specs.Opening.{AreAlone};
@@ -21,8 +20,8 @@ use std::collections::hash_map::RandomState;
 use std::marker::PhantomData;
 use std::rt::Files;
 
-/// What the program does before a command: how packets are tossed, if they are; who is told how far the reading of a base
-/// file is; and why something that is read before the base was not read.
+/// What the program knows before a command: how packets are tossed, if they are, and the progress line for the reading of
+/// a base file. `unread` is the fault of an earlier input.
 #[derive(Clone, Copy)]
 pub struct Before<'a> {
     pub toss: Option<Tossing<'a>>,
@@ -30,7 +29,7 @@ pub struct Before<'a> {
     pub unread: Option<Fault<'a>>,
 }
 
-/// Opens the station and runs a command on it. It does not end well where something was not read.
+/// Opens the station and runs a command on it. The command does not end well if there is an `unread` fault.
 pub fn run_on<'a, C: StoreCommand<'a>, L: FileLock, K: FileLock, W: Sink>(
     at: Station<'a>,
     locks: &mut Locks<L, K>,
@@ -51,7 +50,7 @@ pub fn run_on<'a, C: StoreCommand<'a>, L: FileLock, K: FileLock, W: Sink>(
     }
 }
 
-// The same where the base is a file.
+// The same if the base is a file.
 fn run_on_file<'a, C: StoreCommand<'a>, L: FileLock, K: FileLock, W: Sink>(
     at: Station<'a>,
     locks: &mut Locks<L, K>,
@@ -87,7 +86,7 @@ fn run_over<'a, F: Files + Drop + 'a, C: StoreCommand<'a>, L: FileLock, K: FileL
     run_unprepared(at, disk, locks, station, unread, command, out)
 }
 
-// Runs a command on a station whose store needs nothing before.
+// Runs a command on a station that needs no work before it.
 fn run_unprepared<
     'a,
     D: Disk + Drop,
@@ -125,8 +124,8 @@ fn run_unprepared<
     ended.done
 }
 
-/// A station whose base is a file, and who is told how far the reading of that is. A seed for look-ups which cannot be had is a
-/// failed read.
+/// A station with a base file, and the progress line for its reading. If the system gives no seed for look-ups, that is
+/// a failed read.
 pub fn file_station<'a>(
     at: Station<'a>,
     progress: Option<&'a Progress<'a>>,
@@ -142,7 +141,7 @@ pub fn file_station<'a>(
     }
 }
 
-// The same where the base is a folder.
+// The same if the base is a folder.
 fn run_on_folder<'a, C: StoreCommand<'a>, L: FileLock, K: FileLock, W: Sink>(
     at: Station<'a>,
     locks: &mut Locks<L, K>,
@@ -196,7 +195,7 @@ fn run_opened<'a, D: Disk + Drop, C: StoreCommand<'a>, L: FileLock, K: FileLock,
     ended.done
 }
 
-/// A station whose base is a folder, of which this was found.
+/// A station with a base folder in this state.
 pub fn folder_station<'a>(at: Station<'a>, found: FolderProbe) -> FolderStation<'a, SipDigest> {
     FolderStation {
         at: FolderPlace {
@@ -209,7 +208,7 @@ pub fn folder_station<'a>(at: Station<'a>, found: FolderProbe) -> FolderStation<
     }
 }
 
-/// Why a command on a station stopped. Of a base folder with a damaged message it is reported which one is the first.
+/// Why a command on a station stopped. If a message of a base folder is damaged, the fault names the first such message.
 pub fn fault_of<'a>(at: Station<'a>, stop: CommandError<'a>) -> Fault<'a> {
     match stop {
         CommandError::Store(StoreError::Damaged) if at.folder.is_some() => damaged_in(
@@ -220,7 +219,7 @@ pub fn fault_of<'a>(at: Station<'a>, stop: CommandError<'a>) -> Fault<'a> {
     }
 }
 
-/// A fault of a station, whose base file is reported by the name that was given.
+/// A fault of a station, with the base file as the operator named it.
 pub fn by_name<'a>(at: Station<'a>, fault: Fault<'a>) -> Fault<'a> {
     match fault {
         Fault::CannotUse(path) if at.folder.is_none() && path == at.path => Fault::CannotUse(
@@ -230,7 +229,7 @@ pub fn by_name<'a>(at: Station<'a>, fault: Fault<'a>) -> Fault<'a> {
     }
 }
 
-// What is wrong with a base folder that has a damaged message.
+// The fault of a base folder that has a damaged message.
 fn damaged_in<'a>(rt: &HostRuntime, base: &'a str) -> Fault<'a> {
     match look_into(rt, base, 0) {
         Ok(seen) => match seen.as_file::<SipDigest>(rt.alloc()) {

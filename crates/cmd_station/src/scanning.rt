@@ -1,5 +1,5 @@
-//! `scan`, as its words ask for it, on the files of the system. What it reads, and what it puts in place, is settled by what
-//! it is over any disk.
+//! `scan` by its words, on the files of the system. The contract of `run_scan` in `station_scan` says what it reads and
+//! writes on any disk.
 ghost use Rattle.disk_io.specs.Disk.{Honestly};
 ghost use Rattle.base_log.specs.Opening.{AreAlone};
 ghost use Rattle.station.specs.Opening.{AreFree};
@@ -22,7 +22,7 @@ use station_scan::{Scan as Wanted, ScanError, run_scan as scan_station};
 use std::collections::hash_map::RandomState;
 use std::rt::Files;
 
-/// How many messages are taken at hand between two looks at the clock.
+/// How many messages are scanned between two looks at the clock.
 const SOME: usize = 1_000;
 
 /// The words of `scan`.
@@ -34,8 +34,8 @@ pub struct ScanWords<'a> {
     pub folder: &'a str,
 }
 
-/// What is scanned, and into which folder, by the name that was given and by the path that its files have before their
-/// names.
+/// A scan: its station, its stamp, and its folder. `folder` is the folder as the operator named it, and `slashed` the
+/// path before the names of its files.
 #[derive(Clone, Copy)]
 pub struct Scan<'a> {
     pub at: Station<'a>,
@@ -73,7 +73,7 @@ pub fn run_scan<W: Sink, E: Sink>(
     }
 }
 
-// The moment of a scan and its folder, by the name that was given and by the path that its files have before their names.
+// The stamp of a scan, and its folder in both forms.
 #[derive(Clone, Copy)]
 struct Outbound<'a> {
     stamp: Stamp,
@@ -81,7 +81,7 @@ struct Outbound<'a> {
     slashed: &'a str,
 }
 
-// Finds the base and scans it, and reports what it met.
+// Finds the base and scans it, and reports the fault.
 fn scan_into<'a, W: Sink, E: Sink>(
     rt: &'a HostRuntime,
     place: Place<'a>,
@@ -99,7 +99,7 @@ fn scan_into<'a, W: Sink, E: Sink>(
     scan_at(at, to, &mut locks, progress, out, errors)
 }
 
-// Scans a station whose base was found, and reports what it met.
+// Scans a station with a found base, and reports the fault.
 fn scan_at<'a, L: FileLock, K: FileLock, W: Sink, E: Sink>(
     at: Station<'a>,
     to: Outbound<'a>,
@@ -184,7 +184,7 @@ fn report_scanned<E: Sink>(
     }
 }
 
-// Scans a station whose store needs nothing before.
+// Scans a station that needs no work before it.
 fn scan_unprepared<'a, D: Disk + Drop, P: LendStation<'a, D>, L: FileLock, K: FileLock, W: Sink>(
     scan: Scan<'a>,
     progress: &'a Progress<'a>,
@@ -208,7 +208,7 @@ fn scan_unprepared<'a, D: Disk + Drop, P: LendStation<'a, D>, L: FileLock, K: Fi
     scanned.done
 }
 
-// Scans a base folder, into another folder than that, over these files.
+// Scans a base folder, over these files. The folder of packets must be another one.
 fn scan_folder<'a, F: Files + Drop + 'a, L: FileLock, K: FileLock, W: Sink>(
     scan: Scan<'a>,
     progress: &'a Progress<'a>,
@@ -256,7 +256,7 @@ fn scan_opened<'a, D: Disk + Drop, L: FileLock, K: FileLock, W: Sink>(
     scanned.done
 }
 
-// What is asked of a scan.
+// The scan as its crate takes it.
 fn wanted<'a>(
     scan: Scan<'a>,
     progress: &'a Progress<'a>,
@@ -269,7 +269,7 @@ fn wanted<'a>(
     }
 }
 
-// A terminal is told how far a scan is.
+// Reports the progress of a scan.
 #[derive(Drop)]
 struct ScanProgress<'p> {
     progress: &'p Progress<'p>,

@@ -1,4 +1,4 @@
-//! `toss`, as its words ask for it.
+//! `toss` by its words.
 ghost use Rattle.std.specs.Prelude.{◌≡◌, None, OnOk};
 ghost use Rattle.station.specs.Opening.{AreFree};
 
@@ -12,8 +12,8 @@ use disk_io::Sink;
 use echo_packet::Limits;
 use station::{FileLock, Locks};
 
-/// `toss`: the limit of a text is judged first, and a list of packets is read before the lock is taken; each
-/// packet file is opened when its turn comes. What ends it at a packet is reported once the base is committed.
+/// `toss`: the limit of a text is judged first. A list of packets is read before the lock is taken, and each packet file
+/// is opened when its turn comes. A fault of a packet is reported once the base is committed.
 pub fn run_toss<W: Sink, E: Sink>(
     rt: &HostRuntime,
     words: &TossWords<'_>,
@@ -38,7 +38,7 @@ pub fn run_toss<W: Sink, E: Sink>(
     toss_in(rt, place, by, stopped, progress, out, errors)
 }
 
-// Tosses packets at these paths, and reports what it met.
+// Finds the base and tosses packets into it.
 fn toss_in<'a, W: Sink, E: Sink>(
     rt: &'a HostRuntime,
     place: Place<'a>,
@@ -61,7 +61,7 @@ fn toss_in<'a, W: Sink, E: Sink>(
     }
 }
 
-// Tosses packets at a station. Where the list of them was not read, none is expected.
+// Tosses packets at a station. If the list of them was not read, none is expected.
 fn toss_at<'a, L: FileLock, K: FileLock, W: Sink>(
     at: Station<'a>,
     locks: &mut Locks<L, K>,
@@ -88,7 +88,7 @@ fn toss_at<'a, L: FileLock, K: FileLock, W: Sink>(
     run_on(at, locks, before, &mut toss, out)
 }
 
-// What is taken of packets. A number above the greatest limit is refused.
+// The limits of packets. A number above the greatest limit is refused.
 fn toss_limits<'a>(text_limit: Option<&str>) -> Result<Limits, Fault<'a>> {
     let Some(word) = text_limit else {
         return Ok(LIMITS);

@@ -1,4 +1,4 @@
-//! Where the packets of a scan could not be put in place.
+//! The path at which the packets of a scan could not be put in place.
 
 use crate::place::Place;
 use crate::scanning::Scan;
@@ -7,7 +7,7 @@ use cmd_status::{Fault, Status};
 use disk_atomic::PlacingError;
 use disk_io::Sink;
 
-/// Reports why the packets of a scan were not put in place, and where, if that was noted.
+/// Reports why the packets of a scan were not put in place, and the noted path.
 pub fn report_unplaced<E: Sink>(
     scan: Scan<'_>,
     files: &ScanFiles<'_, '_>,
@@ -28,8 +28,7 @@ pub fn report_unplaced<E: Sink>(
     }
 }
 
-// The path at which a call failed, by the name that was given: of the folder of packets, of the base, or of a packet. The
-// base has this path, which ends in a slash where it is a folder, and so has the folder of packets.
+// The path at which a call failed, as the operator named it: the folder of packets, the base, or a packet.
 fn named<'n>(
     place: Place<'n>,
     base: &str,
@@ -49,7 +48,7 @@ fn named<'n>(
     if packet == base { place.base } else { packet }
 }
 
-// Whether it is the base, a file of a base folder, or the folder in which a base stands.
+// Whether it is the base, a file of a base folder, or the folder that contains the base.
 fn is_of_base(base: &str, met: &str) -> bool {
     met == base
         || met == "."

@@ -1,58 +1,58 @@
-//! The commands, as a table: what each takes, and its help.
+//! The table of commands: the words of each, and its help.
 
-// How the help of a command ends: with an example, and with its statuses, of which 1 has this line.
+// The end of a command's help: an example, and the statuses. Status 1 has this line.
 macro_rules! ending_with {
     ($example:literal, $differs:literal) => {
         concat!("Example:\n  ", $example, "\n\nExit status:\n  0  good\n", $differs, "  2  an input was refused\n  3  a device failed, or memory ran out\n  4  the command line was refused")
     };
 }
 
-// The same of a command that never has the status 1.
+// The same for a command that never has status 1.
 macro_rules! ending {
     ($example:literal) => {
         ending_with!($example, "")
     };
 }
 
-// The same of a command that prints a verdict.
+// The same for a command that prints a verdict.
 macro_rules! judging {
     ($example:literal) => {
         ending_with!($example, "  1  the verdict is no\n")
     };
 }
 
-/// How a word is given.
+/// The form of a word. Each of the options that it names is another word of the command.
 #[derive(Clone, Copy)]
 pub(crate) enum Form {
     /// `--NAME`
     Flag,
-    /// the same, where this option does not stand
+    /// `--NAME`, not with this option
     FlagUnless(&'static str),
-    /// the same, where none of these options stands
+    /// `--NAME`, not with any of these options
     FlagUnlessAny(&'static [&'static str]),
-    /// `--NAME VALUE`, or nothing
+    /// `--NAME VALUE`, optional
     Option(&'static str),
-    /// the same, which wants the first of these options and takes the place of the others
+    /// `--NAME VALUE`, optional, only with the first of these options and not with the others
     OptionWith(&'static str, &'static str, &'static [&'static str]),
-    /// `--NAME VALUE`, nothing or more than once
+    /// `--NAME VALUE`, any number of times
     Repeated(&'static str),
-    /// the same, where this option does not stand
+    /// `--NAME VALUE`, any number of times, not with this option
     RepeatedUnless(&'static str, &'static str),
     /// `--NAME VALUE`
     Needed(&'static str),
-    /// the same, or nothing where one of these options stands
+    /// `--NAME VALUE`, optional with one of these options
     NeededUnless(&'static str, &'static [&'static str]),
     /// `NAME`
     One,
-    /// `NAME`, or nothing where both options stand
+    /// `NAME`, optional with both of these options
     OneUnless(&'static str, &'static str),
-    /// `NAME...`, one or more, or in its place this option
+    /// one or more of `NAME`, or instead this option
     ManyUnless(&'static str),
-    /// the same, or nothing where the second option stands, with which the word before it is one of these
+    /// One or more of `NAME`, or instead the first option. With the second option they are optional.
     RestUnless(&'static str, &'static str),
 }
 
-/// A word that a command takes: its name, how it is given, and its help.
+/// A word of a command: its name, its form, and its help.
 #[derive(Clone, Copy)]
 pub(crate) struct Word(
     pub(crate) &'static str,
@@ -60,7 +60,7 @@ pub(crate) struct Word(
     pub(crate) &'static str,
 );
 
-/// A command: its name, what it does, how its help ends, and its words.
+/// A command: its name, what it does, the end of its help, and its words.
 #[derive(Clone, Copy)]
 pub(crate) struct Entry(
     pub(crate) &'static str,
@@ -69,7 +69,7 @@ pub(crate) struct Entry(
     pub(crate) &'static [Word],
 );
 
-/// How the help of the program ends.
+/// The end of the program's help.
 pub(crate) const PROGRAM_ENDING: &str = ending_with!(
     "echonet show mail.pkt",
     "  1  the verdict is no, or a checksum differs from the stated one\n"
@@ -81,7 +81,7 @@ const TAG: Word = Word("TAG", Form::One, AREA);
 
 const NET: &str = "The link file of each system of the net";
 
-/// The link files of a net, as words or as a list.
+/// The link files of a net, by words or by a list.
 const ALL_LINKS: Word = Word("LINKS", Form::ManyUnless("links-from"), NET);
 
 const LINKS_FROM: Word = Word(
@@ -113,7 +113,7 @@ const AT: Word = Word(
     "The moment, as YYYY-MM-DDThh:mm:ss, or now (UTC), or local (in the system's time zone)",
 );
 
-/// The commands that look at packets, lists and nets.
+/// The commands for packets, nodelists and nets.
 pub(crate) const LOOKING: &[Entry] = &[
     Entry(
         "show",
@@ -329,7 +329,7 @@ pub(crate) const CHANGING: &[Entry] = &[
     ),
 ];
 
-/// The commands that read a base, or none.
+/// All other commands.
 pub(crate) const READING: &[Entry] = &[
     Entry(
         "list",

@@ -1,14 +1,14 @@
-//! A command of the table, as the parser has it.
+//! The parser's form of a command of the table.
 
 use crate::commands::{Entry, Form, Word};
 use clap::{Arg, ArgAction, Command};
 use std::alloc::{AllocError, Global};
 
-// The usage lines of `check`, of which the second has no TAG.
+// The usage lines of `check`. The second has no TAG.
 const CHECK_USAGE: &str =
     "echonet check [OPTIONS] <TAG> <LINKS>...\n       echonet check [OPTIONS] --all <LINKS>...";
 
-// The word, as the parser has it.
+// The parser's form of a word.
 fn argument<'a>(alloc: Global, word: Word) -> Result<Arg<'a>, AllocError> {
     let Word(name, form, help) = word;
     let arg = Arg::new(alloc, name).help(help);
@@ -63,7 +63,7 @@ fn rest_unless<'a>(
     rest.required_unless_present(option)?.conflicts_with(list)
 }
 
-/// The command, as the parser has it.
+/// The parser's form of a command.
 pub(crate) fn subcommand<'a>(alloc: Global, entry: Entry) -> Result<Command<'a>, AllocError> {
     let Entry(name, about, ending, words) = entry;
     let mut command = described(alloc, name, about, ending);
@@ -73,7 +73,7 @@ pub(crate) fn subcommand<'a>(alloc: Global, entry: Entry) -> Result<Command<'a>,
     Ok(command)
 }
 
-// It without its words.
+// The same without its words.
 fn described<'a>(
     alloc: Global,
     name: &'static str,

@@ -1,6 +1,8 @@
-//! The command line. `commands` is the table of commands with their words and help, `forms` and `program` make the
-//! parser from it. `words` says what a command line asks for, `parsing` finds that out, and `refusing` says why a
-//! command line was refused. Begin with `commands`.
+//! The command line. It promises to be safe and to end, and no more; scripts/manual.sh compares its help with the manual
+//! page. Begin with `commands`, the table of commands with their words and help.
+//!
+//! `forms` and `program` make the parser from the table. `words` has the parsed words of each command, and `parsing` finds
+//! them. `refusing` reports why a command line was refused.
 #![tactic(auto)]
 
 mod commands;

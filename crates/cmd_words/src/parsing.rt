@@ -1,4 +1,4 @@
-//! Words of a command line, read by the parser.
+//! Finds the words of each command in the parser's answer.
 
 use crate::program::command;
 use crate::words::{
@@ -9,7 +9,7 @@ use clap::error::ErrorKind;
 use clap::{ArgMatches, Command, Error};
 use std::alloc::{AllocError, Global};
 
-// The paths that stand in words of this name, or in a file that lists them.
+// The paths: words of this name, or the lines of a list.
 fn paths_in<'a>(
     alloc: Global,
     matches: &ArgMatches<'a>,
@@ -27,7 +27,7 @@ fn links<'a>(alloc: Global, matches: &ArgMatches<'a>) -> Result<Paths<'a>, Alloc
     paths_in(alloc, matches, "LINKS", "links-from")
 }
 
-// The values of the argument that is given once or more.
+// The values of an argument.
 fn values<'a>(
     alloc: Global,
     matches: &ArgMatches<'a>,
@@ -51,7 +51,7 @@ fn nodelist_words<'a>(matches: &ArgMatches<'a>) -> Option<Words<'a>> {
     })
 }
 
-// With `--all` the first word is a link file, too.
+// With `--all` the first word is a link file too.
 fn check_words<'a>(
     alloc: Global,
     matches: &ArgMatches<'a>,
@@ -115,7 +115,7 @@ fn post_words<'a>(matches: &ArgMatches<'a>) -> Option<Words<'a>> {
     }))
 }
 
-// The words that a message is written of.
+// The words for the fields of a message.
 #[derive(Clone, Copy)]
 struct Texts<'a> {
     area: &'a str,
@@ -267,8 +267,8 @@ fn replay_words<'a>(matches: &ArgMatches<'a>, links: Paths<'a>) -> Option<Words<
 
 const LINKS_TWICE: &str = "the argument '--links-from <FILE>' cannot be used with '[LINKS]...'";
 
-// With `check --all` a list of link files is given, and link files too: the first of them stands where else
-// the tag does, so the parser takes both.
+// Whether `check --all` has both a list of link files and link files. The first of them is parsed as the tag, so the
+// parser accepts both.
 fn names_links_twice(given: &ArgMatches<'_>) -> bool {
     let list = given.get_str("links-from").is_some();
     let tag = given.get_str("TAG").is_some();
@@ -285,7 +285,7 @@ fn links_words<'a>(
     }))
 }
 
-// What the words of `post` ask for.
+// The words of a posting.
 fn posting_words<'a>(given: &ArgMatches<'a>) -> Option<Words<'a>> {
     if given.get_flag("mail") {
         post_mail_words(given)
@@ -296,7 +296,7 @@ fn posting_words<'a>(given: &ArgMatches<'a>) -> Option<Words<'a>> {
     }
 }
 
-// What the words of a command ask for.
+// The words of a command.
 fn words_of<'a>(
     alloc: Global,
     command: &str,
@@ -314,7 +314,7 @@ fn words_of<'a>(
     }
 }
 
-// The same of a command on a base.
+// The same for a command on a base.
 fn base_words<'a>(
     alloc: Global,
     command: &str,
@@ -334,14 +334,14 @@ fn base_words<'a>(
     })
 }
 
-/// What the words ask for, or why they were refused; help that was asked for is such an error too.
-/// `None` is a command that the program does not have.
+/// Parses the command line. Refused words are an error, and so is a request for help. `None` is a command that the program
+/// does not have.
 pub fn parse<'a>(alloc: Global, words: &'a [String]) -> Result<Option<Asked<'a>>, Error> {
     let mut program = command(alloc)?;
     parse_by(alloc, &mut program, words)
 }
 
-// The same by this command line.
+// The same with this parser.
 fn parse_by<'a>(
     alloc: Global,
     program: &mut Command<'a>,
@@ -357,7 +357,7 @@ fn parse_by<'a>(
     }
 }
 
-// What the words ask for that were found.
+// The words of the command in the parser's answer.
 fn matched<'a>(
     alloc: Global,
     program: &mut Command<'a>,

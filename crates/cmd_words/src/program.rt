@@ -1,4 +1,4 @@
-//! The command line of the program: all commands, and the word that any of them takes.
+//! The parser of the command line: all commands, and the word that each of them takes.
 
 use crate::commands::{CHANGING, Entry, LOOKING, PROGRAM_ENDING, READING};
 use crate::forms::subcommand;
@@ -33,7 +33,7 @@ fn with_reading<'a>(alloc: Global, program: Command<'a>) -> Result<Command<'a>, 
     with_commands(alloc, program, READING)
 }
 
-// The word that any command takes.
+// The word that each command takes.
 fn explain_word<'a>(alloc: Global) -> Arg<'a> {
     Arg::new(alloc, "explain")
         .long("explain")
@@ -42,7 +42,7 @@ fn explain_word<'a>(alloc: Global) -> Arg<'a> {
         .help("Prints why a command stopped in words, too, as on a terminal")
 }
 
-/// The program's command line: its commands and what each takes.
+/// The parser of the command line.
 pub(crate) fn command<'a>(alloc: Global) -> Result<Command<'a>, AllocError> {
     let program = Command::new(alloc, "echonet")
         .about("An echomail tosser and topology checker for FidoNet")

@@ -1,20 +1,22 @@
+//! Reports why a command line was refused.
+
 use clap::Error;
 use clap::error::ErrorKind;
 
-/// How a command line ended that asks for no command.
+/// The end of a command line that asks for no command.
 #[derive(Clone, Copy)]
 pub enum Ending {
-    /// Help or the version was asked for, and printed.
+    /// Help or the version was printed.
     Helped,
-    /// Help or the version was asked for, and could not be printed.
+    /// Help or the version could not be printed.
     CannotPrint,
-    /// There was no memory to read the words, and nothing is printed.
+    /// There was no memory to parse the words. Nothing is printed.
     OutOfMemory,
-    /// The words were refused, and why was printed to standard error.
+    /// The words were refused. The reason was printed to standard error.
     Refused,
 }
 
-/// Prints what the parser says of words that ask for no command.
+/// Prints the parser's text for words that ask for no command.
 pub fn explain<R: Print + Eprint>(rt: &R, error: &Error) -> Ending {
     if error.kind() == ErrorKind::OutOfMemory {
         return Ending::OutOfMemory;

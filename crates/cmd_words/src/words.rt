@@ -1,6 +1,6 @@
-//! What the words of a command line ask for.
+//! The parsed words of a command line.
 
-/// What the command line asks for. Paths are as given, `-` among them.
+/// The command and its words. A path can be `-`.
 #[derive(Drop)]
 pub enum Words<'a> {
     Show {
@@ -56,14 +56,14 @@ pub enum Words<'a> {
     Resend(ResendWords<'a>),
 }
 
-/// The paths of files: words, or those in a file that lists them.
+/// The paths of files: words, or the file that lists them.
 #[derive(Drop)]
 pub struct Paths<'a> {
     pub words: Vec<&'a str>,
     pub from: Option<&'a str>,
 }
 
-/// The words of `check`: without a tag, all areas. The systems `assume` are judged without a file.
+/// The words of `check`. Without a tag it judges all areas. The systems `assume` have no link file.
 #[derive(Drop)]
 pub struct CheckWords<'a> {
     pub nodelist: Option<&'a str>,
@@ -145,7 +145,7 @@ pub struct ExportWords<'a> {
     pub base: &'a str,
 }
 
-/// The words of `toss`: whether each message that is not filed has a line, how many bytes a text may have, and the files.
+/// The words of `toss`. With `each`, each message that is not filed is printed. `text_limit` is the most bytes of a text.
 #[derive(Drop)]
 pub struct TossWords<'a> {
     pub each: bool,
@@ -167,7 +167,7 @@ pub struct ResendWords<'a> {
     pub folder: &'a str,
 }
 
-/// What a command line asks for, and whether it asks for notes that explain faults.
+/// A parsed command line. With `explain`, notes explain its faults.
 #[derive(Drop)]
 pub struct Asked<'a> {
     pub words: Words<'a>,
