@@ -5,4 +5,4 @@ use Rattle.echo_toss.proofs.resending.push_resent.Goals as goal
 pub returns : goal.returns
 returns c =
     whole c.args.links.now c.args.asked.area.now c.args.asked.to c.args.message.now c.in_ok-one.one _ _ (sym c.is_whole_in.ensures ∙ c.if-not-is_whole_in.false)
-    c.in_ok-one.ensures c.in_ok-push_out.ensures
+    c.in_ok-one.ensures c.in_ok-push_copy.ensures
