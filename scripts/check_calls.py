@@ -1,6 +1,9 @@
 #!/usr/bin/env python3
 """check_calls.py: only the modules below call the system for files. All others get files by a `Disk`, a `Source` or a `Sink`, and
-their contracts say what they do with them. A module of READS changes no file. Tests may call anything."""
+their contracts say what they do with them. A module of READS changes no file. Tests may call anything.
+
+The program makes a disk of the system only to hand it to a function of OVER_ANY_DISK, which is proved for every disk. It calls
+nothing of a disk itself."""
 import glob
 import os
 import re
@@ -39,14 +42,62 @@ READS = {
     "cmd_station/running": "the bound of RealDisk, no call",
     "cmd_station/scanning": "the same",
 }
+# The functions that get the disk of the system, with their crates.
+OVER_ANY_DISK = {
+    "run_command": "station",
+    "run_scan": "station_scan",
+    "links_at": "station",
+    "lock_links": "station",
+    "log_end": "base_folder",
+    "read_snapshot": "base_folder",
+    "fill": "base_folder",
+}
 CALLS = re.compile(r"\bfs::|\brt::Files\b|\bOpenOptions\b|\bFileExt\b|\bmake_new\b|\bcreate_file\b|\bmake_file\b")
 CHANGING = re.compile(
     r"\bfs::(?:rename|remove_\w+|hard_link|copy|write|create\w*|set_permissions)\b|\bOpenOptions::new\b|\bFile::create"
     r"|\.(?:set_len|set_permissions|write_all_at|set_owner|remove_file|hard_link)\(|\bfchown\("
     r"|(?<![.\w])(?<!fn )(?<!system::)(?:make_new|create_file|make_file|write_at|remove_left)\("
 )
+# The words `disk` that only declare one.
+DECLARES = re.compile(r"\bdisk\s*:\s*(?:&mut )?D\b|\blet (?:mut )?disk\s*=\s*RealDisk::new\([\w.]+, Unknown\);")
 wrong = []
 found = set()
+taken = set()
+
+
+def caller(text, at):
+    """The name of the innermost call around this place."""
+    depth = 0
+    for i in range(at - 1, -1, -1):
+        depth += {")": 1, "(": -1}.get(text[i], 0)
+        if depth < 0:
+            front = re.sub(r"::<[^()]*>$", "", text[:i])
+            return re.search(r"[\w.:]*$", front).group()
+    return ""
+
+
+def check_disks(path, text):
+    """Each disk is handed to a function that is proved for every disk, or to one of this module."""
+    text = re.sub(r"\b(?:requires|ensures) (?:\w+ )?\{.*|^ghost use .*", "", text, flags=re.M)
+    own = set(re.findall(r"\bfn (\w+)(?:<[^()]*>)?\(\s*(?:[^()]*,\s*)?disk\s*:", text))
+    known = dict(re.findall(r"\b(\w+) as (\w+)\b", text))
+    known = {new: old for old, new in known.items()}
+    for match in re.finditer(r"\bRealDisk::new\b|\bdisk\b", DECLARES.sub("", text)):
+        name = caller(match.string, match.start())
+        name = known.get(name, name)
+        if match.group() == "disk" and re.match(r"\s*[,)]", match.string[match.end() :]):
+            if name in own:
+                continue
+            if name in OVER_ANY_DISK:
+                taken.add(name)
+                continue
+        wrong.append(f"{path}: a disk of the system goes to `{name}`, or is used there")
+
+
+for name, crate in OVER_ANY_DISK.items():
+    sources = "".join(open(it).read() for it in glob.glob(f"crates/{crate}/src/*.rt"))
+    if not re.search(rf"\bpub fn {name}\s*<[^()]*\bD: Disk\b", sources):
+        wrong.append(f"{crate} has no `{name}` over any disk")
 for path in sorted(glob.glob("crates/*/src/**/*.rt", recursive=True)):
     crate = path.split("/")[1]
     if crate.startswith("test_") or path.endswith("/lib.rt"):
@@ -54,6 +105,8 @@ for path in sorted(glob.glob("crates/*/src/**/*.rt", recursive=True)):
     module = f"{crate}/{path.split('/src/')[1][:-3]}"
     with open(path) as file:
         text = re.sub(r"//.*", "", file.read())
+    if "RealDisk" in text and crate != "disk_system":
+        check_disks(path, text)
     if not CALLS.search(text):
         continue
     found.add(module)
@@ -63,6 +116,7 @@ for path in sorted(glob.glob("crates/*/src/**/*.rt", recursive=True)):
         wrong.append(f"{path} changes files: {CHANGING.search(text).group()}")
     elif module in CHANGES and not CHANGING.search(text):
         wrong.append(f"{path} changes no file, and is listed so")
+wrong += [f"no disk of the system goes to `{name}`" for name in OVER_ANY_DISK if name not in taken]
 wrong += [f"{module} calls nothing, and is listed" for module in {**CHANGES, **READS} if module not in found]
-print("\n".join(wrong) or f"check_calls.py: {len(CHANGES)} modules change files, {len(READS)} read them")
+print("\n".join(wrong) or f"check_calls.py: {len(CHANGES)} modules change files, {len(READS)} read them; {len(taken)} functions get the disk")
 sys.exit(bool(wrong))

@@ -78,7 +78,7 @@ fn are_one_folder(rt: &HostRuntime, one: &str, other: &str) -> bool {
 }
 
 impl<'a, D: Disk> BeforeCommand<'a, FolderStore<D, SipDigest>> for Opened<'a, '_, '_> {
-    ghost stops = { λ opened fault. opened.met ≡ Some fault };
+    ghost stops = { λ old new fault. new.met ≡ Some fault };
 
     ghost lets = { λ opened. Unit {0} };
 

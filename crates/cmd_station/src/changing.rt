@@ -1,6 +1,6 @@
 //! The commands that change the base of a system, as their words ask for them. They hold the lock of its link file from
 //! before it is read until their last file stands, and wait where another run holds it.
-ghost use Rattle.std.specs.Prelude.{◌≡◌, None};
+ghost use Rattle.std.specs.Prelude.{◌≡◌, None, OnOk};
 ghost use Rattle.station.specs.Opening.{AreFree};
 
 use crate::place::{Place, Station, find_base, locks_of};
@@ -57,6 +57,7 @@ fn change_at<'a, L: FileLock, K: FileLock, W: Sink>(
     out: &mut W,
 ) -> Result<(), Fault<'a>>
     requires { AreFree (L.held locks.old.links) (K.held locks.old.base) }
+    ensures passed { OnOk result (unread.entry ≡ None) }
 {
     let before = Before {
         toss: None,

@@ -2,7 +2,7 @@
 ghost use Rattle.std.specs.Prelude.{OnOk};
 ghost use Rattle.station.specs.Opening.{AreFree};
 
-use cmd_base::{BaseFiles, FoundFolder, found_in};
+use cmd_base::{BaseFiles, FolderState, found_in};
 use cmd_input::{BaseLock, LinkLock, is_folder};
 use cmd_status::Fault;
 use disk_io::Disk;
@@ -84,7 +84,7 @@ pub fn find_base<'a, L: FileLock, K: FileLock>(
 // What is found at the path of a base.
 fn found_at<'a>(rt: &'a HostRuntime, base: &'a str) -> Result<FoundBase<'a>, Fault<'a>> {
     let (path, folder) = if is_folder(rt, base) {
-        let FoundFolder { path, found } = found_in(rt, base)?;
+        let FolderState { path, found } = found_in(rt, base)?;
         (path, Some(found))
     } else {
         (followed(rt, base)?, None)

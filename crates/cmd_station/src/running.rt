@@ -1,6 +1,7 @@
 //! A command is run on a station, whatever its base is kept in, on the files of the system. What it reads, and what it
 //! puts in place, is settled by what `run_command` does over any disk. The locks are held until what the command left
 //! beside the base is gone, and what is damaged was found.
+ghost use Rattle.std.specs.Prelude.{◌≡◌, None, OnOk};
 ghost use Rattle.disk_io.specs.Disk.{Honestly};
 ghost use Rattle.base_log.specs.Opening.{AreAlone};
 ghost use Rattle.station.specs.Opening.{AreFree};
@@ -29,7 +30,7 @@ pub struct Before<'a> {
     pub unread: Option<Fault<'a>>,
 }
 
-/// Opens the station and runs a command on it.
+/// Opens the station and runs a command on it. It does not end well where something was not read.
 pub fn run_on<'a, C: StoreCommand<'a>, L: FileLock, K: FileLock, W: Sink>(
     at: Station<'a>,
     locks: &mut Locks<L, K>,
@@ -38,6 +39,7 @@ pub fn run_on<'a, C: StoreCommand<'a>, L: FileLock, K: FileLock, W: Sink>(
     out: &mut W,
 ) -> Result<C::Answer, Fault<'a>>
     requires { AreFree (L.held locks.old.links) (K.held locks.old.base) }
+    ensures passed { OnOk result (before.entry.unread ≡ None) }
 {
     let done = match at.folder {
         Some(found) => run_on_folder(at, locks, found, before, command, out),
@@ -58,6 +60,7 @@ fn run_on_file<'a, C: StoreCommand<'a>, L: FileLock, K: FileLock, W: Sink>(
     out: &mut W,
 ) -> Result<C::Answer, CommandError<'a>>
     requires { AreFree (L.held locks.old.links) (K.held locks.old.base) }
+    ensures passed { OnOk result (before.entry.unread ≡ None) }
 {
     let done = match file_station(at, before.progress) {
         Ok(station) => run_over(at, at.files, locks, station, before.unread, command, out),
@@ -78,6 +81,7 @@ fn run_over<'a, F: Files + Drop + 'a, C: StoreCommand<'a>, L: FileLock, K: FileL
     out: &mut W,
 ) -> Result<C::Answer, CommandError<'a>>
     requires { AreFree (L.held locks.old.links) (K.held locks.old.base) }
+    ensures passed { OnOk result (unread.entry ≡ None) }
 {
     let disk = RealDisk::new(files, Unknown);
     run_unprepared(at, disk, locks, station, unread, command, out)
@@ -103,6 +107,7 @@ fn run_unprepared<
 ) -> Result<C::Answer, CommandError<'a>>
     requires free { AreFree (L.held locks.old.links) (K.held locks.old.base) }
     requires can { Honestly (D.state disk) (P.can_open station (D.state disk)) }
+    ensures passed { OnOk result (unread.entry ≡ None) }
 {
     let mut before = Unread {
         first: Nothing,
@@ -147,6 +152,7 @@ fn run_on_folder<'a, C: StoreCommand<'a>, L: FileLock, K: FileLock, W: Sink>(
     out: &mut W,
 ) -> Result<C::Answer, CommandError<'a>>
     requires { AreFree (L.held locks.old.links) (K.held locks.old.base) }
+    ensures passed { OnOk result (before.entry.unread ≡ None) }
 {
     let disk = RealDisk::new(at.rt, Unknown);
     run_opened(
@@ -172,6 +178,7 @@ fn run_opened<'a, D: Disk + Drop, C: StoreCommand<'a>, L: FileLock, K: FileLock,
 ) -> Result<C::Answer, CommandError<'a>>
     requires free { AreFree (L.held locks.old.links) (K.held locks.old.base) }
     requires alone { Honestly (D.state disk) (AreAlone station.at.path.now (D.state disk)) }
+    ensures passed { OnOk result (before.entry.unread ≡ None) }
 {
     let mut before = Unread {
         first: Opened::new(at.rt, at.place.base, before.toss),

@@ -1,4 +1,5 @@
 //! `toss`, as its words ask for it.
+ghost use Rattle.std.specs.Prelude.{◌≡◌, None, OnOk};
 ghost use Rattle.station.specs.Opening.{AreFree};
 
 use crate::place::{Place, Station, find_base, locks_of};
@@ -70,6 +71,7 @@ fn toss_at<'a, L: FileLock, K: FileLock, W: Sink>(
     out: &mut W,
 ) -> Result<Option<Fault<'a>>, Fault<'a>>
     requires { AreFree (L.held locks.old.links) (K.held locks.old.base) }
+    ensures passed { OnOk result (unread.entry ≡ None) }
 {
     let packets = PacketPaths {
         rt: at.rt,

@@ -18,10 +18,10 @@ IsSameAt old new p = new.seen p.path.now ≡ old.seen p.path.now
 
 module _ (x y : Outgoing) (apart : AreApart x y) where
   pub not_path : AtBoth x y.path.now → ⊥
-  not_path at = ⊎_elim (λ e. apart.staging_path (sym e)) (λ e. apart.paths (sym e)) at
+  not_path at = ⊎_elim (λ e. apart.staging_not_path (sym e)) (λ e. apart.paths (sym e)) at
 
   pub not_staging : AtBoth x y.staging.now → ⊥
-  not_staging at = ⊎_elim (λ e. apart.stagings (sym e)) (λ e. apart.path_staging (sym e)) at
+  not_staging at = ⊎_elim (λ e. apart.stagings (sym e)) (λ e. apart.path_not_staging (sym e)) at
 
   -- a run at the paths of x
   module _ (d e : DiskState) (run : ChangesOnly (AtBoth x) d e) where

@@ -57,7 +57,7 @@ module _ (paths : List ℕ → Type 0) where
         alone = alone;
         honest = time.honest;
         any_moment = one_call old new (DifferAt paths) (λ c m other. refl) time (λ c left.
-            let from = crash c left in (from.0, from.1, λ m other. from.2.staging m (not m other) (inl on)));
+            let from = crash c left in (from.0, from.1, λ m other. from.2.beside m (not m other) (inl on)));
       }
 
   pub then_only : (d0 d1 d2 : DiskState) → ChangesOnly paths d0 d1 → ChangesOnly paths d1 d2 → ChangesOnly paths d0 d2

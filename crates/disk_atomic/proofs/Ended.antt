@@ -19,8 +19,8 @@ pub away_back : (l k : Left) → AreAway l k → AreAway k l
 away_back l k a = record {
   paths = λ e. a.paths (sym e);
   stagings = λ e. a.stagings (sym e);
-  path_staging = λ e. a.staging_path (sym e);
-  staging_path = λ e. a.path_staging (sym e);
+  path_not_staging = λ e. a.staging_not_path (sym e);
+  staging_not_path = λ e. a.path_not_staging (sym e);
 }
 
 -- what a loop reads past the end
@@ -54,10 +54,10 @@ pub record IsSameLeft (old new : DiskState) (l : Left) : Type 0 where
 
 module _ (x y : Left) (away : AreAway x y) where
   left_not_path : AtLeft x y.path.now → ⊥
-  left_not_path at = ⊎_elim (λ e. away.staging_path (sym e)) (λ e. away.paths (sym e)) at
+  left_not_path at = ⊎_elim (λ e. away.staging_not_path (sym e)) (λ e. away.paths (sym e)) at
 
   left_not_staging : AtLeft x y.staging.now → ⊥
-  left_not_staging at = ⊎_elim (λ e. away.stagings (sym e)) (λ e. away.path_staging (sym e)) at
+  left_not_staging at = ⊎_elim (λ e. away.stagings (sym e)) (λ e. away.path_not_staging (sym e)) at
 
   module _ (d e : DiskState) (run : ChangesOnly (AtLeft x) d e) where
     pub still_named : AreNamed d y → AreNamed e y
@@ -166,11 +166,11 @@ removed_finishes cursor l le other old new named time crash =
     one_call old new (Finishes cursor l) (λ c. record { others = λ m out. refl; ends = ends_same cursor c c l refl refl }) time
     (λ c left.
     let from = crash c left in
-    let path : c l.path.now ≡ from.0 l.path.now = from.2.staging l.path.now (λ e. other (sym e)) (inl named) in (
+    let path : c l.path.now ≡ from.0 l.path.now = from.2.beside l.path.now (λ e. other (sym e)) (inl named) in (
       from.0,
       from.1,
       record {
-        others = λ m out. from.2.staging m (λ e. out (inl e)) (inl named);
+        others = λ m out. from.2.beside m (λ e. out (inl e)) (inl named);
         ends = record { committed = λ lt. absurd (omega arith); untouched = λ is. path; either = inl path };
       },
     ))

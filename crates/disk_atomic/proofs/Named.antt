@@ -20,8 +20,8 @@ module _ (path staging : List ℕ) (other : staging ≢ path) where
         from.0,
         from.1,
         record {
-          others = λ m out. from.2.staging m (λ e. out (inr e)) (inl free);
-          stands = inr (from.2.staging staging other (inl free));
+          others = λ m out. from.2.beside m (λ e. out (inr e)) (inl free);
+          stands = inr (from.2.beside staging other (inl free));
           either = ⊎_elim (λ same. inl same) (λ new. inr (new ∙ sym there)) (from.2.within free);
         },
       ))
@@ -34,8 +34,8 @@ module _ (path staging : List ℕ) (other : staging ≢ path) where
       let step = ChangesFile d1 staging TornRemoval in
       then_steps d0 d1 d2 R step R run (one_call d1 d2 step (ChangesFile-none d1 staging TornRemoval (λ f. inl refl)) time crash) (λ a b r. r)
       (λ a b c at left r q.
-      let same : c path ≡ a staging = q.staging path (λ e. other (sym e)) (inl still) ∙ d1.on_disk path path_named path_flushed b left ∙ is ∙ sym (d0.on_disk staging named flushed a at) in
-      record { others = λ m out. q.staging m (λ e. out (inl e)) (inl still) ∙ r.others m out; stands = inl same; either = inr same })
+      let same : c path ≡ a staging = q.beside path (λ e. other (sym e)) (inl still) ∙ d1.on_disk path path_named path_flushed b left ∙ is ∙ sym (d0.on_disk staging named flushed a at) in
+      record { others = λ m out. q.beside m (λ e. out (inl e)) (inl still) ∙ r.others m out; stands = inl same; either = inr same })
 
 -- a link is such a call
 pub link_gives : (path staging : List ℕ) → staging ≢ path → (old new : DiskState) → old.is_named staging → old.is_flushed staging → old.is_named path → SameBeside path old.seen new.seen

@@ -13,8 +13,8 @@ pub apart_back : (p q : Outgoing) → AreApart p q → AreApart q p
 apart_back p q a = record {
   paths = λ e. a.paths (sym e);
   stagings = λ e. a.stagings (sym e);
-  path_staging = λ e. a.staging_path (sym e);
-  staging_path = λ e. a.path_staging (sym e);
+  path_not_staging = λ e. a.staging_not_path (sym e);
+  staging_not_path = λ e. a.path_not_staging (sym e);
 }
 
 -- what a loop reads past the end
@@ -60,5 +60,5 @@ path_not_staging folder packets placed k z lt (p, (j, within, is), at) =
     let at_j : (get_or packets k z).path.now ≡ (get_or packets j z).staging.now = at ∙ ap (λ (q : Outgoing). q.staging.now) (sym here) in
     ⊎_elim
     (λ (e : k ≡ j). (placed.each k z lt).other (ap (λ (n : ℕ). (get_or packets n z).staging.now) e ∙ sym at_j))
-    (λ o. ⊎_elim (λ (e : k < j). (placed.apart k j z e within).path_staging at_j) (λ (e : j < k). (placed.apart j k z e lt).staging_path (sym at_j)) o)
+    (λ o. ⊎_elim (λ (e : k < j). (placed.apart k j z e within).path_not_staging at_j) (λ (e : j < k). (placed.apart j k z e lt).staging_not_path (sym at_j)) o)
     (cases_order k j)

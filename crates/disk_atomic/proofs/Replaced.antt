@@ -32,7 +32,7 @@ module _ (path staging bytes : List ℕ) where
           from.0,
           from.1,
           record {
-            others = λ m out. from.2.staging m (λ e. out (inl e)) (λ e. out (inr e)) (inl (is.named, named));
+            others = λ m out. from.2.beside m (λ e. out (inl e)) (λ e. out (inr e)) (inl (is.named, named));
             either = ⊎_elim (λ same. inl same.1) (λ moved. inr (moved.1 ∙ is.seen)) (from.2.both is.named named);
           },
         ))

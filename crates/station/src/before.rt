@@ -8,10 +8,10 @@ use cmd_status::Fault;
 
 /// Work of a program on an open store before the command: it may look at the store, and stop the command.
 pub trait BeforeCommand<'a, S: Store> {
-    // Why it stopped a command.
-    ghost stops: { Self → TheFault → Type 0 };
+    // Why it stopped a command, from before and after.
+    ghost stops: { Self → Self → TheFault → Type 0 };
 
-    // Whether it lets the command run.
+    // Whether it lets the command run, from before.
     ghost lets: { Self → Type 0 };
 
     /// Gets the store, under the locks of the command.
@@ -19,8 +19,8 @@ pub trait BeforeCommand<'a, S: Store> {
         requires { (S.state store.old).is_ready }
         ensures looks { LooksOn (S.state store.old) (S.state store.new) }
         ensures later { S.failures store.old ≤ S.failures store.new }
-        ensures stopped { IfErr result (stops self.new) }
-        ensures passed { OnOk result (lets self.new) };
+        ensures stopped { IfErr result (stops self.old self.new) }
+        ensures passed { OnOk result (lets self.old) };
 }
 
 /// Does nothing before the command.
@@ -28,7 +28,7 @@ pub trait BeforeCommand<'a, S: Store> {
 pub struct Nothing;
 
 impl<'a, S: Store> BeforeCommand<'a, S> for Nothing {
-    ghost stops = { λ _ fault. ⊥ };
+    ghost stops = { λ _ _ fault. ⊥ };
 
     ghost lets = { λ _. Unit {0} };
 
@@ -45,7 +45,7 @@ pub struct Unread<'a, Q> {
 }
 
 impl<'a, S: Store, Q: BeforeCommand<'a, S>> BeforeCommand<'a, S> for Unread<'a, Q> {
-    ghost stops = { λ unread fault. Q.stops unread.first fault ⊎ (unread.fault ≡ Some fault) };
+    ghost stops = { λ old new fault. Q.stops old.first new.first fault ⊎ (old.fault ≡ Some fault) };
 
     ghost lets = { λ unread. Q.lets unread.first × (unread.fault ≡ None) };
 

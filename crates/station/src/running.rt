@@ -52,11 +52,11 @@ pub fn run_command<
         (P.place station)
         (P.reads station (D.state disk))
         (P.is_shut station failed (D.state disk) (D.state result.disk))
-        (Q.stops before.new)
+        (Q.stops before.old before.new)
         failed (D.state disk) (D.state result.disk)
         (output_of W.contents W.failures W.holds out.old) (output_of W.contents W.failures W.holds out.new) result.done) }
     ensures elsewhere { KeepsElsewhere (P.place station) (D.state disk) (D.state result.disk) }
-    ensures passed { OnOk result.done (Q.lets before.new) }
+    ensures passed { OnOk result.done (Q.lets before.old) }
 {
     match station.open(alloc, disk, locks) {
         Ok(opened) => {

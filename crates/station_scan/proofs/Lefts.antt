@@ -171,8 +171,8 @@ module _ (paths : List LeftPaths) (found : List Left) (lent : AreLent paths foun
         record {
           paths = λ e. four.paths (sym (one.path ∙ path_p) ∙ e ∙ other.path ∙ path_q);
           stagings = λ e. four.stagings (sym staging_p ∙ e ∙ staging_q);
-          staging_path = λ e. four.path_staging_other (sym (one.path ∙ path_p) ∙ e ∙ staging_q);
-          staging_path = λ e. four.staging_path (sym staging_p ∙ e ∙ other.path ∙ path_q);
+          path_not_staging = λ e. four.path_staging_other (sym (one.path ∙ path_p) ∙ e ∙ staging_q);
+          staging_not_path = λ e. four.staging_not_path (sym staging_p ∙ e ∙ other.path ∙ path_q);
         }
 
     pub are_left_in : AreLeftIn folder found
@@ -220,7 +220,7 @@ pub left_of_name : (Own : List ℕ → Type 0) (folder own : List ℕ) (named : 
 left_of_name Own folder own named paths are m (w, is, at) =
     let (p, listed, like) = All-contains (IsFound Own folder own named) paths w are.each is in (
       (p.name, like.plain, ⊎_elim (λ e. inl (e ∙ ap (λ (t : TwoPaths). t.staging) like.two)) (λ e. inr (e ∙ ap (λ (t : TwoPaths). t.path) like.two)) at),
-      λ o. ⊎_elim (λ (e : m ≡ w.two.staging). like.off.staging_path (subst Own e o)) (λ (e : m ≡ w.two.path). like.off.path (subst Own e o)) at,
+      λ o. ⊎_elim (λ (e : m ≡ w.two.staging). like.off.staging (subst Own e o)) (λ (e : m ≡ w.two.path). like.off.path (subst Own e o)) at,
     )
 
 -- what was seen before is the same

@@ -23,14 +23,14 @@ pub record AreFourApart (folder own n k : List ℕ) : Type 0 where
   pub paths : folder ++ n ≢ folder ++ k
   pub stagings : staging_path (folder ++ n) own ≢ staging_path (folder ++ k) own
   pub path_staging_other : folder ++ n ≢ staging_path (folder ++ k) own
-  pub staging_path : staging_path (folder ++ n) own ≢ folder ++ k
+  pub staging_not_path : staging_path (folder ++ n) own ≢ folder ++ k
 
 pub four_apart : (folder own n k : List ℕ) → All IsNameByte n → All IsNameByte k → folder ++ n ≢ folder ++ k → AreFourApart folder own n k
 four_apart folder own n k is_n is_k other = record {
   paths = other;
   stagings = λ e. other (append_cancel_right (folder ++ n) (folder ++ k) (ending own) e);
   path_staging_other = λ e. not_staging own n k is_n (append_cancel_left folder n (k ++ ending own) (e ∙ append_assoc folder k (ending own)));
-  staging_path = λ e. not_staging own k n is_k (append_cancel_left folder k (n ++ ending own) (sym e ∙ append_assoc folder n (ending own)));
+  staging_not_path = λ e. not_staging own k n is_k (append_cancel_left folder k (n ++ ending own) (sym e ∙ append_assoc folder n (ending own)));
 }
 
 -- the path that is tried is in the folder, and no packet's

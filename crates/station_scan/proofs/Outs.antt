@@ -43,7 +43,7 @@ is_ended cursor d0 d1 l over = record {
 left_off : (Own : List ℕ → Type 0) (is_true : Type 0) (outbound own : List ℕ) (found : List Left) → All (IsLeftOf is_true Own outbound own) found → (m : List ℕ) → Own m → IsOfLeft found m → ⊥
 left_off Own is_true outbound own found each m is (l, among, at) =
     let (name, like, numbered) = All-contains (IsLeftOf is_true Own outbound own) found l each among in
-    ⊎_elim (λ e. like.off.staging_path (subst Own (e ∙ like.staging) is)) (λ e. like.off.path (subst Own (e ∙ like.path) is)) at
+    ⊎_elim (λ e. like.off.staging (subst Own (e ∙ like.staging) is)) (λ e. like.off.path (subst Own (e ∙ like.path) is)) at
 
 module _ (Own : List ℕ → Type 0) (outbound own : List ℕ) (is_true failed : Type 0) (cursor : ℕ) (files : List PacketFile) (s0 s1 : StoreState) (inside : (m : List ℕ) → s0.is_own m → Own m)
     (used : IsUsedAt (IsOfNameOff Own outbound own) s0 s1) (ready : s0.is_ready) (honest0 : s0.disk.is_honest) (first next : Base) (was : s0.committed first) where

@@ -36,7 +36,7 @@ module _ (Own Own2 : List ℕ → Type 0) (out : (m : List ℕ) → Own2 m → O
       path = like.path;
       staging = like.staging;
       plain = like.plain;
-      off = record { path = λ o. like.off.path (out _ o); staging_path = λ o. like.off.staging_path (out _ o) };
+      off = record { path = λ o. like.off.path (out _ o); staging = λ o. like.off.staging (out _ o) };
     },
     numbered,
   )
@@ -45,7 +45,7 @@ module _ (Own Own2 : List ℕ → Type 0) (out : (m : List ℕ) → Own2 m → O
   all_left_as is_true files found into all truth name before numbered to =
       all truth name before numbered (record {
         plain = to.plain;
-        off = record { path = λ o. to.off.path (into _ o); staging_path = λ o. to.off.staging_path (into _ o) };
+        off = record { path = λ o. to.off.path (into _ o); staging = λ o. to.off.staging (into _ o) };
         there = to.there;
       })
 
@@ -53,14 +53,14 @@ module _ (Own Own2 : List ℕ → Type 0) (out : (m : List ℕ) → Own2 m → O
   fit_as files fit into = record {
     names = fit.names;
     differ = fit.differ;
-    off = λ k z lt. let off = fit.off k z lt in record { path = λ o. off.path (into _ o); staging_path = λ o. off.staging_path (into _ o) };
+    off = λ k z lt. let off = fit.off k z lt in record { path = λ o. off.path (into _ o); staging = λ o. off.staging (into _ o) };
     trial = λ o. fit.trial (into _ o);
   }
 
   -- what has a path
   taken_as : (cursor : ℕ) (found : List Left) (files : List PacketFile) (seen : Files) → ((m : List ℕ) → Own m → Own2 m) → IsTaken Own outbound own cursor found files seen → IsTaken Own2 outbound own cursor found files seen
   taken_as cursor found files seen into (inl left) =
-      inl (λ free. left (λ name to. free name (record { plain = to.plain; off = record { path = λ o. to.off.path (out _ o); staging_path = λ o. to.off.staging_path (out _ o) }; there = to.there })))
+      inl (λ free. left (λ name to. free name (record { plain = to.plain; off = record { path = λ o. to.off.path (out _ o); staging = λ o. to.off.staging (out _ o) }; there = to.there })))
   taken_as cursor found files seen into (inr (between, ended, same, taken)) =
       inr (between, ended, same, ⊎_elim (λ held. inl held) (λ unfit. inr (λ fit. unfit (fit_as files fit into))) taken)
 

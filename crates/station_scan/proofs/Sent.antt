@@ -67,8 +67,8 @@ module _ (folder own : List ℕ) (files : List PacketFile) (paths : List TwoPath
         record {
           paths = λ e. four.paths (sym one.path ∙ e ∙ other.path);
           stagings = λ e. four.stagings (sym one.staging ∙ e ∙ other.staging);
-          staging_path = λ e. four.path_staging_other (sym one.path ∙ e ∙ other.staging);
-          staging_path = λ e. four.staging_path (sym one.staging ∙ e ∙ other.path);
+          path_not_staging = λ e. four.path_staging_other (sym one.path ∙ e ∙ other.staging);
+          staging_not_path = λ e. four.staging_not_path (sym one.staging ∙ e ∙ other.path);
         }
 
     -- each goes to two paths of the folder
@@ -95,7 +95,7 @@ module _ (folder own : List ℕ) (files : List PacketFile) (paths : List TwoPath
       let at : IsOffOwn Own (file_paths folder own (get_or files k no_file)) = subst (IsOffOwn Own) (at_paths k no_file high) (off k t (has_paths k high)) in
       record {
         path = λ o. at.path (subst Own is.path o);
-        staging = λ o. at.staging_path (subst Own is.staging o);
+        staging = λ o. at.staging (subst Own is.staging o);
       }
 
   -- what has its path

@@ -22,8 +22,8 @@ use model_steps::Stamp;
 use station::{BeforeCommand, FileLock, LendStation, Locks, MessageProgress, OpenStation, Opened};
 use std::alloc::Global;
 
-/// A scan: its stamp, the folder of packets (a path that ends in a slash, or an empty one), a list of what earlier
-/// scans left there, and a progress report.
+/// A scan: its stamp, its folder of packets, a list of what earlier scans left there, and a progress report. The folder
+/// is a path that ends in a slash, or is empty.
 #[derive(Drop)]
 pub struct Scan<'s, G, T> {
     pub stamp: Stamp,
@@ -39,9 +39,9 @@ pub struct Scanned<'a, D> {
     pub done: Result<(), ScanError<'a>>,
 }
 
-/// `scan --at STAMP LINKS BASE DIR`: prints the lines of the packets of the waiting messages. It names or removes
-/// what earlier scans left in the folder of packets, writes the packets there, and moves the cursor to the end of the
-/// base. No path of a packet may belong to the station.
+/// `scan --at STAMP LINKS BASE DIR`: prints the lines of the packets of the waiting messages. It names or removes what
+/// earlier scans left in the folder of packets. Then it writes the packets there, and moves the cursor to the end of
+/// the base. No path of a packet may belong to the station.
 pub fn run_scan<
     'a,
     's,
@@ -67,11 +67,11 @@ pub fn run_scan<
     ensures locked { P.is_locked station (L.held locks.new.links) (K.held locks.new.base) ⊎ ChangesNothing (D.state disk) (D.state result.disk) }
     ensures runs { let failed = HaveFailed (D.failures disk) (D.failures result.disk) (L.failures locks.old.links) (L.failures locks.new.links) (K.failures locks.old.base) (K.failures locks.new.base) in
         Honestly (D.state result.disk) (ScansIn scan.old.stamp (P.place station) scan.old.outbound.now (G.is_true scan.new.listing) (P.reads station (D.state disk))
-        (P.is_shut station failed (D.state disk) (D.state result.disk)) (Q.stops before.new)
+        (P.is_shut station failed (D.state disk) (D.state result.disk)) (Q.stops before.old before.new)
         (failed ⊎ Failed (G.failures scan.old.listing) (G.failures scan.new.listing)) (D.state disk) (D.state result.disk)
         (output_of W.contents W.failures W.holds out.old) (output_of W.contents W.failures W.holds out.new) result.done) }
     ensures keeps { UnchangedExcept (IsTouched (P.place station).is_own scan.old.outbound.now) (D.state disk) (D.state result.disk) }
-    ensures passed { OnOk result.done (Q.lets before.new) }
+    ensures passed { OnOk result.done (Q.lets before.old) }
 {
     let paths = station.paths();
     match station.open(alloc, disk, locks) {

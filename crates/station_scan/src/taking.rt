@@ -46,7 +46,7 @@ pub(crate) fn take_waiting<'a, S: Store, T: MessageProgress, W: Sink>(
     ensures cause { HasStoreCause (S.state store) (S.state result.store) (S.failures store) (S.failures result.store) (store_answer result.files) }
 {
     let mut reported = ReportedStore { store, watch };
-    let files = scan_on(alloc, stamp, links, &mut watched, out);
+    let files = scan_on(alloc, stamp, links, &mut reported, out);
     let ReportedStore { store, .. } = reported;
     Taken { store, files }
 }

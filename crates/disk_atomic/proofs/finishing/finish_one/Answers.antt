@@ -23,7 +23,7 @@ removed : (g : given.Over) (c : After-remove g) → ChangesOnly (AtLeft c.args.l
 removed g c =
     let l = c.args.left.now in
     let now = c.remove.ensures in
-    only_call (AtLeft l) (g.D.Disk.state c.args.disk.now) (g.D.Disk.state c.remove.new.self) l.staging.now TornRemoval (inl refl) c.requires.named.staging now.staging now.crash
+    only_call (AtLeft l) (g.D.Disk.state c.args.disk.now) (g.D.Disk.state c.remove.new.self) l.staging.now TornRemoval (inl refl) c.requires.named.staging now.beside now.crash
     (λ m out. now.named m (λ e. out (inl e))) (λ m out. now.flushed m (λ e. out (inl e))) (λ m out. now.alone m (λ e. out (inl e))) now.time
 
 removal : (g : given.Over) (c : After-remove g) → LeavesOnly (g.D.Disk.state c.args.disk.now) (g.D.Disk.state c.remove.new.self) (OneStepOn (Finishes c.args.cursor c.args.left.now) (g.D.Disk.state c.args.disk.now))
@@ -49,14 +49,14 @@ returns-then-left-cursor-clause-over g c honest is =
     record {
       committed = λ lt. absurd (omega (arith, c.if-left-cursor.true));
       gone = λ le. c.in_ok-remove.ensures.gone;
-      untouched = λ le. now.staging l.path.now (λ e. c.requires.placed.other (sym e));
+      untouched = λ le. now.beside l.path.now (λ e. c.requires.placed.other (sym e));
     }
 
 pub returns-then-left-cursor-clause-kept : goal.returns-then-left-cursor-clause-kept
 returns-then-left-cursor-clause-kept g c honest some =
     let l = c.args.left.now in
     let now = c.remove.ensures in
-    now.staging l.path.now (λ e. c.requires.placed.other (sym e))
+    now.beside l.path.now (λ e. c.requires.placed.other (sym e))
 
 pub returns-in_err-sync-clause-changes : goal.returns-in_err-sync-clause-changes
 returns-in_err-sync-clause-changes g c =

@@ -5,4 +5,4 @@ pub returns-clause-gives : goal.returns-clause-gives
 returns-clause-gives g c =
     let now = c.link.ensures in
     link_gives c.args.path.now c.args.staging.now c.requires.other (g.D.Disk.state c.args.disk.now) (g.D.Disk.state c.link.new.self) c.requires.staging_named c.requires.durable c.requires.path_named
-    now.staging now.crash now.named now.flushed now.alone now.time
+    now.beside now.crash now.named now.flushed now.alone now.time

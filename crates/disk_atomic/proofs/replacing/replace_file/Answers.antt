@@ -50,7 +50,7 @@ renamed g c =
     let staged = c.in_ok-stage_file.ensures in
     let now = c.rename.ensures in
     then_only both d0 d1 d2 (wider few both d0 d1 (λ m is. inl is) c.stage_file.ensures.changes) (record {
-      seen = λ m out. now.staging m (λ e. out (inl e)) (λ e. out (inr e));
+      seen = λ m out. now.beside m (λ e. out (inl e)) (λ e. out (inr e));
       named = now.named;
       flushed = now.flushed;
       alone = now.alone;

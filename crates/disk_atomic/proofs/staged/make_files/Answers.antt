@@ -33,7 +33,7 @@ made g c =
     let e = g.D.Disk.state c.create.new.self in
     let now = c.create.ensures in
     let named = subst (IsStagingNamed d) (sym c.packet-item.is) (here (IsStagingNamed d) packets i z lt c.packets.invariant.named) in
-    subst (λ (p : Outgoing). ChangesOnly (At p) d e) c.packet-item.is (only_call (At z) d e z.staging.now TornMaking refl named now.staging now.crash now.named now.flushed now.alone now.time)
+    subst (λ (p : Outgoing). ChangesOnly (At p) d e) c.packet-item.is (only_call (At z) d e z.staging.now TornMaking refl named now.beside now.crash now.named now.flushed now.alone now.time)
 
 pub packets-preserved : goal.packets-preserved
 packets-preserved g c =

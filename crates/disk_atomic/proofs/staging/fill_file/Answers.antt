@@ -13,7 +13,7 @@ written g c =
     let path = c.args.path.now in
     let now = c.write_at.ensures in
     only_call (λ (m : List ℕ). m ≡ path) (g.D.Disk.state c.args.disk.now) (g.D.Disk.state c.write_at.new.self) path (TornWrite 0 (length c.args.bytes.now)) refl c.requires.named
-    now.staging now.crash (λ m other. now.named m (λ h. h)) now.flushed (λ m other. now.alone m (λ h. h)) now.time
+    now.beside now.crash (λ m other. now.named m (λ h. h)) now.flushed (λ m other. now.alone m (λ h. h)) now.time
 
 pub returns-in_err-write_at-clause-changes : goal.returns-in_err-write_at-clause-changes
 returns-in_err-write_at-clause-changes g c = written g (goal.at.returns-in_err-write_at-clause-changes g c).After-write_at

@@ -29,7 +29,7 @@ created g c =
     let d2 = g.D.Disk.state c.create.new.self in
     let now = c.create.ensures in
     then_only at d0 d1 d2 (only_nothing at d0 d1 c.sync_folder_of.ensures.quiet)
-    (only_call at d1 d2 path TornMaking refl (c.in_ok-sync_folder_of.ensures.durable path c.requires) now.staging now.crash now.named now.flushed now.alone now.time)
+    (only_call at d1 d2 path TornMaking refl (c.in_ok-sync_folder_of.ensures.durable path c.requires) now.beside now.crash now.named now.flushed now.alone now.time)
 
 flushed : (g : given.Over) (c : After-sync_folder_of-2 g) → ChangesOnly (λ m. m ≡ c.args.path.now) (g.D.Disk.state c.args.disk.now) (g.D.Disk.state c.create.new.self)
     → ChangesOnly (λ m. m ≡ c.args.path.now) (g.D.Disk.state c.args.disk.now) (g.D.Disk.state c.sync_folder_of-2.new.disk)

@@ -15,7 +15,7 @@ removed g c =
     let d2 = g.D.Disk.state c.remove.new.self in
     let now = c.remove.ensures in
     then_only at d0 d1 d2 (only_nothing at d0 d1 c.exists.ensures.quiet)
-    (only_call at d1 d2 path TornRemoval refl (c.exists.ensures.quiet.named path (λ h. h) c.requires.named) now.staging now.crash now.named now.flushed now.alone now.time)
+    (only_call at d1 d2 path TornRemoval refl (c.exists.ensures.quiet.named path (λ h. h) c.requires.named) now.beside now.crash now.named now.flushed now.alone now.time)
 
 pub returns-in_err-remove-clause-changes : goal.returns-in_err-remove-clause-changes
 returns-in_err-remove-clause-changes g c = removed g (goal.at.returns-in_err-remove-clause-changes g c).After-remove
