@@ -86,8 +86,7 @@ fn packet_to(
     requires { is_stamp stamp ≡ true }
     ensures { IfOk result (λ packet. packet ≡ packet_out links.now stamp outgoing.now address) }
 {
-    let copies = outgoing.iter().filter(|one| goes_to(*one, address)).count();
-    let mut messages = Vec::with_capacity(alloc, copies)?;
+    let mut messages = Vec::new(alloc);
     'outgoing: for one in outgoing {
         push_copy(address, one, &mut messages)?;
     }
