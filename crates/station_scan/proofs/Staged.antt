@@ -1,7 +1,7 @@
 -- Packets that stand beside their paths, while a path is tried with the first of them.
-use Rattle.std.proofs.Common.{◌≡◌, ◌≢◌, ◌⊎◌, inl, inr, ⊎_elim, ◌∙◌, ◌<◌, ◌≤◌, ◌==◌, ℕ, List, ap, arith, false, get_or, length, subst, sym}
+use Rattle.std.proofs.Common.{◌≡◌, ◌≢◌, ◌⊎◌, inl, inr, ⊎_elim, ◌∙◌, ◌<◌, ◌≤◌, ℕ, List, ap, arith, get_or, length, subst, sym}
 use Rattle.std.specs.Prelude.{All, Contains}
-use Rattle.std.proofs.lemmas.Bool.{cases_lt, eqb-false}
+use Rattle.std.proofs.lemmas.Bool.{cases_lt}
 use Rattle.std.proofs.lemmas.List.{get_or_default}
 use Rattle.std.proofs.lemmas.List.Elements.{All-contains, Contains-get_or}
 use Rattle.disk_io.specs.Disk.{DiskState}
@@ -12,10 +12,6 @@ use Rattle.disk_atomic.specs.declared.outgoing.Outgoing.{Outgoing}
 use Rattle.disk_atomic.proofs.Changes.{stays_on_disk, wider}
 use Rattle.disk_atomic.proofs.Packets.{path_not_staging}
 use Rattle.station_scan.specs.Publishing.{IsTrial}
-
--- a list that is not empty has a first
-pub has_first : {X : Type 0} (xs : List X) → (length xs == 0) ≡ false → 0 < length xs
-has_first xs some = let not : length xs ≢ 0 = eqb-false _ _ some in omega arith
 
 -- it was tried after a run at these paths
 pub tried_after : {D : Type 0} (state : D → DiskState) (few paths : List ℕ → Type 0) (trial : List ℕ) (d0 d1 : DiskState) → ((m : List ℕ) → few m → paths m) → DifferAt paths d0.seen d1.seen

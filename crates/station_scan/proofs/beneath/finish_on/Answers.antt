@@ -7,15 +7,30 @@ use Rattle.station_scan.proofs.beneath.finish_on.Goals as goal
 
 pub give_back-store-requires : goal.give_back-store-requires
 give_back-store-requires g c κs =
+    let s0 = g.P.Kept.Store.state c.args.store in
+    let disk = c.lend-disk.result.0 in
+    let rest = c.lend-disk.result.1 in
+    let back = c.finish_left-done.new.disk in
+    let a = g.P.LendStation.store_on rest disk in
+    let b = g.P.LendStation.store_on rest back in
+    let d0 = g.D.Disk.state disk in
+    let d1 = g.D.Disk.state back in
     let lent = c.lend-disk.ensures in
-    ((refl, tt), (held (IsOfNameOff (g.P.Paths.OwnPaths.is_own c.args.paths.now) c.args.sending.outbound.now c.args.sending.own.now) _ _ _ _ _ lent.looks lent.quiet (lent.back c.finish_left-done.new.disk)
-    (λ m own at. at.1 (c.requires.own m own)) c.finish_left-done.ensures.changes).ready)
+    ((refl, tt), (held (IsOfNameOff (g.P.Paths.OwnPaths.is_own c.args.paths.now) c.args.sending.outbound.now c.args.sending.own.now) s0 a b d0 d1 lent.looks lent.quiet (lent.back back) (λ m own at. at.1 (c.requires.own m own)) c.finish_left-done.ensures.changes).ready)
 
 pub returns-clause-used : goal.returns-clause-used
 returns-clause-used g c =
+    let s0 = g.P.Kept.Store.state c.args.store in
+    let disk = c.lend-disk.result.0 in
+    let rest = c.lend-disk.result.1 in
+    let back = c.finish_left-done.new.disk in
+    let a = g.P.LendStation.store_on rest disk in
+    let b = g.P.LendStation.store_on rest back in
+    let d0 = g.D.Disk.state disk in
+    let d1 = g.D.Disk.state back in
     let lent = c.lend-disk.ensures in
-    used (IsOfNameOff (g.P.Paths.OwnPaths.is_own c.args.paths.now) c.args.sending.outbound.now c.args.sending.own.now) _ _ _ _ _ lent.looks lent.quiet (lent.back c.finish_left-done.new.disk)
-    (λ m own at. at.1 (c.requires.own m own)) c.finish_left-done.ensures.changes _ c.give_back-store.ensures.looks c.give_back-store.ensures.quiet
+    let s1 = g.P.Kept.Store.state c.give_back-store.result in
+    used (IsOfNameOff (g.P.Paths.OwnPaths.is_own c.args.paths.now) c.args.sending.outbound.now c.args.sending.own.now) s0 a b d0 d1 lent.looks lent.quiet (lent.back back) (λ m own at. at.1 (c.requires.own m own)) c.finish_left-done.ensures.changes s1 c.give_back-store.ensures.looks c.give_back-store.ensures.quiet
 
 pub returns-clause-ends : goal.returns-clause-ends
 returns-clause-ends g c = λ honest.

@@ -8,15 +8,30 @@ use Rattle.station_scan.proofs.beneath.name_on.Goals as goal
 
 pub give_back-store-requires : goal.give_back-store-requires
 give_back-store-requires g c κs =
+    let s0 = g.P.Kept.Store.state c.args.store in
+    let disk = c.lend-disk.result.0 in
+    let rest = c.lend-disk.result.1 in
+    let back = c.name_packets-done.new.disk in
+    let a = g.P.LendStation.store_on rest disk in
+    let b = g.P.LendStation.store_on rest back in
+    let d0 = g.D.Disk.state disk in
+    let d1 = g.D.Disk.state back in
     let lent = c.lend-disk.ensures in
-    ((refl, tt), (held (IsOfOne c.args.packets.now) _ _ _ _ _ lent.looks lent.quiet (lent.back c.name_packets-done.new.disk)
-    (own_not_of (g.P.Kept.Store.state c.args.store) c.args.packets.now c.requires.apart) c.name_packets-done.ensures.changes).ready)
+    ((refl, tt), (held (IsOfOne c.args.packets.now) s0 a b d0 d1 lent.looks lent.quiet (lent.back back) (own_not_of s0 c.args.packets.now c.requires.apart) c.name_packets-done.ensures.changes).ready)
 
 pub returns-clause-used : goal.returns-clause-used
 returns-clause-used g c =
+    let s0 = g.P.Kept.Store.state c.args.store in
+    let disk = c.lend-disk.result.0 in
+    let rest = c.lend-disk.result.1 in
+    let back = c.name_packets-done.new.disk in
+    let a = g.P.LendStation.store_on rest disk in
+    let b = g.P.LendStation.store_on rest back in
+    let d0 = g.D.Disk.state disk in
+    let d1 = g.D.Disk.state back in
     let lent = c.lend-disk.ensures in
-    used (IsOfOne c.args.packets.now) _ _ _ _ _ lent.looks lent.quiet (lent.back c.name_packets-done.new.disk)
-    (own_not_of (g.P.Kept.Store.state c.args.store) c.args.packets.now c.requires.apart) c.name_packets-done.ensures.changes _ c.give_back-store.ensures.looks c.give_back-store.ensures.quiet
+    let s1 = g.P.Kept.Store.state c.give_back-store.result in
+    used (IsOfOne c.args.packets.now) s0 a b d0 d1 lent.looks lent.quiet (lent.back back) (own_not_of s0 c.args.packets.now c.requires.apart) c.name_packets-done.ensures.changes s1 c.give_back-store.ensures.looks c.give_back-store.ensures.quiet
 
 pub name_packets-done-requires-clause-staged : goal.name_packets-done-requires-clause-staged
 name_packets-done-requires-clause-staged g c =

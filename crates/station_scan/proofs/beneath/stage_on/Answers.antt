@@ -9,15 +9,30 @@ use Rattle.station_scan.proofs.beneath.stage_on.Goals as goal
 
 pub give_back-store-requires : goal.give_back-store-requires
 give_back-store-requires g c κs =
+    let s0 = g.P.Kept.Store.state c.args.store in
+    let disk = c.lend-disk.result.0 in
+    let rest = c.lend-disk.result.1 in
+    let back = c.stage_or_drop-done.new.disk in
+    let a = g.P.LendStation.store_on rest disk in
+    let b = g.P.LendStation.store_on rest back in
+    let d0 = g.D.Disk.state disk in
+    let d1 = g.D.Disk.state back in
     let lent = c.lend-disk.ensures in
-    ((refl, tt), (held (IsAtStaging c.args.packets.now c.args.trial.now) _ _ _ _ _ lent.looks lent.quiet (lent.back c.stage_or_drop-done.new.disk)
-    (own_not_staging (g.P.Kept.Store.state c.args.store) c.args.outbound.now c.args.trial.now c.args.packets.now c.requires.going) c.stage_or_drop-done.ensures.changes).ready)
+    ((refl, tt), (held (IsAtStaging c.args.packets.now c.args.trial.now) s0 a b d0 d1 lent.looks lent.quiet (lent.back back) (own_not_staging s0 c.args.outbound.now c.args.trial.now c.args.packets.now c.requires.going) c.stage_or_drop-done.ensures.changes).ready)
 
 pub returns-clause-used : goal.returns-clause-used
 returns-clause-used g c =
+    let s0 = g.P.Kept.Store.state c.args.store in
+    let disk = c.lend-disk.result.0 in
+    let rest = c.lend-disk.result.1 in
+    let back = c.stage_or_drop-done.new.disk in
+    let a = g.P.LendStation.store_on rest disk in
+    let b = g.P.LendStation.store_on rest back in
+    let d0 = g.D.Disk.state disk in
+    let d1 = g.D.Disk.state back in
     let lent = c.lend-disk.ensures in
-    used (IsAtStaging c.args.packets.now c.args.trial.now) _ _ _ _ _ lent.looks lent.quiet (lent.back c.stage_or_drop-done.new.disk)
-    (own_not_staging (g.P.Kept.Store.state c.args.store) c.args.outbound.now c.args.trial.now c.args.packets.now c.requires.going) c.stage_or_drop-done.ensures.changes _ c.give_back-store.ensures.looks c.give_back-store.ensures.quiet
+    let s1 = g.P.Kept.Store.state c.give_back-store.result in
+    used (IsAtStaging c.args.packets.now c.args.trial.now) s0 a b d0 d1 lent.looks lent.quiet (lent.back back) (own_not_staging s0 c.args.outbound.now c.args.trial.now c.args.packets.now c.requires.going) c.stage_or_drop-done.ensures.changes s1 c.give_back-store.ensures.looks c.give_back-store.ensures.quiet
 
 pub returns-clause-staged : goal.returns-clause-staged
 returns-clause-staged g c =

@@ -1,12 +1,9 @@
 use Rattle.std.proofs.Common.{subst, sym}
 use Rattle.std.proofs.lemmas.Result.{err_from_is_err_and}
-use Rattle.disk_atomic.specs.Changes.{ChangesOnly}
 use Rattle.disk_atomic.specs.Finishing.{IsOfLeft}
 use Rattle.disk_atomic.proofs.Changes.{only_nothing, then_only, wider}
 use Rattle.station_scan.specs.Left.{AreLent, IsOfPaths}
 use Rattle.station_scan.proofs.Lefts.{are_free, are_there, nothing_these, of_paths, quiet_start, settled_these, unsettled_these}
-use Rattle.station_scan.proofs.finishing.end_these.Given as given
-use Rattle.station_scan.proofs.finishing.end_these.Goals.{After-finish_stopped, After-sync_folder_of}
 use Rattle.station_scan.proofs.finishing.end_these.Goals as goal
 
 pub finish_stopped-requires-clause-there : goal.finish_stopped-requires-clause-there
@@ -20,50 +17,59 @@ returns-in_err-found-clause-ends g c = λ honest.
     let p = err_from_is_err_and c.from_residual.result c.from_residual.ensures.1 in
     rw p.1 (nothing_these c.args.cursor c.args.paths.now d d p.0 (quiet_start d))
 
--- the packets are lent
-lent : (g : given.Over) (c : After-finish_stopped g) → AreLent c.args.paths.now c.deref.result.now
-lent g c = subst (AreLent c.args.paths.now) (sym c.deref.ensures.value) c.in_ok-found.ensures
-
-finished : (g : given.Over) (c : After-finish_stopped g) → ChangesOnly (IsOfPaths c.args.paths.now) (g.D.Disk.state c.args.disk.now) (g.D.Disk.state c.finish_stopped.new.disk)
-finished g c = wider (IsOfLeft c.deref.result.now) _ _ _ (of_paths c.args.paths.now c.deref.result.now (lent g c)) c.finish_stopped.ensures.changes
-
-synced : (g : given.Over) (c : After-sync_folder_of g) → ChangesOnly (IsOfPaths c.args.paths.now) (g.D.Disk.state c.args.disk.now) (g.D.Disk.state c.sync_folder_of.new.disk)
-synced g c = then_only _ _ _ _ (finished g c.After-finish_stopped) (only_nothing _ _ _ c.sync_folder_of.ensures.quiet)
-
 pub returns-in_err-finish_stopped-clause-changes : goal.returns-in_err-finish_stopped-clause-changes
-returns-in_err-finish_stopped-clause-changes g c = finished g (goal.at.returns-in_err-finish_stopped-clause-changes g c).After-finish_stopped
+returns-in_err-finish_stopped-clause-changes g c =
+    let lent = subst (AreLent c.args.paths.now) (sym c.deref.ensures.value) c.in_ok-found.ensures in
+    wider (IsOfLeft c.deref.result.now) (IsOfPaths c.args.paths.now) (g.D.Disk.state c.args.disk.now) (g.D.Disk.state c.finish_stopped.new.disk) (of_paths c.args.paths.now c.deref.result.now lent)
+    c.finish_stopped.ensures.changes
 
 pub returns-then-not-branch-clause-changes : goal.returns-then-not-branch-clause-changes
-returns-then-not-branch-clause-changes g c = finished g (goal.at.returns-then-not-branch-clause-changes g c).After-finish_stopped
+returns-then-not-branch-clause-changes g c =
+    let lent = subst (AreLent c.args.paths.now) (sym c.deref.ensures.value) c.in_ok-found.ensures in
+    wider (IsOfLeft c.deref.result.now) (IsOfPaths c.args.paths.now) (g.D.Disk.state c.args.disk.now) (g.D.Disk.state c.finish_stopped.new.disk) (of_paths c.args.paths.now c.deref.result.now lent)
+    c.finish_stopped.ensures.changes
 
 pub returns-in_err-sync_folder_of-clause-changes : goal.returns-in_err-sync_folder_of-clause-changes
-returns-in_err-sync_folder_of-clause-changes g c = synced g (goal.at.returns-in_err-sync_folder_of-clause-changes g c).After-sync_folder_of
+returns-in_err-sync_folder_of-clause-changes g c =
+    let lent = subst (AreLent c.args.paths.now) (sym c.deref.ensures.value) c.in_ok-found.ensures in
+    let at = IsOfPaths c.args.paths.now in
+    let d0 = g.D.Disk.state c.args.disk.now in
+    let d1 = g.D.Disk.state c.finish_stopped.new.disk in
+    let d2 = g.D.Disk.state c.sync_folder_of.new.disk in
+    then_only at d0 d1 d2 (wider (IsOfLeft c.deref.result.now) at d0 d1 (of_paths c.args.paths.now c.deref.result.now lent) c.finish_stopped.ensures.changes) (only_nothing at d1 d2 c.sync_folder_of.ensures.quiet)
 
 pub returns-clause-changes : goal.returns-clause-changes
-returns-clause-changes g c = synced g (goal.at.returns-clause-changes g c).After-sync_folder_of
+returns-clause-changes g c =
+    let lent = subst (AreLent c.args.paths.now) (sym c.deref.ensures.value) c.in_ok-found.ensures in
+    let at = IsOfPaths c.args.paths.now in
+    let d0 = g.D.Disk.state c.args.disk.now in
+    let d1 = g.D.Disk.state c.finish_stopped.new.disk in
+    let d2 = g.D.Disk.state c.sync_folder_of.new.disk in
+    then_only at d0 d1 d2 (wider (IsOfLeft c.deref.result.now) at d0 d1 (of_paths c.args.paths.now c.deref.result.now lent) c.finish_stopped.ensures.changes) (only_nothing at d1 d2 c.sync_folder_of.ensures.quiet)
 
 pub returns-in_err-sync_folder_of-clause-ends : goal.returns-in_err-sync_folder_of-clause-ends
 returns-in_err-sync_folder_of-clause-ends g c = λ honest.
-    let are = lent g (goal.at.returns-in_err-sync_folder_of-clause-ends g c).After-finish_stopped in
+    let lent = subst (AreLent c.args.paths.now) (sym c.deref.ensures.value) c.in_ok-found.ensures in
     let found = c.deref.result.now in
     let d0 = g.D.Disk.state c.args.disk.now in
     let d1 = g.D.Disk.state c.finish_stopped.new.disk in
     let d2 = g.D.Disk.state c.sync_folder_of.new.disk in
     let h1 = c.sync_folder_of.ensures.quiet.honest honest in
     let p = err_from_is_err_and c.from_residual-in_err-sync_folder_of.result c.from_residual-in_err-sync_folder_of.ensures.1 in
-    rw p.1 (unsettled_these c.args.cursor c.args.folder.now found (c.requires.placed found are) d0 d1 d2 c.sync_folder_of.ensures.quiet c.args.paths.now p.0 are (c.finish_stopped.ensures.any_moment h1) c.finish_stopped.ensures.changes)
+    rw p.1 (unsettled_these c.args.cursor c.args.folder.now found (c.requires.placed found lent) d0 d1 d2 c.sync_folder_of.ensures.quiet c.args.paths.now p.0 lent (c.finish_stopped.ensures.any_moment h1) c.finish_stopped.ensures.changes)
 
 pub returns-clause-ends : goal.returns-clause-ends
 returns-clause-ends g c = λ honest.
-    let are = lent g (goal.at.returns-clause-ends g c).After-finish_stopped in
+    let lent = subst (AreLent c.args.paths.now) (sym c.deref.ensures.value) c.in_ok-found.ensures in
     let found = c.deref.result.now in
     let d0 = g.D.Disk.state c.args.disk.now in
     let d1 = g.D.Disk.state c.finish_stopped.new.disk in
     let d2 = g.D.Disk.state c.sync_folder_of.new.disk in
     let h1 = c.sync_folder_of.ensures.quiet.honest honest in
-    settled_these c.args.cursor c.args.folder.now found (c.requires.placed found are) d0 d1 d2 c.sync_folder_of.ensures.quiet c.args.paths.now are c.in_ok-sync_folder_of.ensures.gone
+    settled_these c.args.cursor c.args.folder.now found (c.requires.placed found lent) d0 d1 d2 c.sync_folder_of.ensures.quiet c.args.paths.now lent c.in_ok-sync_folder_of.ensures.gone
     (c.in_ok-finish_stopped.ensures.over h1 c.if-not-branch.false) c.in_ok-finish_stopped.ensures.named (c.finish_stopped.ensures.any_moment h1) c.finish_stopped.ensures.changes
 
 pub returns-then-not-branch-clause-taken : goal.returns-then-not-branch-clause-taken
 returns-then-not-branch-clause-taken g c honest is free =
-    c.in_ok-finish_stopped.ensures.taken honest c.if-not-branch.true (are_free c.args.paths.now c.deref.result.now (lent g (goal.at.returns-then-not-branch-clause-taken g c).After-finish_stopped) (g.D.Disk.state c.args.disk.now).seen free)
+    let lent = subst (AreLent c.args.paths.now) (sym c.deref.ensures.value) c.in_ok-found.ensures in
+    c.in_ok-finish_stopped.ensures.taken honest c.if-not-branch.true (are_free c.args.paths.now c.deref.result.now lent (g.D.Disk.state c.args.disk.now).seen free)

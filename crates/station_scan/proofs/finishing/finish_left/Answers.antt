@@ -4,10 +4,8 @@ use Rattle.std.proofs.lemmas.Result.{err_from_is_err_and}
 use Rattle.disk_atomic.proofs.Changes.{only_nothing, then_only, wider}
 use Rattle.station_scan.specs.declared.finding.LeftPaths.{LeftPaths}
 use Rattle.station_scan.specs.declared.listing.StagedPacket.{StagedPacket}
-use Rattle.station_scan.specs.Left.{AreFound, EndsThese, IsStagingThere, IsFoundWhere, IsOfPaths}
+use Rattle.station_scan.specs.Left.{AreFound, EndsThese, IsStagingThere, IsFoundWhere, IsOfNameOff, IsOfPaths}
 use Rattle.station_scan.proofs.Lefts.{are_left_in, free_found, left_of_name, none_left, nothing_left, quiet_start, these_left}
-use Rattle.station_scan.proofs.finishing.finish_left.Given as given
-use Rattle.station_scan.proofs.finishing.finish_left.Goals.{After-end_these}
 use Rattle.station_scan.proofs.finishing.finish_left.Goals as goal
 
 pub returns-in_err-named-clause-ends : goal.returns-in_err-named-clause-ends
@@ -45,11 +43,6 @@ end_these-requires-clause-placed g c = λ found lent.
     let are = subst (λ (l : List LeftPaths). AreFound Own folder own c.deref.result.now l) (sym c.deref-2.ensures.value) c.in_ok-found.ensures.found in
     are_left_in paths found lent Own folder own c.deref.result.now c.requires are
 
--- what was found, as it is lent
-found : (g : given.Over) (c : After-end_these g) → AreFound (g.O.OwnPaths.is_own c.args.paths.now) c.args.folder.now c.args.own.now c.deref.result.now c.deref-2.result.now
-found g c =
-    subst (λ (l : List LeftPaths). AreFound (g.O.OwnPaths.is_own c.args.paths.now) c.args.folder.now c.args.own.now c.deref.result.now l) (sym c.deref-2.ensures.value) c.in_ok-found.ensures.found
-
 pub returns-clause-ends : goal.returns-clause-ends
 returns-clause-ends g c = λ honest.
     let Own = g.O.OwnPaths.is_own c.args.paths.now in
@@ -69,15 +62,26 @@ returns-clause-ends g c = λ honest.
 
 pub returns-clause-changes : goal.returns-clause-changes
 returns-clause-changes g c =
-    let are = found g (goal.at.returns-clause-changes g c).After-end_these in
-    then_only _ _ _ _ (only_nothing _ _ _ c.find_left.ensures.quiet)
-    (wider (IsOfPaths c.deref-2.result.now) _ _ _ (left_of_name (g.O.OwnPaths.is_own c.args.paths.now) c.args.folder.now c.args.own.now c.deref.result.now c.deref-2.result.now are) c.end_these.ensures.changes)
+    let Own = g.O.OwnPaths.is_own c.args.paths.now in
+    let folder = c.args.folder.now in
+    let own = c.args.own.now in
+    let at = IsOfNameOff Own folder own in
+    let d = g.D.Disk.state c.args.disk.now in
+    let d1 = g.D.Disk.state c.find_left.new.disk in
+    let d3 = g.D.Disk.state c.end_these.new.disk in
+    let paths = c.deref-2.result.now in
+    let are = subst (λ (l : List LeftPaths). AreFound Own folder own c.deref.result.now l) (sym c.deref-2.ensures.value) c.in_ok-found.ensures.found in
+    then_only at d d1 d3 (only_nothing at d d1 c.find_left.ensures.quiet) (wider (IsOfPaths paths) at d1 d3 (left_of_name Own folder own c.deref.result.now paths are) c.end_these.ensures.changes)
 
 pub returns-clause-taken : goal.returns-clause-taken
 returns-clause-taken g c honest is free =
+    let Own = g.O.OwnPaths.is_own c.args.paths.now in
+    let folder = c.args.folder.now in
+    let own = c.args.own.now in
     let d = g.D.Disk.state c.args.disk.now in
+    let d1 = g.D.Disk.state c.find_left.new.disk in
     let paths = c.deref-2.result.now in
-    let are = found g (goal.at.returns-clause-taken g c).After-end_these in
+    let are = subst (λ (l : List LeftPaths). AreFound Own folder own c.deref.result.now l) (sym c.deref-2.ensures.value) c.in_ok-found.ensures.found in
     let there = subst (λ (l : List LeftPaths). All (IsStagingThere d.seen) l) (sym c.deref-2.ensures.value) (c.in_ok-found.ensures.there (c.end_these.ensures.changes.honest honest)) in
-    let all = free_found (g.O.OwnPaths.is_own c.args.paths.now) c.args.folder.now c.args.own.now c.deref.result.now paths d.seen are there free in
+    let all = free_found Own folder own c.deref.result.now paths d.seen are there free in
     c.end_these.ensures.taken honest is (λ k z lt. c.find_left.ensures.quiet.seen (get_or paths k z).two.path ∙ all k z lt)
