@@ -1,5 +1,5 @@
 -- A list in ascending order, with each item once, is the set of the list.
-use Rattle.std.proofs.Common.{◌≡◌, ℕ, ◌<◌, ◌==◌, ◌&&◌, ◌||◌, nat_lt, Bool, true, List, [], ◌∷◌, refl}
+use Rattle.std.proofs.Common.{◌≡◌, ◌⊎◌, ⊎_elim, inl, inr, ℕ, ◌<◌, ◌==◌, ◌&&◌, ◌||◌, nat_lt, Bool, true, List, [], ◌∷◌, ◌++◌, refl, subst, sym}
 use Rattle.std.specs.declared.cmp.Ordering.{Ordering}
 use Rattle.std.specs.declared.cmp.Ordering.TheVariants.{Less, Equal, Greater}
 use Rattle.std.specs.Ordering.{MatchOrdering, eq_by_cmp, nat_cmp, ordering_then}
@@ -13,7 +13,7 @@ use Rattle.echo_addr.specs.declared.address.NetNode.{NetNode}
 use Rattle.echo_text.proofs.Sets.{set_in_order}
 use Rattle.echo_links.specs.Links.{same_address}
 use Rattle.echo_filed.specs.Sets.{address_before, address_set, entry_set}
-use Rattle.echo_filed.proofs.Choices.{all_weaker, contained_in, in_contained}
+use Rattle.echo_filed.proofs.Choices.{IsIn, all_weaker, contained_in, in_contained}
 use Rattle.echo_filed.proofs.Orders.{address_order, entry_set_is_set, one_set}
 use Rattle.echo_filed.proofs.Sets.{Ascending, same_set, set_ascending, set_keeps, set_only}
 
@@ -79,3 +79,44 @@ unfolding address_set
 set_again all =
     same_set address_before address_order (address_set (address_set all)) (address_set all) (set_ascending address_before address_order (address_set all))
     (set_ascending address_before address_order all) (λ z i. set_only address_before z (address_set all) i) (λ z i. set_keeps address_before address_order z (address_set all) i)
+
+-- lists with the same members have the same set
+same_members : (one other : List Address) → ((x : Address) → IsIn x one → IsIn x other) → ((x : Address) → IsIn x other → IsIn x one) → address_set one ≡ address_set other
+unfolding address_set
+same_members one other there back =
+    same_set address_before address_order (address_set one) (address_set other) (set_ascending address_before address_order one) (set_ascending address_before address_order other)
+    (λ z i. set_keeps address_before address_order z other (there z (set_only address_before z one i)))
+    (λ z i. set_keeps address_before address_order z one (back z (set_only address_before z other i)))
+
+in_front : {X : Type 0} (x : X) (xs ys : List X) → IsIn x xs → IsIn x (xs ++ ys)
+in_front x [] ys h = absurd h
+in_front x (y ∷ xs) ys h = elim h [ inl here ↦ inl here | inr later ↦ inr (in_front x xs ys later) ]
+
+in_back : {X : Type 0} (x : X) (xs ys : List X) → IsIn x ys → IsIn x (xs ++ ys)
+in_back x [] ys h = h
+in_back x (y ∷ xs) ys h = inr (in_back x xs ys h)
+
+in_either : {X : Type 0} (x : X) (xs ys : List X) → IsIn x (xs ++ ys) → IsIn x xs ⊎ IsIn x ys
+in_either x [] ys h = inr h
+in_either x (y ∷ xs) ys h = elim h [
+  | inl here ↦ inl (inl here)
+  | inr later ↦ ⊎_elim (λ front. inl (inr front)) (λ back. inr back) (in_either x xs ys later)
+]
+
+-- a list, or its set, and then another
+pub set_twice : (all more : List Address) → address_set (address_set all ++ more) ≡ address_set (all ++ more)
+unfolding address_set
+set_twice all more =
+    same_members (address_set all ++ more) (all ++ more)
+    (λ x i. ⊎_elim (λ front. in_front x all more (set_only address_before x all front)) (λ back. in_back x all more back) (in_either x (address_set all) more i))
+    (λ x i. ⊎_elim (λ front. in_front x (address_set all) more (set_keeps address_before address_order x all front)) (λ back. in_back x (address_set all) more back) (in_either x all more i))
+
+-- lists of one set, each behind the same list
+pub sets_together : (front one other : List Address) → address_set one ≡ address_set other → address_set (front ++ one) ≡ address_set (front ++ other)
+unfolding address_set
+sets_together front one other same =
+    let over : (x : Address) (xs ys : List Address) → address_set xs ≡ address_set ys → IsIn x xs → IsIn x ys =
+    λ x xs ys e i. set_only address_before x ys (subst (IsIn x) e (set_keeps address_before address_order x xs i)) in
+    same_members (front ++ one) (front ++ other)
+    (λ x i. ⊎_elim (λ before. in_front x front other before) (λ back. in_back x front other (over x one other same back)) (in_either x front one i))
+    (λ x i. ⊎_elim (λ before. in_front x front one before) (λ back. in_back x front one (over x other one (sym same) back)) (in_either x front other i))

@@ -21,7 +21,8 @@ use Rattle.echo_filed.specs.Filed.{Filed}
 use Rattle.echo_filed.specs.Sets.{address_set, entry_set}
 use Rattle.model_steps.specs.declared.stamp.Stamp.{Stamp}
 use Rattle.model_steps.specs.Scanning.{copy_to, exported, goes_to, header_to, packet_to, packets_of, recipients, scanned, targets}
-use Rattle.echo_toss.specs.Exports.{Outgoing, Ready, copy_out, goes_out, goes_ready, has_some, is_sent, outgoing_of, packet_out, packet_ready, packets_out, ready_copy, ready_of, sent_of}
+use Rattle.echo_toss.specs.Exports.{Outgoing, copy_out, goes_out, has_some, is_sent, outgoing_of, packet_out, packets_out, sent_of}
+use Rattle.echo_toss.proofs.AscendingSets.{set_twice, sets_together}
 use Rattle.echo_toss.proofs.Searches.{among_set}
 use Rattle.model_steps.specs.declared.packet.Packet.{Packet}
 
@@ -43,22 +44,25 @@ next_waits p f xs i x old new all is so_far grown =
     ∙ ap (λ l. old ++ l) (sym (filter_front p (f x) rest) ∙ ap (filter p) (ap (λ y. f y ∷ rest) (sym here) ∙ ap (map f) (sym (drop_more xs i x within))))
     ∙ so_far
 
-same_targets : (file : LinkFile) (ms : List Filed) → flat_map (λ o. o.targets) (map (outgoing_of file) ms) ≡ flat_map (targets file) ms
+same_targets : (file : LinkFile) (ms : List Filed) → address_set (flat_map (λ o. o.targets) (map (outgoing_of file) ms)) ≡ address_set (flat_map (targets file) ms)
 same_targets file [] = refl
-same_targets file (m ∷ ms) = ap (λ l. targets file m ++ l) (same_targets file ms)
+same_targets file (m ∷ ms) =
+    let rest = flat_map (λ o. o.targets) (map (outgoing_of file) ms) in
+    set_twice (targets file m) rest ∙ sets_together (targets file m) rest (flat_map (targets file) ms) (same_targets file ms)
 
 pub same_copies : (file : LinkFile) (a : Address) (ms : List Filed) → map (copy_out a) (filter (goes_out a) (map (outgoing_of file) ms)) ≡ map (copy_to file a) (filter (goes_to file a) ms)
 unfolding copy_to
 same_copies file a [] = refl
 same_copies file a (m ∷ ms) =
     let outs = map (outgoing_of file) ms in
+    let same = among_set a (targets file m) in
     elim (cases_Bool (goes_to file a m)) [
       | inl goes ↦
-          ap (map (copy_out a)) (cond-true (goes_to file a m) (outgoing_of file m ∷ filter (goes_out a) outs) (filter (goes_out a) outs) goes)
+          ap (map (copy_out a)) (cond-true (goes_out a (outgoing_of file m)) (outgoing_of file m ∷ filter (goes_out a) outs) (filter (goes_out a) outs) (same ∙ goes))
           ∙ ap (λ l. copy_to file a m ∷ l) (same_copies file a ms)
           ∙ ap (map (copy_to file a)) (sym (cond-true (goes_to file a m) (m ∷ filter (goes_to file a) ms) (filter (goes_to file a) ms) goes))
       | inr stays ↦
-          ap (map (copy_out a)) (cond-false (goes_to file a m) (outgoing_of file m ∷ filter (goes_out a) outs) (filter (goes_out a) outs) stays)
+          ap (map (copy_out a)) (cond-false (goes_out a (outgoing_of file m)) (outgoing_of file m ∷ filter (goes_out a) outs) (filter (goes_out a) outs) (same ∙ stays))
           ∙ same_copies file a ms
           ∙ ap (map (copy_to file a)) (sym (cond-false (goes_to file a m) (m ∷ filter (goes_to file a) ms) (filter (goes_to file a) ms) stays))
     ]
@@ -75,7 +79,7 @@ pub packets_are : (file : LinkFile) (stamp : Stamp) (base : List Filed) (cursor 
 unfolding scanned packets_of recipients
 packets_are file stamp base cursor =
     let ms = drop cursor base in
-    ap (λ l. map (packet_out file stamp (map (outgoing_of file) ms)) (address_set l)) (same_targets file ms)
+    ap (map (packet_out file stamp (map (outgoing_of file) ms))) (same_targets file ms)
     ∙ each_same (packet_out file stamp (map (outgoing_of file) ms)) (packet_to file stamp ms) (same_packet file stamp ms) (address_set (flat_map (targets file) ms))
 
 -- messages without receivers are in no packet
@@ -158,31 +162,9 @@ exported_no_zero file is e h =
     let out = exported_is_echo file is e h in
     written_has_no_zero (exported file e) (text_of (exported file e)) out (text_is_text (exported file e) out)
 
--- the packets of what is ready are those of what goes out
-same_ready : (a : Address) (all : List Outgoing) → map (ready_copy a) (filter (goes_ready a) (map ready_of all)) ≡ map (copy_out a) (filter (goes_out a) all)
-same_ready a [] = refl
-same_ready a (o ∷ all) =
-    let rest = map ready_of all in
-    let same = among_set a o.targets in
-    elim (cases_Bool (goes_out a o)) [
-      | inl goes ↦
-          ap (map (ready_copy a)) (cond-true (goes_ready a (ready_of o)) (ready_of o ∷ filter (goes_ready a) rest) (filter (goes_ready a) rest) (same ∙ goes))
-          ∙ ap (λ l. copy_out a o ∷ l) (same_ready a all)
-          ∙ ap (map (copy_out a)) (sym (cond-true (goes_out a o) (o ∷ filter (goes_out a) all) (filter (goes_out a) all) goes))
-      | inr stays ↦
-          ap (map (ready_copy a)) (cond-false (goes_ready a (ready_of o)) (ready_of o ∷ filter (goes_ready a) rest) (filter (goes_ready a) rest) (same ∙ stays))
-          ∙ same_ready a all
-          ∙ ap (map (copy_out a)) (sym (cond-false (goes_out a o) (o ∷ filter (goes_out a) all) (filter (goes_out a) all) stays))
-    ]
-
-ready_packet : (file : LinkFile) (stamp : Stamp) (all : List Outgoing) (a : Address) → packet_ready file stamp (map ready_of all) a ≡ packet_out file stamp all a
-ready_packet file stamp all a = let e = same_ready a all in λ i. record { header = header_to file stamp a; messages = e i }
-
-pub ready_packets : {E : Type 0} (r : Result (Vec Packet Global) E) (file : LinkFile) (stamp : Stamp) (all : List Outgoing) (ready : List Ready) (recipients : List Address)
-    → ready ≡ map ready_of all → recipients ≡ address_set (flat_map (λ o. o.targets) all)
-    → IfOk r (λ v. v.items ≡ map (packet_ready file stamp ready) recipients) → IfOk r (λ v. v.items ≡ packets_out file stamp all)
-ready_packets (Ok v) file stamp all ready recipients e f h =
-    h
-    ∙ (λ i. map (packet_ready file stamp (e i)) (f i))
-    ∙ each_same (packet_ready file stamp (map ready_of all)) (packet_out file stamp all) (ready_packet file stamp all) (address_set (flat_map (λ o. o.targets) all))
-ready_packets (Err e') file stamp all ready recipients e f h = tt
+-- and their packets
+pub out_packets : {E : Type 0} (r : Result (Vec Packet Global) E) (file : LinkFile) (stamp : Stamp) (all : List Outgoing) (recipients : List Address)
+    → recipients ≡ address_set (flat_map (λ o. o.targets) all) → IfOk r (λ v. v.items ≡ map (packet_out file stamp all) recipients)
+    → IfOk r (λ v. v.items ≡ packets_out file stamp all)
+out_packets (Ok v) file stamp all recipients f h = h ∙ ap (map (packet_out file stamp all)) f
+out_packets (Err e) file stamp all recipients f h = tt

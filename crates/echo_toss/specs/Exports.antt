@@ -17,14 +17,14 @@ use Rattle.model_steps.specs.Scanning.{copy_to, header_to, targets}
 abbrev pub nowhere : Address
 nowhere = record { zone = 0; net = 0; node = 0 }
 
--- an outgoing message before it is addressed, and its receivers
+-- an outgoing message before it is addressed, and its receivers as a set
 pub record Outgoing : Type 0 where
   pub message : Message
   pub targets : List Address
 
 -- the outgoing form of a message
 abbrev pub outgoing_of : LinkFile → Filed → Outgoing
-outgoing_of file m = record { message = copy_to file nowhere m; targets = targets file m }
+outgoing_of file m = record { message = copy_to file nowhere m; targets = address_set (targets file m) }
 
 -- whether there is one
 abbrev pub has_some : List Address → Bool
@@ -66,30 +66,6 @@ packet_out file stamp all address = record {
 -- one packet for each address that gets some of it
 abbrev pub packets_out : LinkFile → Stamp → List Outgoing → List Packet
 packets_out file stamp all = map (packet_out file stamp all) (address_set (flat_map (λ o. o.targets) all))
-
--- the same, with its receivers as a set
-pub record Ready : Type 0 where
-  pub message : Message
-  pub targets : List Address
-
--- an outgoing message made ready
-abbrev pub ready_of : Outgoing → Ready
-ready_of o = record { message = o.message; targets = address_set o.targets }
-
--- the copy for an address
-abbrev pub ready_copy : Address → Ready → Message
-ready_copy address r = readdressed r.message address.node address.net
-
--- whether an address receives it
-abbrev pub goes_ready : Address → Ready → Bool
-goes_ready address r = list_any (same_address address) r.targets
-
--- the packet of the messages that are ready for an address
-abbrev pub packet_ready : LinkFile → Stamp → List Ready → Address → Packet
-packet_ready file stamp all address = record {
-  header = header_to file stamp address;
-  messages = map (ready_copy address) (filter (goes_ready address) all);
-}
 
 -- a scan's answer, with its packets as a list
 abbrev pub listed : Result (Vec Packet Global) ScanFault → Result (List Packet) ScanFault

@@ -4,7 +4,7 @@ ghost use Rattle.std.specs.List.{list_any};
 ghost use Rattle.echo_addr.specs.Address.{net_node_of};
 ghost use Rattle.echo_packet.specs.Message.{HasNoZero};
 ghost use Rattle.echo_links.specs.Links.{links_of, same_address};
-ghost use Rattle.echo_filed.specs.Sets.{entry_set, same_entry};
+ghost use Rattle.echo_filed.specs.Sets.{address_set, entry_set, same_entry};
 ghost use Rattle.echo_filed.specs.Written.{text_of};
 ghost use Rattle.disk_io.specs.Disk.{Honestly};
 ghost use Rattle.base_file.specs.Base.{Base};
@@ -12,29 +12,33 @@ ghost use Rattle.base_store.specs.Store.{HasStoreCause, LooksOn};
 ghost use Rattle.model_steps.specs.Scanning.{exported, message_out, targets};
 ghost use Rattle.echo_toss.specs.Exports.{GrowsByMessageAt, has_some, nowhere, outgoing_of, sent_of};
 
-use crate::sets::entry_set;
+use crate::sets::{address_set, entry_set};
 use base_store::{Store, StoreError};
 use echo_addr::{Address, Items, NetNode};
 use echo_filed::Filed;
 use echo_links::LinkFile;
-use echo_packet::Packed;
+use echo_packet::{Packed, PackedCopy};
 use echo_text::{Echo, write_parts};
 use std::alloc::{AllocError, Global};
 use std::marker::Model;
 
-/// A waiting message in its outgoing form, before it is addressed, and its receivers.
+/// A waiting message in its outgoing form, before it is addressed, which its copies share; and its receivers as a set.
 #[derive(Drop)]
 pub(crate) struct Outgoing {
-    pub(crate) message: Packed,
+    pub(crate) message: PackedCopy,
     pub(crate) targets: Items<Address>,
 }
 
 impl Model for Outgoing {
+    ghost use Rattle.std.specs.Prelude.{◌≡◌};
+    ghost use Rattle.echo_filed.specs.Sets.{address_set};
     ghost use Rattle.echo_toss.specs.Exports as model;
 
     ghost Value = { model.Outgoing };
 
     ghost view = { λ o. record { message = o.message; targets = o.targets } };
+
+    ghost invariant = { λ o. address_set o.targets ≡ o.targets };
 }
 
 /// The outgoing forms of the messages from the cursor on that have receivers, in order. Of all others no text is made.
@@ -101,13 +105,13 @@ fn prepared_for(
     message: &Filed,
     receivers: Items<Address>,
 ) -> Result<Outgoing, AllocError>
-    requires { receivers ≡ targets links.now message.now }
+    requires { receivers ≡ address_set (targets links.now message.now) }
     ensures { IfOk result (λ o. o ≡ outgoing_of links.now message.now) }
 {
     let text = exported_text(alloc, links, &message.echo)?;
-    let message = packed(alloc, links, message, text)?;
+    let one = packed(alloc, links, message, text)?;
     Ok(Outgoing {
-        message,
+        message: PackedCopy::new(alloc, one)?,
         targets: receivers,
     })
 }
@@ -149,15 +153,15 @@ fn links_of<'a>(links: &'a LinkFile, tag: &[u8]) -> &'a [Address]
     }
 }
 
-// The links that did not send the message and are not in its SEEN-BY.
+// The links that did not send the message and are not in its SEEN-BY, as a set.
 #[tactic(auto, unfolding(model_steps::specs::Scanning::targets))]
 fn targets(alloc: Global, links: &LinkFile, message: &Filed) -> Result<Items<Address>, AllocError>
-    ensures { IfOk result (λ found. found ≡ targets links.now message.now) }
+    ensures { IfOk result (λ found. found ≡ address_set (targets links.now message.now)) }
 {
     let echo = &message.echo;
     let all = links_of(links, echo.tag.as_slice());
     let found = meant(alloc, all, message.sender, echo.seen.as_slice())?;
-    Ok(Items::new(found))
+    Ok(Items::new(address_set(found)))
 }
 
 // The links that are not the sender and not among the entries.
@@ -205,7 +209,9 @@ fn exported_text(alloc: Global, links: &LinkFile, echo: &Echo) -> Result<Items<u
     let mut path = Vec::from_slice(alloc, echo.path.as_slice())?;
     path.push(own)?;
     let text = write_parts(alloc, tag, &echo.kept, seen.as_slice(), &path)?;
-    Ok(Items::new(text))
+    // A scan holds many texts, so each is kept without spare room.
+    let exact = Vec::from_slice(alloc, &text)?;
+    Ok(Items::new(exact))
 }
 
 // The entries, the own and those of the links as a set.

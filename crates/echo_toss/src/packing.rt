@@ -1,10 +1,11 @@
 //! The packets of outgoing messages.
-ghost use Rattle.std.specs.Prelude.{◌≡◌, [], ◌∷◌, ◌++◌, true, map, filter, IfOk, OnOk};
+ghost use Rattle.std.specs.Prelude.{◌≡◌, List, [], ◌∷◌, ◌++◌, true, map, filter, IfOk, OnOk};
 ghost use Rattle.std.specs.List.{flat_map};
+ghost use Rattle.echo_addr.specs.declared.address.Address.{Address};
 ghost use Rattle.echo_filed.specs.Sets.{address_set};
 ghost use Rattle.model_steps.specs.Scanning.{header_to};
 ghost use Rattle.model_steps.specs.Stamps.{is_stamp};
-ghost use Rattle.echo_toss.specs.Exports.{goes_ready, packet_ready, packets_out, ready_copy, ready_of};
+ghost use Rattle.echo_toss.specs.Exports.{copy_out, goes_out, packet_out, packets_out};
 
 use crate::outgoing::Outgoing;
 use crate::sets::address_set;
@@ -13,73 +14,47 @@ use echo_links::LinkFile;
 use echo_packet::{Header, PackedCopy};
 use model_steps::{Packet, Stamp};
 use std::alloc::{AllocError, Global};
-use std::marker::Model;
-
-// An outgoing message, shared by its copies, and its receivers as a set.
-#[derive(Drop)]
-struct Ready {
-    message: PackedCopy,
-    targets: Items<Address>,
-}
-
-impl Model for Ready {
-    ghost use Rattle.std.specs.Prelude.{◌≡◌};
-    ghost use Rattle.echo_filed.specs.Sets.{address_set};
-    ghost use Rattle.echo_toss.specs.Exports as model;
-
-    ghost Value = { model.Ready };
-
-    ghost view = { λ r. record { message = r.message; targets = r.targets } };
-
-    ghost invariant = { λ r. address_set r.targets ≡ r.targets };
-}
 
 /// One packet for each address that gets some of the messages, ascending.
 pub(crate) fn packets(
     alloc: Global,
     links: &LinkFile,
     stamp: Stamp,
-    outgoing: Vec<Outgoing>,
+    outgoing: &[Outgoing],
 ) -> Result<Vec<Packet>, AllocError>
     requires { is_stamp stamp ≡ true }
-    ensures { IfOk result (λ all. all.items ≡ packets_out links.now stamp outgoing.items) }
+    ensures { IfOk result (λ all. all.items ≡ packets_out links.now stamp outgoing.now) }
 {
-    let recipients = recipients(alloc, outgoing.as_slice())?;
-    let ready = all_ready(alloc, outgoing)?;
-    packets_to(alloc, links, stamp, recipients.as_slice(), ready.as_slice())
+    let recipients = recipients(alloc, outgoing)?;
+    packets_to(alloc, links, stamp, recipients.as_slice(), outgoing)
 }
+
+/// How many addresses are gathered before those that repeat are dropped.
+const MANY: usize = 1_024;
 
 // The addresses that get some of the messages, ascending.
 fn recipients(alloc: Global, outgoing: &[Outgoing]) -> Result<Vec<Address>, AllocError>
     ensures { IfOk result (λ all. all.items ≡ address_set (flat_map (λ o. o.targets) outgoing.now)) }
 {
     let mut all = Vec::new(alloc);
+    let mut limit = MANY;
     'outgoing: for one in outgoing {
         all.extend_from_slice(one.targets.as_slice())?;
+        all = set_when_many(all, &mut limit);
     }
     Ok(address_set(all))
 }
 
-// The messages, ready to be copied.
-fn all_ready(alloc: Global, outgoing: Vec<Outgoing>) -> Result<Vec<Ready>, AllocError>
-    ensures { IfOk result (λ all. all.items ≡ map ready_of outgoing.items) }
+// The addresses, as a set if they reach the limit. Then the limit is above twice that set.
+fn set_when_many(all: Vec<Address>, limit: &mut usize) -> Vec<Address>
+    ensures { (more : List Address) → address_set (result.items ++ more) ≡ address_set (all.items ++ more) }
 {
-    let mut all = Vec::with_capacity(alloc, outgoing.len())?;
-    'outgoing: for one in outgoing {
-        all.push(made_ready(alloc, one)?)?;
+    if all.len() < *limit {
+        return all;
     }
-    Ok(all)
-}
-
-// The message, ready to be copied.
-fn made_ready(alloc: Global, one: Outgoing) -> Result<Ready, AllocError>
-    ensures { IfOk result (λ r. r ≡ ready_of one) }
-{
-    let Outgoing { message, targets } = one;
-    Ok(Ready {
-        message: PackedCopy::new(alloc, message)?,
-        targets: Items::new(address_set(targets.into_vec())),
-    })
+    let set = address_set(all);
+    *limit = set.len().saturating_mul(2).max(MANY);
+    set
 }
 
 // A packet to each of the addresses.
@@ -88,14 +63,14 @@ fn packets_to(
     links: &LinkFile,
     stamp: Stamp,
     recipients: &[Address],
-    ready: &[Ready],
+    outgoing: &[Outgoing],
 ) -> Result<Vec<Packet>, AllocError>
     requires { is_stamp stamp ≡ true }
-    ensures { IfOk result (λ all. all.items ≡ map (packet_ready links.now stamp ready.now) recipients.now) }
+    ensures { IfOk result (λ all. all.items ≡ map (packet_out links.now stamp outgoing.now) recipients.now) }
 {
     let mut all = Vec::with_capacity(alloc, recipients.len())?;
     'recipients: for address in recipients {
-        all.push(packet_to(alloc, links, stamp, *address, ready)?)?;
+        all.push(packet_to(alloc, links, stamp, *address, outgoing)?)?;
     }
     Ok(all)
 }
@@ -106,14 +81,13 @@ fn packet_to(
     links: &LinkFile,
     stamp: Stamp,
     address: Address,
-    ready: &[Ready],
+    outgoing: &[Outgoing],
 ) -> Result<Packet, AllocError>
     requires { is_stamp stamp ≡ true }
-    ensures { IfOk result (λ packet. packet ≡ packet_ready links.now stamp ready.now address) }
+    ensures { IfOk result (λ packet. packet ≡ packet_out links.now stamp outgoing.now address) }
 {
-    let copies = ready.iter().filter(|one| goes_to(*one, address)).count();
-    let mut messages = Vec::with_capacity(alloc, copies)?;
-    'ready: for one in ready {
+    let mut messages = Vec::new(alloc);
+    'outgoing: for one in outgoing {
         push_copy(address, one, &mut messages)?;
     }
     Ok(Packet {
@@ -122,13 +96,13 @@ fn packet_to(
     })
 }
 
-// Appends the copy of the message, if the address receives it.
-fn push_copy(
+/// Appends the copy of the message, if the address receives it.
+pub(crate) fn push_copy(
     address: Address,
-    one: &Ready,
+    one: &Outgoing,
     messages: &mut Vec<PackedCopy>,
 ) -> Result<(), AllocError>
-    ensures { OnOk result (messages.new.items ≡ messages.old.items ++ map (ready_copy address) (filter (goes_ready address) (one.now ∷ []))) }
+    ensures { OnOk result (messages.new.items ≡ messages.old.items ++ map (copy_out address) (filter (goes_out address) (one.now ∷ []))) }
 {
     if goes_to(one, address) {
         messages.push(one.message.copy_for(address.node, address.net)?)?;
@@ -136,8 +110,8 @@ fn push_copy(
     Ok(())
 }
 
-fn goes_to(one: &Ready, address: Address) -> bool
-    ensures { result ≡ goes_ready address one.now }
+fn goes_to(one: &Outgoing, address: Address) -> bool
+    ensures { result ≡ goes_out address one.now }
 {
     one.targets.as_slice().binary_search(&address).is_ok()
 }

@@ -10,8 +10,8 @@ ghost use Rattle.echo_toss.specs.Exports.{IsResentAt, copy_out, goes_out};
 ghost use Rattle.echo_toss.specs.Stores.{IsScanStop, scan_answer};
 
 use crate::moment::is_stamp;
-use crate::outgoing::{Outgoing, prepared};
-use crate::packing::header_to;
+use crate::outgoing::prepared;
+use crate::packing::{header_to, push_copy};
 use crate::step_error::ScanStepError;
 use crate::tosser::Tosser;
 use base_store::{Store, StoreError};
@@ -137,8 +137,7 @@ fn push_resent(
         return Ok(());
     }
     let one = prepared(alloc, links, message)?;
-    push_out(alloc, asked.to, one, all)?;
-    Ok(())
+    push_copy(asked.to, &one, all)
 }
 
 // Whether the message is of the area, and no purge took its text.
@@ -147,33 +146,4 @@ fn is_whole_in(area: &[u8], message: &Filed) -> bool
 {
     let echo = &message.echo;
     echo.tag.as_slice() == area && !(echo.msgid().is_some() && is_stub(message))
-}
-
-// Adds the copy of an outgoing message for the address, if that is one of its receivers.
-fn push_out(
-    alloc: Global,
-    to: Address,
-    one: Outgoing,
-    all: &mut Vec<PackedCopy>,
-) -> Result<(), AllocError>
-    ensures { OnOk result (all.new.items ≡ all.old.items ++ map (copy_out to) (filter (goes_out to) (one ∷ []))) }
-{
-    if goes_out(to, &one) {
-        all.push(addressed(alloc, to, one)?)?;
-    }
-    Ok(())
-}
-
-fn goes_out(to: Address, one: &Outgoing) -> bool
-    ensures { result ≡ goes_out to one.now }
-{
-    one.targets.as_slice().contains(&to)
-}
-
-fn addressed(alloc: Global, to: Address, one: Outgoing) -> Result<PackedCopy, AllocError>
-    ensures { IfOk result (λ copy. copy ≡ copy_out to one) }
-{
-    let Outgoing { message, .. } = one;
-    let copy = PackedCopy::new(alloc, message)?;
-    copy.copy_for(to.node, to.net)
 }

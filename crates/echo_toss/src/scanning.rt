@@ -77,5 +77,5 @@ fn scanned<T: Store>(
     ensures cause { HasStoreCause (T.state store.old) (T.state store.new) (T.failures store.old) (T.failures store.new) result }
 {
     let outgoing = waiting(alloc, links, store)?;
-    Ok(packets(alloc, links, stamp, outgoing)?)
+    Ok(packets(alloc, links, stamp, &outgoing)?)
 }

@@ -35,7 +35,7 @@ returns-clause-text c =
     in
     let made = subst IsEcho (sym is) (exported_is_echo c.args.links.now c.system.ensures.file c.args.echo.now (subst IsEcho view c.echo.invariant)) in
     let said : EchoText = record { tag = c.as_slice-tag.result.now; kept = c.echo.inside.kept; seen = c.as_slice-3.result.now; path = c.deref.result.now } in
-    c.new.ensures ∙ written_is said c.in_ok-text.text.items made c.in_ok-text.ensures ∙ ap text_of is
+    c.new.ensures ∙ c.in_ok-exact.ensures.items ∙ c.deref-2.ensures.value ∙ written_is said c.in_ok-text.text.items made c.in_ok-text.ensures ∙ ap text_of is
 
 pub returns-clause-no_zero : goal.returns-clause-no_zero
 returns-clause-no_zero c =

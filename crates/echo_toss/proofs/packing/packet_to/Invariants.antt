@@ -1,9 +1,9 @@
 use Rattle.std.proofs.Common.{◌≡◌, ◌++◌, map, drop}
 use Rattle.std.specs.Prelude.{filter}
-use Rattle.echo_toss.specs.Exports.{goes_ready, ready_copy}
+use Rattle.echo_toss.specs.Exports.{copy_out, goes_out}
 use Rattle.echo_toss.proofs.packing.packet_to.Given as goal
 
-abbrev pub invariant-ready : goal.invariant-ready
-invariant-ready l =
-    l.messages.items ++ map (ready_copy l.address) (filter (goes_ready l.address) (drop l.one-index l.ready))
-    ≡ map (ready_copy l.address) (filter (goes_ready l.address) l.ready)
+abbrev pub invariant-outgoing : goal.invariant-outgoing
+invariant-outgoing l =
+    l.messages.items ++ map (copy_out l.address) (filter (goes_out l.address) (drop l.one-index l.outgoing))
+    ≡ map (copy_out l.address) (filter (goes_out l.address) l.outgoing)
