@@ -1,11 +1,11 @@
 -- What staging and committing leave of an open base folder.
-use Rattle.std.proofs.Common.{◌≡◌, ◌<◌, ◌+◌, ◌^◌, ℕ, List, ◌++◌, length, refl, sym, ap, subst, ◌∙◌, arith, inl, length-append}
+use Rattle.std.proofs.Common.{◌≡◌, ◌<◌, ◌+◌, ◌^◌, ℕ, List, ◌++◌, length, refl, sym, ap, subst, ◌∙◌, arith, length-append}
 use Rattle.std.proofs.lemmas.List.{append_assoc, length-take-le}
 use Rattle.disk_io.specs.Disk.{DiskState, Files, bytes_in}
 use Rattle.disk_io.specs.Runs.{LeavesOnly}
 use Rattle.disk_io.proofs.Moments.{no_call, then_run}
 use Rattle.base_log.specs.AtRest.{IsAtRest, IsStaged}
-use Rattle.base_log.specs.Moments.{IsBeforeOrAfter, KeepsOutside, StandsAlone}
+use Rattle.base_log.specs.Moments.{KeepsOutside, StandsAlone}
 use Rattle.base_log.specs.Names.{AreNames, folder_of, keys_of, messages_of}
 use Rattle.base_log.specs.Standing.{BaseBytes, StandsFor, and_keys, and_messages, base_at}
 use Rattle.base_log.specs.declared.log.End.{End}
@@ -40,12 +40,9 @@ pub both_runs : (path : List ℕ) (d e f : DiskState) (base now : BaseBytes) →
 both_runs path d e f base now one two kept same =
     then_run d e f (StandsAlone path d base) (StandsAlone path e now) one two (alone_before path d e base now kept same)
 
--- so many bytes of the messages count, and so many of the keys
+-- so many bytes of the messages count
 pub messages_count : (d : DiskState) (path : List ℕ) (end : End) (told : CommitRecord) → IsStaged d path end told → length (base_at d path told).messages ≡ told.messages
 messages_count d path end told staged = length-take-le told.messages (bytes_in (d.seen (messages_of path told.number))) staged.messages_long
-
-pub keys_count : (d : DiskState) (path : List ℕ) (end : End) (told : CommitRecord) → IsStaged d path end told → length (base_at d path told).keys ≡ told.keys
-keys_count d path end told staged = length-take-le told.keys (bytes_in (d.seen (keys_of path told.number))) staged.keys_long
 
 -- what was committed is staged
 pub committed_staged : (d : DiskState) (path : List ℕ) (after : End) (told : CommitRecord) → IsAtRest d path after → after.told ≡ told → IsStaged d path after told
@@ -106,16 +103,9 @@ module _ (d e : DiskState) (f g : Folder) (bytes one : List ℕ) (was : IsOpen d
     keys = keys ∙ was.keys ∙ sym (ap (λ (b : BaseBytes). b.keys) out_held);
   }
 
-  pub out_committed : base_at e (path_of f) f.end.told ≡ base_at d (path_of f) f.end.told → committed_by e g ≡ committed_by d f
-  out_committed same = (λ i. base_at e (folder_of (names i)) (end i).told) ∙ same
-
 -- nothing is committed where nothing was called
 pub nothing_left : (d : DiskState) (f : Folder) → IsOpen d f → LeavesOnly d d (StandsAlone (path_of f) d (committed_by d f))
 nothing_left d f was = no_call d (StandsAlone (path_of f) d (committed_by d f)) (λ c left. record { outside = λ m out named flushed. d.on_disk m named flushed c left; stands = was.staged.stands c left })
-
-pub nothing_committed : (d : DiskState) (f : Folder) → IsOpen d f → LeavesOnly d d (IsBeforeOrAfter (path_of f) d (committed_by d f) (held_by d f))
-nothing_committed d f was =
-    no_call d (IsBeforeOrAfter (path_of f) d (committed_by d f) (held_by d f)) (λ c left. record { outside = λ m out named flushed. d.on_disk m named flushed c left; stands = inl (was.staged.stands c left) })
 
 -- what was committed is open, and is what was held
 pub committed_open : (d e : DiskState) (f g : Folder) → IsOpen d f → g.names ≡ f.names → g.told ≡ f.told → g.keys.items ≡ f.keys.items → IsAtRest e (path_of f) g.end → g.end.told ≡ f.told → base_at e (path_of f) g.end.told ≡ held_by d f → IsWritten g → IsOpen e g

@@ -96,10 +96,6 @@ may_commit d e keyed f g h k path run kept = record {
   same = same_folder d e keyed f g h k path;
 }
 
--- what is held is what was, and so is what is committed
-pub holds_same : (keyed : ℕ → ℕ → List ℕ → ℕ) (now before : BaseBytes) → now ≡ before → (base : Base) → HoldsBase keyed before base → HoldsBase keyed now base
-holds_same keyed now before same base is = subst (λ (b : BaseBytes). HoldsBase keyed b base) (sym same) is
-
 -- where a base is held, an answer is not that a message is damaged
 pub not_damaged : {T : Type 0} (P : T → Type 0) (r : Result T StoreError) → Answers P r → IsErrOf r error.Damaged → ⊥
 not_damaged P (Ok value) was is = absurd (cc)
@@ -116,10 +112,6 @@ read_cause s t P before now r cause answers = record {
   failed = cause.failed;
   damaged = λ honest is base keeps. not_damaged (P base) r (answers honest base keeps) is;
 }
-
--- and why a change did
-pub change_cause : {T : Type 0} (s t : StoreState) (before now : ℕ) (r : Result T StoreError) → HasReadCause before now r → (IsErrOf r error.Damaged → ⊥) → HasStoreCause s t before now r
-change_cause s t before now r cause whole = record { later = cause.later; failed = cause.failed; damaged = λ honest is base keeps. whole is }
 
 -- the answer where there is one
 pub answered : {T : Type 0} (P : T → Type 0) (r : Result T StoreError) → Answers P r → IfOk r P

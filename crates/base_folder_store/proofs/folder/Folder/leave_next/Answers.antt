@@ -1,18 +1,20 @@
 use Rattle.std.proofs.Common.{◌≡◌, ◌<◌, ◌≤◌, ◌-◌, ℕ, List, nat_lt, length, take, drop, get_or, sym, ap, subst, ◌∙◌, arith}
 use Rattle.std.proofs.lemmas.List.{length-drop, take_all}
 use Rattle.std.specs.Prelude.{IsSome}
-use Rattle.disk_io.specs.Disk.{bytes_in}
+use Rattle.disk_io.specs.Disk.{Honestly, bytes_in}
+use Rattle.disk_io.specs.Runs.{LeavesOnly}
 use Rattle.disk_io.proofs.Moments.{then_nothing}
-use Rattle.base_log.specs.Moments.{StandsAlone}
+use Rattle.base_log.specs.Moments.{KeepsOutside, StandsAlone}
 use Rattle.base_log.proofs.Gates.{outside_quiet, outside_twice}
 use Rattle.echo_filed.specs.Filed.{Filed}
 use Rattle.base_log.specs.Standing.{BaseBytes}
 use Rattle.base_log.proofs.Quiet.{base_quiet}
+use Rattle.base_file.specs.Base.{Base}
 use Rattle.base_store.specs.Keys.{StandWhereTold, digest_at}
 use Rattle.base_folder_store.specs.Added.{IsStoredAlone}
 use Rattle.base_folder_store.specs.Answers.{IsAloneOf}
 use Rattle.base_folder_store.specs.Held.{HoldsBase}
-use Rattle.base_folder_store.specs.Left.{IsBesideIn, first_left, left_if}
+use Rattle.base_folder_store.specs.Left.{IsBesideIn, IsReadable, first_left, left_if}
 use Rattle.base_folder_store.specs.Opened.{and_waiting, committed_by, held_by, path_of}
 use Rattle.base_folder_store.proofs.Bases.{open_quiet}
 use Rattle.base_folder_store.proofs.Beside.{committed_beside, many_readable, readable_beside, readable_quiet, told_readable}
@@ -21,99 +23,115 @@ use Rattle.base_folder_store.proofs.Looked.{some_message}
 use Rattle.base_folder_store.proofs.Staged.{both_runs, nothing_left}
 use Rattle.base_folder_store.proofs.Stated.{not_damaged}
 use Rattle.base_folder_store.proofs.Stubbed.{IsBelow, changed_step, is_below, left_more}
+use Rattle.base_folder_store.proofs.folder.Folder.leave_next.Given as given
+use Rattle.base_folder_store.proofs.folder.Folder.leave_next.Goals.{After-message_at, After-stage}
 use Rattle.base_folder_store.proofs.folder.Folder.leave_next.Goals as goal
 
 pub message_at-requires-clause-there : goal.message_at-requires-clause-there
 message_at-requires-clause-there g c honest =
-    let f = c.args.self.now in
-    let n = c.args.next.now in
-    let d0 = g.D.Disk.state c.args.disk.now in
     let readable = c.requires.readable honest in
-    let name = c.deref.ensures.value ∙ readable.names.messages in
-    subst (λ (m : List ℕ). IsSome (d0.seen m)) (sym name) readable.there
+    subst (λ (m : List ℕ). IsSome ((g.D.Disk.state c.args.disk.now).seen m)) (sym (c.deref.ensures.value ∙ readable.names.messages)) readable.there
 
 pub message_at-requires-clause-long : goal.message_at-requires-clause-long
 message_at-requires-clause-long g c honest =
+    let readable = c.requires.readable honest in
+    subst (λ (m : List ℕ). c.args.self.now.end.told.messages ≤ length (bytes_in ((g.D.Disk.state c.args.disk.now).seen m))) (sym (c.deref.ensures.value ∙ readable.names.messages)) readable.long
+
+-- the run so far, once the message was read
+record Read (g : given.Over) (c : After-message_at g) : Type 0 where
+  readable : Honestly (g.D.Disk.state c.message_at.new.disk) (IsReadable (g.D.Disk.state c.message_at.new.disk) c.args.self.now)
+  run : Honestly (g.D.Disk.state c.message_at.new.disk) (LeavesOnly (g.D.Disk.state c.args.disk.now) (g.D.Disk.state c.message_at.new.disk)
+      (StandsAlone (path_of c.args.next.now) (g.D.Disk.state c.args.disk.now) (committed_by (g.D.Disk.state c.args.disk.now) c.args.next.now)))
+  outside : KeepsOutside (path_of c.args.next.now) (g.D.Disk.state c.args.disk.now) (g.D.Disk.state c.message_at.new.disk)
+
+read : (g : given.Over) (c : After-message_at g) → Read g c
+read g c =
+    let n = c.args.next.now in
+    let d0 = g.D.Disk.state c.args.disk.now in
+    let d1 = g.D.Disk.state c.message_at.new.disk in
+    let quiet = c.message_at.ensures.quiet in
+    record {
+      readable = λ honest. readable_quiet d0 d1 c.args.self.now quiet (c.requires.readable (quiet.honest honest));
+      run = λ honest. then_nothing d0 d0 d1 (StandsAlone (path_of n) d0 (committed_by d0 n)) (nothing_left d0 n (c.requires.opened (quiet.honest honest))) quiet;
+      outside = outside_quiet (path_of n) d0 d1 quiet;
+    }
+
+-- and once what is left of it was staged
+record Left (g : given.Over) (c : After-stage g) : Type 0 where
+  readable : Honestly (g.D.Disk.state c.stage.new.disk) (IsReadable (g.D.Disk.state c.stage.new.disk) c.args.self.now)
+  beside : IsBesideIn c.args.self.now c.stage.new.self
+  run : Honestly (g.D.Disk.state c.stage.new.disk) (LeavesOnly (g.D.Disk.state c.args.disk.now) (g.D.Disk.state c.stage.new.disk)
+      (StandsAlone (path_of c.args.next.now) (g.D.Disk.state c.args.disk.now) (committed_by (g.D.Disk.state c.args.disk.now) c.args.next.now)))
+  outside : KeepsOutside (path_of c.args.next.now) (g.D.Disk.state c.args.disk.now) (g.D.Disk.state c.stage.new.disk)
+
+left : (g : given.Over) (c : After-stage g) → Left g c
+left g c =
     let f = c.args.self.now in
     let n = c.args.next.now in
     let d0 = g.D.Disk.state c.args.disk.now in
-    let readable = c.requires.readable honest in
-    let name = c.deref.ensures.value ∙ readable.names.messages in
-    subst (λ (m : List ℕ). f.end.told.messages ≤ length (bytes_in (d0.seen m))) (sym name) readable.long
+    let d1 = g.D.Disk.state c.message_at.new.disk in
+    let d2 = g.D.Disk.state c.stage.new.disk in
+    let quiet = c.message_at.ensures.quiet in
+    let out = outside_quiet (path_of n) d0 d1 quiet in
+    let staged = c.stage.ensures in
+    record {
+      readable = λ honest.
+          let h1 = staged.outside.honest honest in
+          readable_beside d1 d2 f n c.requires.beside staged.beside (readable_quiet d0 d1 f quiet (c.requires.readable (quiet.honest h1)));
+      beside = record {
+        path = staged.path ∙ c.requires.beside.path;
+        end = staged.end ∙ c.requires.beside.end;
+        number = λ is. c.requires.beside.number (sym staged.number ∙ is);
+        mark = staged.mark ∙ c.requires.beside.mark;
+      };
+      run = λ honest.
+          let h0 = quiet.honest (staged.outside.honest honest) in
+          let first = then_nothing d0 d0 d1 (StandsAlone (path_of n) d0 (committed_by d0 n)) (nothing_left d0 n (c.requires.opened h0)) quiet in
+          both_runs (path_of n) d0 d1 d2 (committed_by d0 n) (committed_by d1 n) first (staged.any_moment honest) out (base_quiet d0 d1 (path_of n) n.end.told quiet);
+      outside = outside_twice (path_of n) d0 d1 d2 out staged.outside;
+    }
+
+-- the message of the number, in a base that is held
+record Message (g : given.Over) (c : After-message_at g) (keyed : ℕ → ℕ → List ℕ → ℕ) (base : Base) : Type 0 where
+  holds : HoldsBase keyed (committed_by (g.D.Disk.state c.args.disk.now) c.args.self.now) base
+  told : StandWhereTold base.messages (take c.args.self.now.end.told.messages (bytes_in ((g.D.Disk.state c.args.disk.now).seen c.deref.result.now))) c.deref-2.result.now
+  within : c.args.place < length base.messages
+
+message : (g : given.Over) (c : After-message_at g) (h0 : (g.D.Disk.state c.args.disk.now).is_honest) (keyed : ℕ → ℕ → List ℕ → ℕ) (base : Base) → HoldsBase keyed (committed_by (g.D.Disk.state c.args.disk.now) c.args.next.now) base → Message g c keyed base
+message g c h0 keyed base holds =
+    let f = c.args.self.now in
+    let d0 = g.D.Disk.state c.args.disk.now in
+    let here = subst (λ (b : BaseBytes). HoldsBase keyed b base) (committed_beside d0 f c.args.next.now c.requires.beside) holds in
+    let readable = c.requires.readable h0 in
+    let many = many_readable keyed d0 f base readable here in
+    record {
+      holds = here;
+      told = subst (λ (l : List ℕ). StandWhereTold base.messages (take f.end.told.messages (bytes_in (d0.seen c.deref.result.now))) l) (sym c.deref-2.ensures.value) (told_readable keyed d0 f base c.deref.result.now readable here c.deref.ensures.value);
+      within = omega (arith, many, c.requires.within);
+    }
 
 pub returns-in_err-alone-clause-readable : goal.returns-in_err-alone-clause-readable
-returns-in_err-alone-clause-readable g c honest =
-    let h0 = c.message_at.ensures.quiet.honest honest in
-    let f = c.args.self.now in
-    let n = c.args.next.now in
-    let d0 = g.D.Disk.state c.args.disk.now in
-    let d1 = g.D.Disk.state c.message_at.new.disk in
-    let quiet = c.message_at.ensures.quiet in
-    readable_quiet d0 d1 f quiet (c.requires.readable h0)
+returns-in_err-alone-clause-readable g c = (read g (goal.at.returns-in_err-alone-clause-readable g c).After-message_at).readable
 
 pub returns-in_err-alone-clause-any_moment : goal.returns-in_err-alone-clause-any_moment
-returns-in_err-alone-clause-any_moment g c honest =
-    let h0 = c.message_at.ensures.quiet.honest honest in
-    let f = c.args.self.now in
-    let n = c.args.next.now in
-    let d0 = g.D.Disk.state c.args.disk.now in
-    let d1 = g.D.Disk.state c.message_at.new.disk in
-    let quiet = c.message_at.ensures.quiet in
-    let run_1 = then_nothing d0 d0 d1 (StandsAlone (path_of n) d0 (committed_by d0 n)) (nothing_left d0 n (c.requires.opened h0)) quiet in
-    run_1
+returns-in_err-alone-clause-any_moment g c = (read g (goal.at.returns-in_err-alone-clause-any_moment g c).After-message_at).run
 
 pub returns-in_err-alone-clause-outside : goal.returns-in_err-alone-clause-outside
-returns-in_err-alone-clause-outside g c =
-    let f = c.args.self.now in
-    let n = c.args.next.now in
-    let d0 = g.D.Disk.state c.args.disk.now in
-    let d1 = g.D.Disk.state c.message_at.new.disk in
-    let quiet = c.message_at.ensures.quiet in
-    outside_quiet (path_of n) d0 d1 quiet
+returns-in_err-alone-clause-outside g c = (read g (goal.at.returns-in_err-alone-clause-outside g c).After-message_at).outside
 
 pub returns-in_err-left-clause-readable : goal.returns-in_err-left-clause-readable
-returns-in_err-left-clause-readable g c honest =
-    let h0 = c.message_at.ensures.quiet.honest honest in
-    let f = c.args.self.now in
-    let n = c.args.next.now in
-    let d0 = g.D.Disk.state c.args.disk.now in
-    let d1 = g.D.Disk.state c.message_at.new.disk in
-    let quiet = c.message_at.ensures.quiet in
-    readable_quiet d0 d1 f quiet (c.requires.readable h0)
+returns-in_err-left-clause-readable g c = (read g (goal.at.returns-in_err-left-clause-readable g c).After-message_at).readable
 
 pub returns-in_err-left-clause-any_moment : goal.returns-in_err-left-clause-any_moment
-returns-in_err-left-clause-any_moment g c honest =
-    let h0 = c.message_at.ensures.quiet.honest honest in
-    let f = c.args.self.now in
-    let n = c.args.next.now in
-    let d0 = g.D.Disk.state c.args.disk.now in
-    let d1 = g.D.Disk.state c.message_at.new.disk in
-    let quiet = c.message_at.ensures.quiet in
-    let run_1 = then_nothing d0 d0 d1 (StandsAlone (path_of n) d0 (committed_by d0 n)) (nothing_left d0 n (c.requires.opened h0)) quiet in
-    run_1
+returns-in_err-left-clause-any_moment g c = (read g (goal.at.returns-in_err-left-clause-any_moment g c).After-message_at).run
 
 pub returns-in_err-left-clause-outside : goal.returns-in_err-left-clause-outside
-returns-in_err-left-clause-outside g c =
-    let f = c.args.self.now in
-    let n = c.args.next.now in
-    let d0 = g.D.Disk.state c.args.disk.now in
-    let d1 = g.D.Disk.state c.message_at.new.disk in
-    let quiet = c.message_at.ensures.quiet in
-    outside_quiet (path_of n) d0 d1 quiet
+returns-in_err-left-clause-outside g c = (read g (goal.at.returns-in_err-left-clause-outside g c).After-message_at).outside
 
 pub returns-in_err-alone-clause-damaged : goal.returns-in_err-alone-clause-damaged
 returns-in_err-alone-clause-damaged g c honest is keyed base holds =
-    let h0 = c.message_at.ensures.quiet.honest honest in
-    let f = c.args.self.now in
-    let n = c.args.next.now in
-    let d0 = g.D.Disk.state c.args.disk.now in
-    let keys : c.deref-2.result.now ≡ f.keys.items = c.deref-2.ensures.value in
-    let readable = c.requires.readable h0 in
-    let here = subst (λ (b : BaseBytes). HoldsBase keyed b base) (committed_beside d0 f n c.requires.beside) holds in
-    let told = subst (λ (l : List ℕ). StandWhereTold base.messages (take f.end.told.messages (bytes_in (d0.seen c.deref.result.now))) l) (sym keys) (told_readable keyed d0 f base c.deref.result.now readable here c.deref.ensures.value) in
-    let many = many_readable keyed d0 f base readable here in
-    let within : c.args.place < length base.messages = omega (arith, many, c.requires.within) in
-    not_damaged (IsAloneOf base.messages c.args.place) _ (c.in_err-alone.ensures.read honest base.messages told within) (handed_on _ _ c.from_residual.result c.from_residual.ensures.1 is)
+    let m = message g (goal.at.returns-in_err-alone-clause-damaged g c).After-message_at (c.message_at.ensures.quiet.honest honest) keyed base holds in
+    not_damaged (IsAloneOf base.messages c.args.place) _ (c.in_err-alone.ensures.read honest base.messages m.told m.within) (handed_on _ _ c.from_residual.result c.from_residual.ensures.1 is)
 
 pub returns-in_err-left-clause-damaged : goal.returns-in_err-left-clause-damaged
 returns-in_err-left-clause-damaged g c honest is keyed base holds =
@@ -125,176 +143,78 @@ returns-in_err-stage-clause-damaged g c honest is keyed base holds =
 
 pub stage-requires-clause-opened : goal.stage-requires-clause-opened
 stage-requires-clause-opened g c honest =
-    let h0 = c.message_at.ensures.quiet.honest honest in
-    let f = c.args.self.now in
-    let n = c.args.next.now in
-    let d0 = g.D.Disk.state c.args.disk.now in
-    let d1 = g.D.Disk.state c.message_at.new.disk in
     let quiet = c.message_at.ensures.quiet in
-    open_quiet d0 d1 n quiet (c.requires.opened h0)
+    open_quiet (g.D.Disk.state c.args.disk.now) (g.D.Disk.state c.message_at.new.disk) c.args.next.now quiet (c.requires.opened (quiet.honest honest))
 
 pub returns-in_err-stage-clause-readable : goal.returns-in_err-stage-clause-readable
-returns-in_err-stage-clause-readable g c honest =
-    let h1 = c.stage.ensures.outside.honest honest in
-    let h0 = c.message_at.ensures.quiet.honest h1 in
-    let f = c.args.self.now in
-    let n = c.args.next.now in
-    let d0 = g.D.Disk.state c.args.disk.now in
-    let d1 = g.D.Disk.state c.message_at.new.disk in
-    let d2 = g.D.Disk.state c.stage.new.disk in
-    let quiet = c.message_at.ensures.quiet in
-    readable_beside d1 d2 f n c.requires.beside c.stage.ensures.beside (readable_quiet d0 d1 f quiet (c.requires.readable h0))
+returns-in_err-stage-clause-readable g c = (left g (goal.at.returns-in_err-stage-clause-readable g c).After-stage).readable
 
 pub returns-in_err-stage-clause-beside : goal.returns-in_err-stage-clause-beside
-returns-in_err-stage-clause-beside g c =
-    let f = c.args.self.now in
-    let n = c.args.next.now in
-    let d0 = g.D.Disk.state c.args.disk.now in
-    let beside : IsBesideIn f c.stage.new.self = record {
-      path = c.stage.ensures.path ∙ c.requires.beside.path;
-      end = c.stage.ensures.end ∙ c.requires.beside.end;
-      number = λ is. c.requires.beside.number (sym c.stage.ensures.number ∙ is);
-      mark = c.stage.ensures.mark ∙ c.requires.beside.mark;
-    } in
-    beside
+returns-in_err-stage-clause-beside g c = (left g (goal.at.returns-in_err-stage-clause-beside g c).After-stage).beside
 
 pub returns-in_err-stage-clause-any_moment : goal.returns-in_err-stage-clause-any_moment
-returns-in_err-stage-clause-any_moment g c honest =
-    let h1 = c.stage.ensures.outside.honest honest in
-    let h0 = c.message_at.ensures.quiet.honest h1 in
-    let f = c.args.self.now in
-    let n = c.args.next.now in
-    let d0 = g.D.Disk.state c.args.disk.now in
-    let d1 = g.D.Disk.state c.message_at.new.disk in
-    let d2 = g.D.Disk.state c.stage.new.disk in
-    let quiet = c.message_at.ensures.quiet in
-    let run_1 = then_nothing d0 d0 d1 (StandsAlone (path_of n) d0 (committed_by d0 n)) (nothing_left d0 n (c.requires.opened h0)) quiet in
-    both_runs (path_of n) d0 d1 d2 (committed_by d0 n) (committed_by d1 n) run_1 (c.stage.ensures.any_moment honest) (outside_quiet (path_of n) d0 d1 quiet) (base_quiet d0 d1 (path_of n) n.end.told quiet)
+returns-in_err-stage-clause-any_moment g c = (left g (goal.at.returns-in_err-stage-clause-any_moment g c).After-stage).run
 
 pub returns-in_err-stage-clause-outside : goal.returns-in_err-stage-clause-outside
-returns-in_err-stage-clause-outside g c =
-    let f = c.args.self.now in
-    let n = c.args.next.now in
-    let d0 = g.D.Disk.state c.args.disk.now in
-    let d1 = g.D.Disk.state c.message_at.new.disk in
-    let d2 = g.D.Disk.state c.stage.new.disk in
-    let quiet = c.message_at.ensures.quiet in
-    outside_twice (path_of n) d0 d1 d2 (outside_quiet (path_of n) d0 d1 quiet) c.stage.ensures.outside
+returns-in_err-stage-clause-outside g c = (left g (goal.at.returns-in_err-stage-clause-outside g c).After-stage).outside
 
 pub returns-clause-readable : goal.returns-clause-readable
-returns-clause-readable g c honest =
-    let h1 = c.stage.ensures.outside.honest honest in
-    let h0 = c.message_at.ensures.quiet.honest h1 in
-    let f = c.args.self.now in
-    let n = c.args.next.now in
-    let d0 = g.D.Disk.state c.args.disk.now in
-    let d1 = g.D.Disk.state c.message_at.new.disk in
-    let d2 = g.D.Disk.state c.stage.new.disk in
-    let quiet = c.message_at.ensures.quiet in
-    readable_beside d1 d2 f n c.requires.beside c.stage.ensures.beside (readable_quiet d0 d1 f quiet (c.requires.readable h0))
+returns-clause-readable g c = (left g (goal.at.returns-clause-readable g c).After-stage).readable
 
 pub returns-clause-beside : goal.returns-clause-beside
-returns-clause-beside g c =
-    let f = c.args.self.now in
-    let n = c.args.next.now in
-    let d0 = g.D.Disk.state c.args.disk.now in
-    let beside : IsBesideIn f c.stage.new.self = record {
-      path = c.stage.ensures.path ∙ c.requires.beside.path;
-      end = c.stage.ensures.end ∙ c.requires.beside.end;
-      number = λ is. c.requires.beside.number (sym c.stage.ensures.number ∙ is);
-      mark = c.stage.ensures.mark ∙ c.requires.beside.mark;
-    } in
-    beside
+returns-clause-beside g c = (left g (goal.at.returns-clause-beside g c).After-stage).beside
 
 pub returns-clause-any_moment : goal.returns-clause-any_moment
-returns-clause-any_moment g c honest =
-    let h1 = c.stage.ensures.outside.honest honest in
-    let h0 = c.message_at.ensures.quiet.honest h1 in
-    let f = c.args.self.now in
-    let n = c.args.next.now in
-    let d0 = g.D.Disk.state c.args.disk.now in
-    let d1 = g.D.Disk.state c.message_at.new.disk in
-    let d2 = g.D.Disk.state c.stage.new.disk in
-    let quiet = c.message_at.ensures.quiet in
-    let run_1 = then_nothing d0 d0 d1 (StandsAlone (path_of n) d0 (committed_by d0 n)) (nothing_left d0 n (c.requires.opened h0)) quiet in
-    both_runs (path_of n) d0 d1 d2 (committed_by d0 n) (committed_by d1 n) run_1 (c.stage.ensures.any_moment honest) (outside_quiet (path_of n) d0 d1 quiet) (base_quiet d0 d1 (path_of n) n.end.told quiet)
+returns-clause-any_moment g c = (left g (goal.at.returns-clause-any_moment g c).After-stage).run
 
 pub returns-clause-outside : goal.returns-clause-outside
-returns-clause-outside g c =
-    let f = c.args.self.now in
-    let n = c.args.next.now in
-    let d0 = g.D.Disk.state c.args.disk.now in
-    let d1 = g.D.Disk.state c.message_at.new.disk in
-    let d2 = g.D.Disk.state c.stage.new.disk in
-    let quiet = c.message_at.ensures.quiet in
-    outside_twice (path_of n) d0 d1 d2 (outside_quiet (path_of n) d0 d1 quiet) c.stage.ensures.outside
+returns-clause-outside g c = (left g (goal.at.returns-clause-outside g c).After-stage).outside
 
 pub returns-clause-same : goal.returns-clause-same
 returns-clause-same g c honest =
-    let h1 = c.stage.ensures.outside.honest honest in
-    let h0 = c.message_at.ensures.quiet.honest h1 in
-    let f = c.args.self.now in
     let n = c.args.next.now in
-    let d0 = g.D.Disk.state c.args.disk.now in
-    let d1 = g.D.Disk.state c.message_at.new.disk in
-    let d2 = g.D.Disk.state c.stage.new.disk in
-    let quiet = c.message_at.ensures.quiet in
-    c.in_ok-stage.ensures.same honest ∙ base_quiet d0 d1 (path_of n) n.end.told quiet
+    c.in_ok-stage.ensures.same honest ∙ base_quiet (g.D.Disk.state c.args.disk.now) (g.D.Disk.state c.message_at.new.disk) (path_of n) n.end.told c.message_at.ensures.quiet
 
 pub returns-clause-left : goal.returns-clause-left
 returns-clause-left g c honest =
     let h1 = c.stage.ensures.outside.honest honest in
-    let h0 = c.message_at.ensures.quiet.honest h1 in
+    let quiet = c.message_at.ensures.quiet in
+    let h0 = quiet.honest h1 in
     let f = c.args.self.now in
     let n = c.args.next.now in
     let d0 = g.D.Disk.state c.args.disk.now in
     let d1 = g.D.Disk.state c.message_at.new.disk in
     let d2 = g.D.Disk.state c.stage.new.disk in
-    let quiet = c.message_at.ensures.quiet in
-    let keys : c.deref-2.result.now ≡ f.keys.items = c.deref-2.ensures.value in
     λ keyed base holds left.
-    let readable = c.requires.readable h0 in
-    let here = subst (λ (b : BaseBytes). HoldsBase keyed b base) (committed_beside d0 f n c.requires.beside) holds in
-    let told = subst (λ (l : List ℕ). StandWhereTold base.messages (take f.end.told.messages (bytes_in (d0.seen c.deref.result.now))) l) (sym keys) (told_readable keyed d0 f base c.deref.result.now readable here c.deref.ensures.value) in
-    let many = many_readable keyed d0 f base readable here in
-    let within : c.args.place < length base.messages = omega (arith, many, c.requires.within) in
-    let d : Filed = some_message base.messages c.args.place within in
-    let m = get_or base.messages c.args.place d in
-    let alone = c.in_ok-alone.ensures.read h1 base.messages told within d in
+    let m = message g (goal.at.returns-clause-left g c).After-message_at h0 keyed base holds in
+    let d : Filed = some_message base.messages c.args.place m.within in
+    let one = get_or base.messages c.args.place d in
+    let alone = c.in_ok-alone.ensures.read h1 base.messages m.told m.within d in
     let scanned = nat_lt c.args.place f.end.told.cursor in
-    let cursor : f.end.told.cursor ≡ base.cursor = here.cursor in
+    let cursor : f.end.told.cursor ≡ base.cursor = m.holds.cursor in
     let below : IsBelow scanned c.args.place base.cursor = subst (λ (n : ℕ). IsBelow scanned c.args.place n) cursor (is_below c.args.place f.end.told.cursor) in
     let held : held_by d1 n ≡ held_by d0 n = ap (λ (b : BaseBytes). and_waiting b n.waiting) (base_quiet d0 d1 (path_of n) n.told quiet) in
     let whole = c.deref-4.result.now in
     let piece : take (length whole - 16) (drop 16 whole) ≡ drop 16 whole = take_all (length whole - 16) (drop 16 whole) (omega (arith, length-drop 16 whole)) in
     let bytes : take (length whole - 16) (drop 16 whole) ≡ drop 16 c.in_ok-left.left.file.items = piece ∙ ap (λ (l : List ℕ). drop 16 l) c.deref-4.ensures.value in
-    let stored = subst (λ (l : List ℕ). IsStoredAlone (left_if scanned m) l) (sym bytes) (c.in_ok-left.ensures.stored m alone) in
-    left_more keyed (committed_by d0 f) (held_by d1 n) (held_by d2 c.stage.new.self) base c.args.place c.digest_of-digest.result d (take (length whole - 16) (drop 16 whole)) scanned here c.requires.beside.mark within
+    let stored = subst (λ (l : List ℕ). IsStoredAlone (left_if scanned one) l) (sym bytes) (c.in_ok-left.ensures.stored one alone) in
+    left_more keyed (committed_by d0 f) (held_by d1 n) (held_by d2 c.stage.new.self) base c.args.place c.digest_of-digest.result d (take (length whole - 16) (drop 16 whole)) scanned m.holds c.requires.beside.mark m.within
     (subst (λ (b : BaseBytes). HoldsBase keyed b (first_left base c.args.place)) (sym held) left) below stored
-    (c.digest_of-digest.ensures ∙ ap (λ (l : List ℕ). digest_at l c.args.place) (c.deref-3.ensures.value ∙ readable.keys))
+    (c.digest_of-digest.ensures ∙ ap (λ (l : List ℕ). digest_at l c.args.place) (c.deref-3.ensures.value ∙ (c.requires.readable h0).keys))
     (c.in_ok-stage.ensures.staged honest) (c.in_ok-stage.ensures.fits honest)
 
 pub returns-clause-changed : goal.returns-clause-changed
 returns-clause-changed g c honest =
     let h1 = c.stage.ensures.outside.honest honest in
-    let h0 = c.message_at.ensures.quiet.honest h1 in
     let f = c.args.self.now in
-    let n = c.args.next.now in
-    let d0 = g.D.Disk.state c.args.disk.now in
-    let keys : c.deref-2.result.now ≡ f.keys.items = c.deref-2.ensures.value in
     λ keyed base holds.
-    let readable = c.requires.readable h0 in
-    let here = subst (λ (b : BaseBytes). HoldsBase keyed b base) (committed_beside d0 f n c.requires.beside) holds in
-    let told = subst (λ (l : List ℕ). StandWhereTold base.messages (take f.end.told.messages (bytes_in (d0.seen c.deref.result.now))) l) (sym keys) (told_readable keyed d0 f base c.deref.result.now readable here c.deref.ensures.value) in
-    let many = many_readable keyed d0 f base readable here in
-    let within : c.args.place < length base.messages = omega (arith, many, c.requires.within) in
-    let d : Filed = some_message base.messages c.args.place within in
-    let m = get_or base.messages c.args.place d in
-    let alone = c.in_ok-alone.ensures.read h1 base.messages told within d in
+    let m = message g (goal.at.returns-clause-changed g c).After-message_at (c.message_at.ensures.quiet.honest h1) keyed base holds in
+    let d : Filed = some_message base.messages c.args.place m.within in
+    let alone = c.in_ok-alone.ensures.read h1 base.messages m.told m.within d in
     let scanned = nat_lt c.args.place f.end.told.cursor in
-    let cursor : f.end.told.cursor ≡ base.cursor = here.cursor in
+    let cursor : f.end.told.cursor ≡ base.cursor = m.holds.cursor in
     let below : IsBelow scanned c.args.place base.cursor = subst (λ (n : ℕ). IsBelow scanned c.args.place n) cursor (is_below c.args.place f.end.told.cursor) in
-    changed_step base c.args.place d scanned c.in_ok-left.left.changed within below (c.in_ok-left.ensures.changed m alone)
+    changed_step base c.args.place d scanned c.in_ok-left.left.changed m.within below (c.in_ok-left.ensures.changed (get_or base.messages c.args.place d) alone)
 
 pub returns-in_err-stage-clause-cause : goal.returns-in_err-stage-clause-cause
 returns-in_err-stage-clause-cause g c =
