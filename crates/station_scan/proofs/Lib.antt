@@ -11,4 +11,5 @@ mod Outs
 mod Looked
 mod Through
 mod Scans
+mod Tries
 mod Runs

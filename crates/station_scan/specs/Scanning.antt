@@ -1,13 +1,14 @@
 -- A scan is run on a station.
-use Rattle.std.specs.Prelude.{◌≡◌, ◌⊎◌, ◌<◌, ℕ, List, Result, Ok, Err, All, IfErr, IsErrOf, OnOk}
+use Rattle.std.specs.Prelude.{◌≡◌, ◌⊎◌, ◌<◌, ℕ, List, length, Result, Ok, Err, All, IfErr, IsErrOf, OnOk}
 use Rattle.base_file.specs.Base.{Base}
 use Rattle.disk_io.specs.Disk.{DiskState, Files}
 use Rattle.disk_io.specs.Runs.{ChangesNothing, LeavesOnly, OneStepOn}
 use Rattle.echo_links.specs.Links.{LinkFile}
 use Rattle.disk_atomic.specs.Changes.{DifferAt}
 use Rattle.disk_atomic.specs.Finishing.{FinishesEach, IsOfLeft}
+use Rattle.disk_atomic.specs.Trying.{WasTried}
 use Rattle.disk_atomic.specs.declared.finishing.Left.{Left}
-use Rattle.station.specs.Paths.{dotted}
+use Rattle.station.specs.Paths.{dotted, staging_path}
 use Rattle.cmd_status.specs.declared.fault.Fault.{Fault}
 use Rattle.cmd_status.specs.Devices.{Output}
 use Rattle.model_steps.specs.PacketFiles.{PacketFile}
@@ -24,7 +25,7 @@ use Rattle.station_scan.specs.Fitting.{AreTaken}
 use Rattle.station_scan.specs.Left.{AreAllLeft, AreFreeLeft, IsEnded, IsEndedAt, IsLeftOf, IsOfName}
 use Rattle.station_scan.specs.Publishing.{IsOnDisk}
 use Rattle.station_scan.specs.Sending.{HasBytes, IsAtItsPath, IsStagingOfPacket, IsFreeAt, IsStagingGone, StandsWhole}
-use Rattle.station_scan.specs.Sends.{IsOfThese}
+use Rattle.station_scan.specs.Sends.{IsOfThese, WasTriedFor}
 use Rattle.station_scan.specs.Stops.{IsOfPlacing, as_scan, most}
 use Rattle.station_scan.specs.declared.scan_error.ScanError.{ScanError}
 use Rattle.station_scan.specs.declared.scan_error.ScanError.TheVariants.{Command}
@@ -150,3 +151,20 @@ pub record IsScanNotRun (place : Place) (Shut Stops : Fault → Type 0) (old new
 abbrev pub ScansIn : Stamp → Place → List ℕ → (Files → Type 0) → (LinkFile → Type 0) → (Fault → Type 0) → (Fault → Type 0) → Type 0 → DiskState → DiskState → Output → Output → Result (Unit {0}) ScanError → Type 0
 ScansIn stamp place outbound IsTrue Reads Shut Stops failed old new old_out new_out result =
     IsScanRun stamp place outbound IsTrue Reads failed old new old_out new_out result ⊎ IsScanNotRun place Shut Stops old new old_out new_out result
+
+-- The base stands that was committed before. Or, for the packets of this scan, it was tried whether a file of the folder gets a second path,
+-- before anything else was done there.
+abbrev pub TriesOn : {D : Type 0} → (D → DiskState) → Stamp → (List ℕ → Type 0) → List ℕ → StoreState → StoreState → Output → Output → LinkFile → Base → Type 0
+TriesOn state stamp Own outbound old new old_out new_out file base =
+    (new.is_ready × new.committed base)
+    ⊎ ((files : List PacketFile) × ScansOn stamp (state_in file base) old_out new_out (Ok files) × WasTriedFor state Own outbound (dotted file.system) files old.disk)
+
+-- where there are packets it was tried, before anything else was done outside the station's own files
+abbrev pub IsTriedIn : {D : Type 0} → (D → DiskState) → Place → List ℕ → List ℕ → List PacketFile → DiskState → Type 0
+IsTriedIn state place outbound own files old = (length files ≡ 0) ⊎ WasTried state (IsTouched place.is_own outbound) (staging_path outbound own) old
+
+-- Where a scan ended well each crash leaves the base from before, or it was tried for the packets that were made of that.
+abbrev pub ScanTries : {D : Type 0} → (D → DiskState) → Stamp → Place → List ℕ → (LinkFile → Type 0) → DiskState → DiskState → Output → Output → Type 0
+ScanTries state stamp place outbound Reads old new old_out new_out = (base : Base) → place.stands_for base old.seen
+    → ((c : Files) → new.may_leave c → place.stands_for base c)
+    ⊎ ((file : LinkFile) × Reads file × ((files : List PacketFile) × ScansOn stamp (state_in file base) old_out new_out (Ok files) × IsTriedIn state place outbound (dotted file.system) files old))

@@ -7,7 +7,7 @@ ghost use Rattle.disk_io.specs.Runs.{ChangesNothing};
 ghost use Rattle.cmd_status.specs.Devices.{output_of};
 ghost use Rattle.station.specs.Opening.{AreFree, HaveFailed};
 ghost use Rattle.station_scan.specs.Publishing.{UnchangedExcept, KeepsStoreBut};
-ghost use Rattle.station_scan.specs.Scanning.{IsTouched, ScansIn, ScansOnStore};
+ghost use Rattle.station_scan.specs.Scanning.{IsTouched, ScanTries, ScansIn, ScansOnStore, TriesOn};
 
 use crate::beneath::Used;
 use crate::listing::ListStaged;
@@ -70,6 +70,10 @@ pub fn run_scan<
         (P.is_shut station failed (D.state disk) (D.state result.disk)) (Q.stops before.old before.new)
         (failed ⊎ Failed (G.failures scan.old.listing) (G.failures scan.new.listing)) (D.state disk) (D.state result.disk)
         (output_of W.contents W.failures W.holds out.old) (output_of W.contents W.failures W.holds out.new) result.done) }
+
+    // Packets are committed only after a file of their folder got a second path.
+    ensures tried { Honestly (D.state result.disk) (OnOk result.done (ScanTries D.state scan.old.stamp (P.place station) scan.old.outbound.now (P.reads station (D.state disk)) (D.state disk) (D.state result.disk)
+        (output_of W.contents W.failures W.holds out.old) (output_of W.contents W.failures W.holds out.new))) }
     ensures keeps { UnchangedExcept (IsTouched (P.place station).is_own scan.old.outbound.now) (D.state disk) (D.state result.disk) }
     ensures passed { OnOk result.done (Q.lets before.old) }
 {
@@ -117,6 +121,9 @@ fn scan_kept<'a, 's, D: Disk, P: LendStation<'a, D>, G: ListStaged, T: MessagePr
         → ScansOnStore scan.old.stamp (P.Paths.is_own paths.now) scan.old.outbound.now (G.is_true scan.new.listing)
         (Failed (P.Kept.failures store) (P.Kept.failures result.store) ⊎ Failed (G.failures scan.old.listing) (G.failures scan.new.listing)) (P.Kept.state store) (P.Kept.state result.store)
         (output_of W.contents W.failures W.holds out.old) (output_of W.contents W.failures W.holds out.new) links.now base result.done) }
+    ensures tried { Honestly (P.Kept.state result.store).disk ((base : Base) → (P.Kept.state store).keeps base → (P.Kept.state store).committed base
+        → OnOk result.done (TriesOn D.state scan.old.stamp (P.Paths.is_own paths.now) scan.old.outbound.now (P.Kept.state store) (P.Kept.state result.store)
+        (output_of W.contents W.failures W.holds out.old) (output_of W.contents W.failures W.holds out.new) links.now base)) }
     ensures keeps { KeepsStoreBut (IsTouched (P.Kept.state store).is_own scan.old.outbound.now) (P.Kept.state store) (P.Kept.state result.store) }
     ensures later { P.Kept.failures store ≤ P.Kept.failures result.store }
     ensures listing_later { G.failures scan.old.listing ≤ G.failures scan.new.listing }

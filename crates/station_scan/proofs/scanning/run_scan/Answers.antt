@@ -7,6 +7,7 @@ use Rattle.station.specs.Opening.{HaveFailed}
 use Rattle.station.proofs.Ran.{looks_of, looks_open, stopped_on}
 use Rattle.station_scan.proofs.Runs.{scan_keeps, scanned_on}
 use Rattle.station_scan.proofs.Stops.{failed_too}
+use Rattle.station_scan.proofs.Tries.{scan_tries}
 use Rattle.station_scan.proofs.scanning.run_scan.Goals as goal
 
 pub returns-in-Ok-prepare-clause-runs : goal.returns-in-Ok-prepare-clause-runs
@@ -52,6 +53,25 @@ returns-in-Ok-prepare-clause-runs g c = λ honest.
           looked.looks.ready honest1 (did.scans honest2 base (begun.keeps base stands) (begun.committed base stands));
       cause = λ is. inl (inl (wider (did.device is)));
     })
+
+pub returns-in-Ok-prepare-clause-tried : goal.returns-in-Ok-prepare-clause-tried
+returns-in-Ok-prepare-clause-tried g c = λ honest.
+    let d0 = g.D.Disk.state c.args.disk in
+    let d2 = g.D.Disk.state c.into_disk-disk.result in
+    let s0 = g.P.Kept.Store.state c.in-Ok.opened.kept in
+    let s1 = g.P.Kept.Store.state c.prepare.new.store in
+    let s2 = g.P.Kept.Store.state c.scan_kept-store.result.store in
+    let place = g.P.OpenStation.place c.args.station in
+    let opened = c.in-Ok.ensures.opened in
+    let looks = c.prepare.ensures.looks in
+    let did = c.scan_kept-store.ensures in
+    let quiet = c.into_disk-disk.ensures.quiet in
+    let honest2 = quiet.honest honest in
+    let honest0 = looks.quiet.honest (did.keeps.keeps.honest honest2) in
+    let begun = looks_open place d0 s0 s1 looks (opened.begun honest0) in
+    scan_tries g.D.Disk.state c.args.scan.now.stamp place c.args.scan.now.outbound.now (g.P.OpenStation.reads c.args.station d0) d0 d2 s1 s2 (looks_of place d0 s0 s1 looks opened.of_place) quiet did.keeps.same honest2
+    (g.P.Paths.OwnPaths.is_own c.paths-paths.result) _ _ c.in-Ok.opened.links (opened.read honest0) c.scan_kept-store.result.done
+    (λ base stands. did.tried honest2 base (begun.keeps base stands) (begun.committed base stands))
 
 pub returns-in-Ok-prepare-clause-keeps : goal.returns-in-Ok-prepare-clause-keeps
 returns-in-Ok-prepare-clause-keeps g c =

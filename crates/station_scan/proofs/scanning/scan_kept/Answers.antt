@@ -5,12 +5,15 @@ use Rattle.cmd_status.specs.Devices.{output_of}
 use Rattle.model_steps.specs.PacketFiles.{PacketFile}
 use Rattle.base_store.specs.Store.{GoesOn, all_scanned}
 use Rattle.station.proofs.Failures.{failed_wider}
+use Rattle.station.specs.Beneath.{HoldsAsBefore}
 use Rattle.station.specs.Paths.{dotted}
 use Rattle.cmd_store.specs.Scanned.{ScansOn}
 use Rattle.cmd_store.specs.declared.command_error.CommandError.{CommandError}
 use Rattle.echo_toss.specs.PacketsIn.{state_in}
 use Rattle.station_scan.specs.Scanning.{SendsOut}
+use Rattle.station_scan.specs.Sends.{WasTriedFor}
 use Rattle.station_scan.proofs.Scans.{scans_ok}
+use Rattle.station_scan.proofs.Tries.{tries_on}
 use Rattle.station_scan.proofs.scanning.scan_kept.Goals as goal
 
 pub returns-in-Ok-clause-scans : goal.returns-in-Ok-clause-scans
@@ -42,3 +45,21 @@ returns-in-Ok-clause-scans g c = λ honest base keeps committed.
     (put.sends honest base next (on.committed honestA base committed) moved) in
     scans_ok c.args.scan.now.stamp Own outbound IsTrue (Failed fA f2 ⊎ listed) (Failed f1 f2 ⊎ listed) (λ failed. ⊎_elim (λ disk. inl (failed_wider f1 fA f2 f2 later (omega arith) disk)) (λ at. inr at) failed) s1 sA s2 out now
     c.args.links.now base c.in-Ok.files result honest1 c.requires.ready committed took.same took.quiet answer cursor (c.cursor-cursor.ensures honest1 base keeps) sends
+
+pub returns-in-Ok-clause-tried : goal.returns-in-Ok-clause-tried
+returns-in-Ok-clause-tried g c = λ honest base keeps committed.
+    let s1 = g.P.Kept.Store.state c.args.store in
+    let sA = g.P.Kept.Store.state c.take_waiting-store.result.store in
+    let s2 = g.P.Kept.Store.state c.put_taken.result.store in
+    let took = c.take_waiting-store.ensures in
+    let put = c.put_taken.ensures in
+    let honestA = put.keeps.keeps.honest honest in
+    let on = subst (λ (r : Result (List PacketFile) CommandError). OnOk r (GoesOn s1 sA)) c.in-Ok.is took.goes_on in
+    let out = output_of g.W.Write.contents g.W.Sink.failures g.W.Sink.holds c.args.out.now in
+    let now = output_of g.W.Write.contents g.W.Sink.failures g.W.Sink.holds c.take_waiting-store.new.out in
+    let answer = subst (λ (r : Result (List PacketFile) CommandError). ScansOn c.args.scan.now.stamp (state_in c.args.links.now base) out now r) c.in-Ok.is (took.answers honestA base keeps) in
+    let Own = g.P.Paths.OwnPaths.is_own c.args.paths.now in
+    let outbound = c.args.scan.now.outbound.now in
+    let own = dotted c.args.links.now.system in
+    tries_on g.D.Disk.state c.args.scan.now.stamp Own outbound s1 sA s2 out now c.args.links.now base c.in-Ok.files c.put_taken.result.done took.quiet (on.committed honestA base committed) answer
+    (subst (λ (f : List PacketFile). HoldsAsBefore sA s2 ⊎ WasTriedFor g.D.Disk.state Own outbound own f sA.disk) c.as_slice.ensures put.tried)

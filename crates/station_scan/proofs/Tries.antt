@@ -1,0 +1,65 @@
+-- That a scan tries whether a file gets a second path.
+use Rattle.std.proofs.Common.{◌≡◌, ◌⊎◌, inl, inr, ⊎_elim, ℕ, List, Result, Ok, Err}
+use Rattle.std.specs.Prelude.{OnOk, length}
+use Rattle.base_file.specs.Base.{Base}
+use Rattle.disk_io.specs.Disk.{DiskState, Files}
+use Rattle.disk_io.specs.Runs.{ChangesNothing}
+use Rattle.echo_links.specs.Links.{LinkFile}
+use Rattle.station.specs.Beneath.{HoldsAsBefore}
+use Rattle.station.specs.Paths.{dotted, staging_path}
+use Rattle.station.specs.Place.{IsOfPlace, Place}
+use Rattle.cmd_status.specs.Devices.{Output}
+use Rattle.model_steps.specs.PacketFiles.{PacketFile}
+use Rattle.model_steps.specs.declared.stamp.Stamp.{Stamp}
+use Rattle.base_store.specs.Store.{IsSameStore, StoreState}
+use Rattle.cmd_store.specs.Scanned.{ScansOn}
+use Rattle.echo_toss.specs.PacketsIn.{state_in}
+use Rattle.station_scan.specs.Left.{IsOfNameOff}
+use Rattle.station_scan.specs.Scanning.{IsTouched, IsTriedIn, ScanTries, TriesOn}
+use Rattle.station_scan.specs.Sends.{WasTriedFor}
+use Rattle.station_scan.specs.declared.scan_error.ScanError.{ScanError}
+use Rattle.station_scan.proofs.Staged.{tried_after}
+
+-- what is so is so where it ended well
+any_ok : (r : Result (Unit {0}) ScanError) (P : Type 0) → P → OnOk r P
+any_ok (Ok done) P p = p
+any_ok (Err why) P p = tt
+
+-- it was tried on the disk as it was before the store was looked through
+pub tried_looked : {D : Type 0} (state : D → DiskState) (Own : List ℕ → Type 0) (outbound own : List ℕ) (files : List PacketFile) (d0 d1 : DiskState) → ChangesNothing d0 d1
+    → WasTriedFor state Own outbound own files d1 → WasTriedFor state Own outbound own files d0
+tried_looked state Own outbound own files d0 d1 quiet (inl none) = inl none
+tried_looked state Own outbound own files d0 d1 quiet (inr was) =
+    let at = IsOfNameOff Own outbound own in
+    inr (tried_after state at at (staging_path outbound own) d0 d1 (λ m is. is) (λ m out. quiet.seen m) was)
+
+-- the packets that were made were tried, or the base stands that was committed
+pub tries_on : {D : Type 0} (state : D → DiskState) (stamp : Stamp) (Own : List ℕ → Type 0) (outbound : List ℕ) (s1 sA s2 : StoreState) (out now : Output) (file : LinkFile) (base : Base) (files : List PacketFile)
+    (result : Result (Unit {0}) ScanError) → ChangesNothing s1.disk sA.disk → sA.committed base → ScansOn stamp (state_in file base) out now (Ok files)
+    → HoldsAsBefore sA s2 ⊎ WasTriedFor state Own outbound (dotted file.system) files sA.disk → OnOk result (TriesOn state stamp Own outbound s1 s2 out now file base)
+tries_on state stamp Own outbound s1 sA s2 out now file base files result quiet is answer tried =
+    any_ok result (TriesOn state stamp Own outbound s1 s2 out now file base)
+    (⊎_elim
+    (λ (holds : HoldsAsBefore sA s2). inl (holds.ready, holds.committed base is))
+    (λ (was : WasTriedFor state Own outbound (dotted file.system) files sA.disk). inr (files, answer, tried_looked state Own outbound (dotted file.system) files s1.disk sA.disk quiet was))
+    tried)
+
+module _ {D : Type 0} (state : D → DiskState) (stamp : Stamp) (place : Place) (outbound : List ℕ) (Reads : LinkFile → Type 0) (d0 d2 : DiskState) (s1 s2 : StoreState) (of : IsOfPlace place d0 s1) (quiet : ChangesNothing s2.disk d2)
+    (same : IsSameStore s1 s2) (honest : s2.disk.is_honest) (Own : List ℕ → Type 0) (out now : Output) (file : LinkFile) (read : Reads file) where
+  tried_open : (files : List PacketFile) → WasTriedFor state Own outbound (dotted file.system) files s1.disk → IsTriedIn state place outbound (dotted file.system) files d0
+  tried_open files (inl none) = inl none
+  tried_open files (inr was) =
+      let own = dotted file.system in
+      inr (tried_after state (IsOfNameOff Own outbound own) (IsTouched place.is_own outbound) (staging_path outbound own) d0 s1.disk (λ m is. inr (own, is.0)) (λ m off. of.elsewhere.seen m (λ o. off (inl o))) was)
+
+  tries_in : (base : Base) → TriesOn state stamp Own outbound s1 s2 out now file base
+      → ((c : Files) → d2.may_leave c → place.stands_for base c)
+      ⊎ ((file : LinkFile) × Reads file × ((files : List PacketFile) × ScansOn stamp (state_in file base) out now (Ok files) × IsTriedIn state place outbound (dotted file.system) files d0))
+  tries_in base (inl (ready, is)) = inl (λ c left. (of.stands base c).0 ((same.stands base c).0 (s2.stays honest ready base is c (quiet.no_more c left))))
+  tries_in base (inr (files, answer, was)) = inr (file, read, (files, answer, tried_open files was))
+
+  -- so it was on the disk on which the store was opened
+  pub scan_tries : (result : Result (Unit {0}) ScanError) → ((base : Base) → place.stands_for base d0.seen → OnOk result (TriesOn state stamp Own outbound s1 s2 out now file base))
+      → OnOk result (ScanTries state stamp place outbound Reads d0 d2 out now)
+  scan_tries (Ok done) tries = λ base stands. tries_in base (tries base stands)
+  scan_tries (Err why) tries = tt
