@@ -1,6 +1,6 @@
 -- That a scan tries whether a file gets a second path.
-use Rattle.std.proofs.Common.{◌≡◌, ◌⊎◌, inl, inr, ⊎_elim, ℕ, List, Result, Ok, Err}
-use Rattle.std.specs.Prelude.{OnOk, length}
+use Rattle.std.proofs.Common.{◌⊎◌, inl, inr, ⊎_elim, ℕ, List, Result, Ok, Err}
+use Rattle.std.specs.Prelude.{OnOk}
 use Rattle.base_file.specs.Base.{Base}
 use Rattle.disk_io.specs.Disk.{DiskState, Files}
 use Rattle.disk_io.specs.Runs.{ChangesNothing}
@@ -54,7 +54,7 @@ module _ {D : Type 0} (state : D → DiskState) (stamp : Stamp) (place : Place) 
 
   tries_in : (base : Base) → TriesOn state stamp Own outbound s1 s2 out now file base
       → ((c : Files) → d2.may_leave c → place.stands_for base c)
-      ⊎ ((file : LinkFile) × Reads file × ((files : List PacketFile) × ScansOn stamp (state_in file base) out now (Ok files) × IsTriedIn state place outbound (dotted file.system) files d0))
+      ⊎ ((f : LinkFile) × Reads f × ((files : List PacketFile) × ScansOn stamp (state_in f base) out now (Ok files) × IsTriedIn state place outbound (dotted f.system) files d0))
   tries_in base (inl (ready, is)) = inl (λ c left. (of.stands base c).0 ((same.stands base c).0 (s2.stays honest ready base is c (quiet.no_more c left))))
   tries_in base (inr (files, answer, was)) = inr (file, read, (files, answer, tried_open files was))
 

@@ -69,8 +69,10 @@ returns-in-Ok-prepare-clause-tried g c = λ honest.
     let honest2 = quiet.honest honest in
     let honest0 = looks.quiet.honest (did.keeps.keeps.honest honest2) in
     let begun = looks_open place d0 s0 s1 looks (opened.begun honest0) in
+    let out = output_of g.W.Write.contents g.W.Sink.failures g.W.Sink.holds c.args.out.now in
+    let now = output_of g.W.Write.contents g.W.Sink.failures g.W.Sink.holds c.scan_kept-store.new.out in
     scan_tries g.D.Disk.state c.args.scan.now.stamp place c.args.scan.now.outbound.now (g.P.OpenStation.reads c.args.station d0) d0 d2 s1 s2 (looks_of place d0 s0 s1 looks opened.of_place) quiet did.keeps.same honest2
-    (g.P.Paths.OwnPaths.is_own c.paths-paths.result) _ _ c.in-Ok.opened.links (opened.read honest0) c.scan_kept-store.result.done
+    (g.P.Paths.OwnPaths.is_own c.paths-paths.result) out now c.in-Ok.opened.links (opened.read honest0) c.scan_kept-store.result.done
     (λ base stands. did.tried honest2 base (begun.keeps base stands) (begun.committed base stands))
 
 pub returns-in-Ok-prepare-clause-keeps : goal.returns-in-Ok-prepare-clause-keeps
