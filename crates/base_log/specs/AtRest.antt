@@ -8,7 +8,7 @@ use Rattle.base_log.specs.Standing.{StandsFor, base_at}
 use Rattle.base_log.specs.declared.log.CommitRecord.{CommitRecord}
 use Rattle.base_log.specs.declared.log.End.{End}
 
--- a closed gate stands at this place in the log, behind records of which the last tells this, and the log is on the disk
+-- The log has a closed gate at this place, after records that end with this one, and is on the disk.
 pub record IsLogAt (disk : DiskState) (path : List ℕ) (end : End) : Type 0 where
   pub bodies : List (List ℕ)
   pub sizes : AreBodies bodies
@@ -21,7 +21,7 @@ pub record IsLogAt (disk : DiskState) (path : List ℕ) (end : End) : Type 0 whe
   pub on_disk : IsOnDisk disk (log_of path)
   pub named : (m : List ℕ) → IsIn path m → disk.is_named m
 
--- the log is at its end, and what it tells is on the disk
+-- the log is at its end, and what its last record counts is on the disk
 pub record IsAtRest (disk : DiskState) (path : List ℕ) (end : End) : Type 0 where
   pub log : IsLogAt disk path end
   pub digit : end.told.number < 10
@@ -30,8 +30,8 @@ pub record IsAtRest (disk : DiskState) (path : List ℕ) (end : End) : Type 0 wh
   pub messages_on : IsOnDisk disk (messages_of path end.told.number)
   pub keys_on : IsOnDisk disk (keys_of path end.told.number)
 
--- So much was written and is not yet told: each crash leaves the base that the log tells, which is seen too, and the files have the bytes
--- of the next one.
+-- This record is written but not yet committed. Each crash leaves the base of the log, which is also the one seen, and the files have the
+-- bytes of the next one.
 pub record IsStaged (disk : DiskState) (path : List ℕ) (end : End) (told : CommitRecord) : Type 0 where
   pub log : IsLogAt disk path end
   pub stands : (c : Files) → disk.may_leave c → StandsFor path (base_at disk path end.told) c

@@ -4,7 +4,7 @@ use Rattle.std.specs.Int.{w64, from_le_bytes, to_le_bytes}
 use Rattle.base_log.specs.declared.log.FolderIdentity.{FolderIdentity}
 use Rattle.base_log.specs.declared.log.CommitRecord.{CommitRecord}
 
--- the bytes of records, one after another: a gate that is open, and what the record tells
+-- The bytes of records, one after another: an open gate, and the body of the record.
 abbrev pub opened : List (List ℕ) → List ℕ
 opened [] = []
 opened (body ∷ bodies) = 1 ∷ body ++ opened bodies
@@ -13,22 +13,22 @@ abbrev pub AreBodies : List (List ℕ) → Type 0
 AreBodies [] = Unit {0}
 AreBodies (body ∷ bodies) = (length body ≡ 49) × AreBodies bodies
 
--- no whole record with an open gate begins here
+-- No whole record with an open gate begins here.
 abbrev pub EndsHere : List ℕ → Type 0
 EndsHere rest = (length rest < 50) ⊎ (slice_index rest 0 ≢ 1)
 
--- a closed gate stands at this place
+-- There is a closed gate at this place.
 abbrev pub IsShutAt : ℕ → List ℕ → Type 0
 IsShutAt place log = (place < length log) × (slice_index log place ≢ 1)
 
--- the records of a log, up to the first that is cut short or has a closed gate
+-- The records of a log, up to the first that is cut short or has a closed gate.
 pub record IsLog (bodies : List (List ℕ)) (bytes : List ℕ) : Type 0 where
   pub rest : List ℕ
   pub parts : bytes ≡ opened bodies ++ rest
   pub sizes : AreBodies bodies
   pub ends : EndsHere rest
 
--- whose the folder is, and the two halves of a key: numbers of eight bytes, low byte first
+-- The mark of a folder: its owner, and the two halves of a key, numbers of eight bytes, low byte first.
 abbrev pub mark_by : List ℕ → FolderIdentity
 mark_by body = record {
   owner = from_le_bytes w64 (take 8 body);
@@ -36,11 +36,11 @@ mark_by body = record {
   second = from_le_bytes w64 (take 8 (drop 16 body));
 }
 
--- of a folder that nobody has claimed
+-- The mark of a folder without an owner.
 abbrev pub no_mark : FolderIdentity
 no_mark = record { owner = 0; first = 0; second = 0 }
 
--- three numbers of eight bytes, low byte first, one of one byte, and a mark
+-- Three numbers of eight bytes, low byte first, one of one byte, and a mark.
 abbrev pub told_by : List ℕ → CommitRecord
 told_by body = record {
   messages = from_le_bytes w64 (take 8 body);
@@ -50,12 +50,12 @@ told_by body = record {
   mark = mark_by (drop 25 body);
 }
 
--- the bytes of a record behind its gate
+-- The bytes of a record behind its gate.
 abbrev pub body_of : CommitRecord → List ℕ
 body_of told = to_le_bytes w64 told.messages ++ to_le_bytes w64 told.keys ++ to_le_bytes w64 told.cursor ++ told.number ∷ []
     ++ to_le_bytes w64 told.mark.owner ++ to_le_bytes w64 told.mark.first ++ to_le_bytes w64 told.mark.second
 
--- each of its numbers has eight bytes
+-- Each of its numbers has eight bytes.
 pub record FitsRecord (told : CommitRecord) : Type 0 where
   pub messages : told.messages < 2 ^ 64
   pub keys : told.keys < 2 ^ 64
@@ -64,11 +64,11 @@ pub record FitsRecord (told : CommitRecord) : Type 0 where
   pub first : told.mark.first < 2 ^ 64
   pub second : told.mark.second < 2 ^ 64
 
--- of a log with no record
+-- Of a log with no record.
 abbrev pub nothing_told : CommitRecord
 nothing_told = record { messages = 0; keys = 0; cursor = 0; number = 0; mark = no_mark }
 
--- the last record counts
+-- The last record counts.
 abbrev pub last_told : List (List ℕ) → CommitRecord
 last_told [] = nothing_told
 last_told (body ∷ []) = told_by body

@@ -4,19 +4,19 @@ use Rattle.disk_io.specs.Disk.{DiskState, Files, IsIn}
 use Rattle.disk_io.specs.Runs.{LeavesOnly, OneStepOn}
 use Rattle.base_log.specs.Standing.{BaseBytes, StandsFor}
 
--- the files outside the folder that were on the disk are as they were
+-- The files outside the folder that were on the disk are as they were.
 abbrev pub SameOutside : List ℕ → DiskState → Files → Type 0
 SameOutside path old c = (m : List ℕ) → (IsIn path m → ⊥) → old.is_named m → old.is_flushed m → c m ≡ old.seen m
 
--- what a path outside the folder that was on the disk leads to is the same, or none still
+-- What a path outside the folder that was on the disk leads to is the same, or none still.
 abbrev pub SameNamedOutside : List ℕ → DiskState → Files → Files → Type 0
 SameNamedOutside path old before after = (m : List ℕ) → (IsIn path m → ⊥) → old.is_named m → after m ≡ before m
 
--- there a crash at any moment leaves what one might have left before
+-- There a crash at any moment leaves what one might have left before.
 abbrev pub LeavesOutside : List ℕ → DiskState → DiskState → Type 0
 LeavesOutside path old new = LeavesOnly old new (OneStepOn (SameNamedOutside path old) old)
 
--- what was seen and on the disk outside the folder is so still
+-- Outside the folder the files seen and the files on the disk are unchanged.
 pub record KeepsOutside (path : List ℕ) (old new : DiskState) : Type 0 where
   pub seen : (m : List ℕ) → (IsIn path m → ⊥) → new.seen m ≡ old.seen m
   pub named : (m : List ℕ) → (IsIn path m → ⊥) → old.is_named m → new.is_named m
@@ -24,12 +24,12 @@ pub record KeepsOutside (path : List ℕ) (old new : DiskState) : Type 0 where
   pub alone : (m : List ℕ) → (IsIn path m → ⊥) → old.is_alone m → new.is_alone m
   pub honest : new.is_honest → old.is_honest
 
--- this base, and nothing outside it has changed
+-- This base, and nothing outside it has changed.
 pub record StandsAlone (path : List ℕ) (old : DiskState) (base : BaseBytes) (c : Files) : Type 0 where
   pub outside : SameOutside path old c
   pub stands : StandsFor path base c
 
--- the base from before or the one after, and nothing outside it has changed
+-- The base from before or the one after, and nothing outside it has changed.
 pub record IsBeforeOrAfter (path : List ℕ) (old : DiskState) (first next : BaseBytes) (c : Files) : Type 0 where
   pub outside : SameOutside path old c
   pub stands : StandsFor path first c ⊎ StandsFor path next c

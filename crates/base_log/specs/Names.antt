@@ -7,7 +7,7 @@ use Rattle.base_log.specs.declared.names.Names.{Names}
 abbrev pub log_of : List ℕ → List ℕ
 log_of path = path ++ LOG.now
 
--- the files of that number have a digit at the end of their names
+-- The files of that number have a digit at the end of their names.
 abbrev pub messages_of : List ℕ → ℕ → List ℕ
 messages_of path number = path ++ (MESSAGES.now ++ (48 + number) ∷ [])
 
@@ -17,13 +17,13 @@ keys_of path number = path ++ (KEYS.now ++ (48 + number) ∷ [])
 abbrev pub folder_of : Names → List ℕ
 folder_of names = names.folder.items
 
--- the paths of the files of that number in the folder
+-- The paths of the files of that number in the folder.
 pub record AreNames (names : Names) (number : ℕ) : Type 0 where
   pub log : names.log.items ≡ log_of (folder_of names)
   pub messages : names.messages.items ≡ messages_of (folder_of names) number
   pub keys : names.keys.items ≡ keys_of (folder_of names) number
 
--- a path in the folder that is neither its log nor a file of that number
+-- A path in the folder that is neither its log nor a file of that number.
 pub record IsBeside (path : List ℕ) (number : ℕ) (file : List ℕ) : Type 0 where
   pub inside : IsIn path file
   pub not_log : log_of path ≢ file

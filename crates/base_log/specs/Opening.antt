@@ -11,29 +11,29 @@ use Rattle.base_log.specs.Names.{log_of, messages_of, keys_of}
 use Rattle.base_log.specs.Standing.{BaseBytes}
 use Rattle.base_log.specs.Moments.{StandsAlone}
 
--- a disk's fault, as a fault of a folder
+-- A disk's fault, as a fault of a folder.
 abbrev pub folder_cause : DiskError → FolderError
 folder_cause disk.Memory = folder.Memory
 folder_cause disk.Device = folder.Device
 
--- each path in the folder leads on the disk to what it leads to now
+-- Each path in the folder leads on the disk to what it leads to now.
 abbrev pub AreNamed : List ℕ → DiskState → Type 0
 AreNamed path disk = (m : List ℕ) → IsIn path m → disk.is_named m
 
--- each file in the folder has one path
+-- Each file in the folder has one path.
 abbrev pub AreAlone : List ℕ → DiskState → Type 0
 AreAlone path disk = (m : List ℕ) → IsIn path m → disk.is_alone m
 
--- this base with all else as it was, or what a crash might have left before
+-- This base with all else as it was, or what a crash might have left before.
 abbrev pub StandsOrWasLeft : List ℕ → DiskState → BaseBytes → Files → Type 0
 StandsOrWasLeft path old base c = StandsAlone path old base c ⊎ old.may_leave c
 
--- a failure of the device is answered only where its count of failures rose
+-- A failure of the device is answered only where its count of failures rose.
 pub record HasFolderCause {T : Type 0} (before now : ℕ) (result : Result T FolderError) : Type 0 where
   pub later : before ≤ now
   pub failed : IsErrOf result folder.Device → Failed before now
 
--- the other files are as they were, and their paths
+-- The other files are as they were, and their paths.
 pub record KeepsButOne (old new : DiskState) (file : List ℕ) : Type 0 where
   pub seen : (m : List ℕ) → m ≢ file → new.seen m ≡ old.seen m
   pub named : (m : List ℕ) → m ≢ file → old.is_named m → new.is_named m
@@ -41,19 +41,19 @@ pub record KeepsButOne (old new : DiskState) (file : List ℕ) : Type 0 where
   pub alone : (m : List ℕ) → m ≢ file → old.is_alone m → new.is_alone m
   pub honest : new.is_honest → old.is_honest
 
--- the two files of the number are there, and as long as a record tells
+-- The two files of the number exist, and are as long as a record says.
 pub record HasFiles (path : List ℕ) (files : Files) (told : CommitRecord) : Type 0 where
   pub messages : IsSome (files (messages_of path told.number))
   pub keys : IsSome (files (keys_of path told.number))
   pub messages_long : told.messages ≤ length (bytes_in (files (messages_of path told.number)))
   pub keys_long : told.keys ≤ length (bytes_in (files (keys_of path told.number)))
 
--- the log and the files of each number have their bytes on the disk
+-- The log and the files of each number have their bytes on the disk.
 pub record AreFlushed (path : List ℕ) (disk : DiskState) : Type 0 where
   pub log : disk.is_flushed (log_of path)
   pub messages : (n : ℕ) → n < 10 → disk.is_flushed (messages_of path n)
   pub keys : (n : ℕ) → n < 10 → disk.is_flushed (keys_of path n)
 
--- what is not there has no bytes that may come back
+-- A missing file has no bytes that may come back.
 abbrev pub StayGone : List ℕ → DiskState → Type 0
 StayGone path disk = (m : List ℕ) → IsIn path m → disk.seen m ≡ None → disk.is_flushed m

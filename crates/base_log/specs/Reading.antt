@@ -6,7 +6,7 @@ use Rattle.base_log.specs.Log.{opened, AreBodies, EndsHere, last_told}
 use Rattle.base_log.specs.declared.log.End.{End}
 use Rattle.base_log.specs.declared.log.Log.{Log}
 
--- the records of a log up to a place, and what stands behind it
+-- The records of a log up to a place, and the rest after it.
 pub record ReadsTo (bytes : List ℕ) (end : End) (rest : List ℕ) : Type 0 where
   pub bodies : List (List ℕ)
   pub parts : bytes ≡ opened bodies ++ rest
@@ -14,16 +14,16 @@ pub record ReadsTo (bytes : List ℕ) (end : End) (rest : List ℕ) : Type 0 whe
   pub gate : end.gate ≡ length (opened bodies)
   pub told : last_told bodies ≡ end.told
 
--- all of its records
+-- All of its records.
 pub record ReadsAll (bytes : List ℕ) (end : End) : Type 0 where
   pub rest : List ℕ
   pub reads : ReadsTo bytes end rest
   pub ends : EndsHere rest
 
--- the log has been read to the end of its records
+-- The log has been read to the end of its records.
 abbrev pub IsRead : Log → Type 0
 IsRead log = ReadsAll log.bytes.items log.end
 
--- it is that of the folder
+-- It is that of the folder.
 abbrev pub IsLogIn : List ℕ → Files → Log → Type 0
 IsLogIn path files log = log.bytes.items ≡ bytes_in (files (log_of path))

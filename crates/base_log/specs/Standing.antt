@@ -1,4 +1,4 @@
--- What the files of a base folder stand for.
+-- The base that the files of a base folder hold.
 use Rattle.std.specs.Prelude.{◌≡◌, ◌<◌, ◌≤◌, ◌⊎◌, ℕ, List, [], ◌∷◌, ◌++◌, length, take, IsSome}
 use Rattle.disk_io.specs.Disk.{DiskState, Files, bytes_in}
 use Rattle.base_log.specs.Names.{log_of, messages_of, keys_of}
@@ -6,31 +6,31 @@ use Rattle.base_log.specs.Log.{IsLog, IsShutAt, last_told, opened}
 use Rattle.base_log.specs.declared.log.FolderIdentity.{FolderIdentity}
 use Rattle.base_log.specs.declared.log.CommitRecord.{CommitRecord}
 
--- the bytes of the messages, those of their keys, the cursor, and the mark
+-- The bytes of the messages, those of their keys, the cursor, and the mark.
 pub record BaseBytes : Type 0 where
   pub messages : List ℕ
   pub keys : List ℕ
   pub cursor : ℕ
   pub mark : FolderIdentity
 
--- with more messages behind them
+-- With more messages behind them.
 abbrev pub and_messages : BaseBytes → List ℕ → BaseBytes
 and_messages base bytes = record { messages = base.messages ++ bytes; keys = base.keys; cursor = base.cursor; mark = base.mark }
 
--- with more keys behind them
+-- With more keys behind them.
 abbrev pub and_keys : BaseBytes → List ℕ → BaseBytes
 and_keys base bytes = record { messages = base.messages; keys = base.keys ++ bytes; cursor = base.cursor; mark = base.mark }
 
 abbrev pub IsFrontOf : List ℕ → List ℕ → Type 0
 IsFrontOf front bytes = take (length front) bytes ≡ front
 
--- both files of the number are there, where there is a record
+-- Both files of the number are there, where there is a record.
 abbrev pub AreThere : List ℕ → List (List ℕ) → Files → Type 0
 AreThere path [] files = Unit {0}
 AreThere path (body ∷ bodies) files =
     IsSome (files (messages_of path (last_told (body ∷ bodies)).number)) × IsSome (files (keys_of path (last_told (body ∷ bodies)).number))
 
--- a record tells how long this base is, and the files of its number begin with it
+-- A record has the lengths of this base, and the files of its number begin with it.
 pub record TellsBase (told : CommitRecord) (path : List ℕ) (base : BaseBytes) (files : Files) : Type 0 where
   pub messages_long : told.messages ≡ length base.messages
   pub keys_long : told.keys ≡ length base.keys
@@ -40,22 +40,22 @@ pub record TellsBase (told : CommitRecord) (path : List ℕ) (base : BaseBytes) 
   pub messages : IsFrontOf base.messages (bytes_in (files (messages_of path told.number)))
   pub keys : IsFrontOf base.keys (bytes_in (files (keys_of path told.number)))
 
--- no file of messages or of keys has bytes
+-- No file of messages or of keys has bytes.
 pub record HasNoBytes (path : List ℕ) (files : Files) : Type 0 where
   pub messages : (n : ℕ) → n < 10 → bytes_in (files (messages_of path n)) ≡ []
   pub keys : (n : ℕ) → n < 10 → bytes_in (files (keys_of path n)) ≡ []
 
--- the folder is new: its log has no more than the first gate, which a crash may have torn
+-- The folder is new: its log has no more than the first gate, which a crash may have torn.
 pub record IsNew (path : List ℕ) (files : Files) : Type 0 where
   pub log : length (bytes_in (files (log_of path))) ≤ 1
   pub empty : HasNoBytes path files
 
--- a closed gate stands behind the records, or the folder is new
+-- A closed gate follows the records, or the folder is new.
 abbrev pub IsEnded : List ℕ → List (List ℕ) → Files → Type 0
 IsEnded path bodies files = IsShutAt (length (opened bodies)) (bytes_in (files (log_of path))) ⊎ IsNew path files
 
--- The files stand for this base, whatever a crash made of them: what is behind the last record with an open gate, and behind
--- what it tells, does not count.
+-- The files hold this base, whatever a crash made of them. Bytes after the last record with an open gate do not count, and neither do bytes
+-- of the other files past its lengths.
 pub record StandsFor (path : List ℕ) (base : BaseBytes) (files : Files) : Type 0 where
   pub bodies : List (List ℕ)
   pub log : IsLog bodies (bytes_in (files (log_of path)))
@@ -63,17 +63,17 @@ pub record StandsFor (path : List ℕ) (base : BaseBytes) (files : Files) : Type
   pub there : AreThere path bodies files
   pub tells : TellsBase (last_told bodies) path base files
 
--- there are messages or keys, and no byte of a log
+-- There are messages or keys, and no byte of a log.
 pub record IsLost (path : List ℕ) (files : Files) : Type 0 where
   pub log : bytes_in (files (log_of path)) ≡ []
   pub some : HasNoBytes path files → ⊥
 
--- there is a log, or nothing else, and the files stand for no base
+-- There is a log, or nothing else, and the files hold no base.
 pub record IsBroken (path : List ℕ) (files : Files) : Type 0 where
   pub logged : IsLost path files → ⊥
   pub none : (base : BaseBytes) → StandsFor path base files → ⊥
 
--- the base of so many bytes, as they are seen now
+-- The base of so many bytes, as they are seen now.
 abbrev pub base_at : DiskState → List ℕ → CommitRecord → BaseBytes
 base_at disk path told = record {
   messages = take told.messages (bytes_in (disk.seen (messages_of path told.number)));

@@ -11,8 +11,8 @@ use crate::log::{CommitRecord, End};
 use crate::names::Names;
 use disk_io::{Disk, DiskError, sync_folder_of};
 
-/// Makes empty files of another number, with the same mark. What is staged there becomes the base once it is
-/// committed; until then a crash leaves the base as it was.
+/// Makes empty files of another number, with the same mark. The bytes staged there become the base once they are
+/// committed. Until then a crash leaves the base unchanged.
 pub fn stage_anew<D: Disk>(
     disk: &mut D,
     names: &Names,

@@ -29,7 +29,7 @@ fn log_bytes<D: Disk>(alloc: Global, disk: &mut D, log: &[u8]) -> Result<Vec<u8>
     read_file(alloc, disk, log)
 }
 
-/// Reads the log of a folder, whose path ends in a slash or is empty.
+/// Reads the log of a folder: a path that ends in a slash or is empty.
 pub fn read_log<D: Disk>(alloc: Global, disk: &mut D, folder: &[u8]) -> Result<Log, DiskError>
     ensures log { Honestly (D.state disk.new) (IfOk result (IsLogIn folder.now (D.state disk.old).seen)) }
     ensures read { IfOk result IsRead }
@@ -110,7 +110,7 @@ fn has_files<D: Disk>(disk: &mut D, names: &Names, told: CommitRecord) -> Result
     has_bytes(disk, &names.keys, told.keys)
 }
 
-// The same for a folder whose log has no closed gate after its records: the folder has to be new.
+// The same if the log has no closed gate after its records: the folder has to be new.
 fn judge_new<D: Disk>(
     alloc: Global,
     disk: &mut D,
@@ -139,8 +139,8 @@ fn judge_new<D: Disk>(
     Err(FolderError::Corrupt)
 }
 
-/// Whether the files of a folder with this log hold a base. It is `Lost` if the log is gone or empty and other files
-/// have bytes, and `Corrupt` if the log or a file is cut short.
+/// Whether the files of a folder with this log hold a base. The fault is `Lost` if the log is gone or empty and other
+/// files have bytes. It is `Corrupt` if the log or a file is cut short.
 pub fn judge<D: Disk>(
     alloc: Global,
     disk: &mut D,

@@ -76,7 +76,7 @@ pub(crate) fn make_log<D: Disk>(alloc: Global, disk: &mut D, names: &Names) -> R
     write_synced(disk, &names.log, 0, &[0])
 }
 
-// Makes the two files of a folder whose log has no record.
+// Makes the two files of a folder that has no record in its log.
 pub(crate) fn make_files<D: Disk>(disk: &mut D, names: &Names) -> Result<(), DiskError>
     requires names { AreNames names.now 0 }
     requires named { Honestly (D.state disk.old) (AreNamed (folder_of names.now) (D.state disk.old)) }

@@ -23,7 +23,7 @@ pub struct Names {
 }
 
 impl Names {
-    /// The paths of the files of that number in a folder, whose path ends in a slash or is empty.
+    /// The paths of the files of that number in a folder: a path that ends in a slash or is empty.
     pub fn new(alloc: Global, folder: &[u8], number: u8) -> Result<Names, AllocError>
         requires { number < 10 }
         ensures folder { IfOk result (λ names. folder_of names ≡ folder.now) }

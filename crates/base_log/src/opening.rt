@@ -57,8 +57,8 @@ fn settle_files<D: Disk>(disk: &mut D, names: &Names) -> Result<(), DiskError>
     disk.sync(&names.keys)
 }
 
-/// Opens the base folder whose files hold its base, with its log as it was read. Missing files are made; others are
-/// only synced. It may crash too, at any time.
+/// Opens a base folder that holds a base, with its log as it was read. Missing files are made; others are only synced.
+/// It may crash too, at any time.
 pub fn open<D: Disk>(alloc: Global, disk: &mut D, names: &Names, log: &Log) -> Result<(), DiskError>
     requires names { AreNames names.now log.now.end.told.number }
     requires alone { Honestly (D.state disk.old) (AreAlone (folder_of names.now) (D.state disk.old)) }

@@ -23,7 +23,7 @@ use Rattle.cmd_notes.specs.declared.reasons.WrongLine.{WrongLine}
 use Rattle.cmd_notes.specs.declared.reasons.WrongWord.{WrongWord}
 use Rattle.cmd_show.specs.LinksShown.{fault_number}
 
--- what is wrong with a word in a line of a link file
+-- The fault of a word in a line of a link file.
 abbrev pub complaint : LinkFault → List ℕ
 complaint (fault.UnknownWord number) = codes "unknown word"
 complaint (fault.BadAddress number) = codes "bad address"
@@ -35,7 +35,7 @@ complaint (fault.BadTag number) = codes "bad tag"
 complaint (fault.NameTooLong number) = codes "long name"
 complaint fault.Memory = codes "no memory for"
 
--- what a line may have there
+-- What a line may have there.
 abbrev pub expectation : LinkFault → List ℕ
 expectation (fault.UnknownWord number) = codes "expected SYSTEM, NAME or AREA"
 expectation (fault.BadAddress number) = codes "expected zone:net/node"
@@ -47,16 +47,16 @@ expectation (fault.BadTag number) = codes "expected 1 to 60 bytes from ! to ~"
 expectation (fault.NameTooLong number) = codes "40 bytes are allowed"
 expectation fault.Memory = codes "more is needed"
 
--- a word in quotes, between what is wrong with it and what is expected
+-- A fault, the word in quotes, and the expected form.
 abbrev pub word_reason : LinkFault → List ℕ → List ℕ
 word_reason fault word = complaint fault ++ (codes " '" ++ (printed_word word ++ (codes "', " ++ expectation fault)))
 
--- a line of a link file: path, number, and the wrong word
+-- A line of a link file: path, number, and the wrong word.
 abbrev pub line_reason : WrongLine → List ℕ
 line_reason line =
     printed_word line.path.now ++ (codes ":" ++ (decimal (fault_number line.fault) ++ (codes ": " ++ word_reason line.fault line.word.now)))
 
--- what is found at a path
+-- The state of a path.
 abbrev pub state_words : State → List ℕ
 state_words state.NoFile = codes "no such file"
 state_words state.NoFolder = codes "no such folder"
@@ -70,17 +70,17 @@ state_words state.NoSystem = codes "no line SYSTEM with the own address"
 abbrev pub path_reason : PathState → List ℕ
 path_reason found = printed_word found.path.now ++ (codes ": " ++ state_words found.state)
 
--- which packet of a toss it is: its number from 1, how many there are, and its path
+-- Which packet of a toss it is: its number from 1, how many there are, and its path.
 abbrev pub packet_words : PacketPlace → List ℕ
 packet_words place =
     codes "packet " ++ (decimal place.number ++ (codes " of " ++ (decimal place.packets ++ (codes ", " ++ (printed_word place.path.now ++ codes ": it ")))))
 
--- a packet for another system
+-- A packet for another system.
 abbrev pub misdelivered_reason : Misdelivered → List ℕ
 misdelivered_reason wrong =
     packet_words wrong.packet ++ (codes "is for " ++ (address_text wrong.to ++ (codes ", this is " ++ address_text wrong.own)))
 
--- what is wrong with a packet
+-- The fault of a packet.
 abbrev pub packet_complaint : PacketFault → List ℕ
 packet_complaint (packet.Truncated at) = codes "is cut off"
 packet_complaint (packet.NotType2 at) = codes "is not of type 2"
@@ -97,19 +97,19 @@ packet_complaint (packet.BadField which) = codes "has a field with a zero byte o
 abbrev pub faulty_packet_reason : FaultyPacket → List ℕ
 faulty_packet_reason faulty = packet_words faulty.packet ++ packet_complaint faulty.fault
 
--- a field by the option that gives it
+-- A field by the option that gives it.
 abbrev pub field_name : Field → List ℕ
 field_name field.ToName = codes "to"
 field_name field.FromName = codes "from"
 field_name field.Subject = codes "subject"
 field_name field.Text = codes "text"
 
--- a field with too many bytes
+-- A field with too many bytes.
 abbrev pub long_reason : LongField → List ℕ
 long_reason long =
     field_name long.field ++ (codes " is " ++ (decimal long.length ++ (codes " bytes long, " ++ (decimal long.most ++ codes " are allowed"))))
 
--- what a word of the command line is to be, and what it may look like
+-- What a word of the command line is to be, and what it may look like.
 abbrev pub form_complaint : WordForm → List ℕ
 form_complaint form.Stamp = codes "bad stamp '"
 form_complaint form.Serial = codes "bad serial '"
@@ -124,11 +124,11 @@ form_expectation form.Number = codes "', expected decimal digits"
 form_expectation form.Limit = codes "', expected a number up to 16777216"
 form_expectation form.NodeAddress = codes "', expected zone:net/node"
 
--- a word of another form, in quotes
+-- A word of another form, in quotes.
 abbrev pub form_reason : WrongWord → List ℕ
 form_reason wrong = form_complaint wrong.form ++ (printed_word wrong.word.now ++ form_expectation wrong.form)
 
--- a reason in words
+-- A reason in words.
 abbrev pub reason_text : Reason → List ℕ
 reason_text (reason.Line line) = line_reason line
 reason_text (reason.Path found) = path_reason found
@@ -139,6 +139,6 @@ reason_text (reason.Word wrong) = form_reason wrong
 reason_text (reason.NoArea tag links) = codes "no area " ++ (printed_word tag.now ++ (codes " in " ++ printed_word links.now))
 reason_text (reason.NoMessage number count) = codes "no message " ++ (decimal number ++ (codes ", the base has " ++ decimal count))
 
--- the line of a note
+-- The line of a note.
 abbrev pub reason_line : Reason → List ℕ
 reason_line why = codes "echonet: note: " ++ (reason_text why ++ codes "\n")

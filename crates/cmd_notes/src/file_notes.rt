@@ -87,7 +87,7 @@ pub(crate) fn explain_net<E: Sink>(met: Met<'_>, links: &Paths<'_>, errors: &mut
     }
 }
 
-/// A packet of a scan whose name is taken.
+/// A packet of a scan with a name in use.
 pub(crate) fn explain_outbound<E: Sink>(met: Met<'_>, folder: &str, errors: &mut E) {
     let Ok(slashed) = folder_path(met.rt, folder) else {
         return;

@@ -1,4 +1,4 @@
-//! A writer that keeps what was written.
+//! A writer that also collects the written bytes.
 
 use std::alloc::Global;
 use std::io;
@@ -19,7 +19,7 @@ impl<W> Heard<W> {
         }
     }
 
-    /// What was written, and kept as far as there was memory.
+    /// The written bytes that memory could hold.
     pub fn into_kept(self) -> Vec<u8>
     where
         W: Drop,

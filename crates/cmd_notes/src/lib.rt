@@ -1,10 +1,11 @@
-//! Notes that explain the faults of commands: what is at a path, and which line, word or packet is wrong.
+//! Notes that explain the faults of commands: the state of a path, or the line, word or packet that is wrong.
 //!
-//! The contract: `push_note` adds just the line that `reason_line` gives for a reason. Which reason applies is tested; the
-//! rest is proved to be safe and to end, and no more.
+//! The contract: `push_note` adds just the line that `reason_line` gives for a reason. Tests show which reason applies.
+//! The rest is proved to be safe and to end, and no more.
 //!
-//! Modules in reading order: `reasons` (why a command stopped, in words), `heard` (the fault lines that a command
-//! printed), `states` (what is found at a path), `file_notes`, `word_notes`, `packets` (which packet of a toss is refused) and `notes` (the note of each command).
+//! Begin with `reasons` (why a command stopped, in words) and `notes` (the note of each command). `heard` collects the
+//! fault lines that a command printed. `states` looks at a path, and `packets` finds the refused packet of a toss.
+//! `file_notes` and `word_notes` explain files and words.
 #![tactic(auto)]
 
 mod file_notes;

@@ -1,5 +1,5 @@
 //! Notes on the faults that a command printed. The program looks at the files of the command again. A reason counts if
-//! its fault has the line that was printed; so a file that changed meanwhile gets no note.
+//! its fault has the printed line, so a file that has changed since gets no note.
 
 use crate::file_notes::{
     explain_files, explain_links, explain_net, explain_outbound, explain_path, explain_paths,
@@ -20,7 +20,7 @@ use echo_stored::read_stored;
 use std::fs;
 use std::io::IsTerminal;
 
-/// A command whose faults are explained, and the base that it makes, if there is none before it.
+/// A command to be explained, and the base that it makes, if there is none before it.
 #[derive(Clone, Copy)]
 pub struct Noted<'a> {
     rt: &'a HostRuntime,
@@ -68,8 +68,8 @@ fn tell_state<E: Sink>(rt: &HostRuntime, path: &str, state: State, errors: &mut 
 }
 
 impl<'a> Noted<'a> {
-    /// The command that these words ask for, before it runs. None where no note is wanted: `--explain` is missing, and
-    /// standard error is no terminal.
+    /// The command of these words, before it runs. None if notes are off: `--explain` is missing, and standard error is
+    /// no terminal.
     pub fn of(rt: &'a HostRuntime, asked: &'a Asked<'a>) -> Option<Noted<'a>> {
         if !asked.explain && !rt.stderr().is_terminal() {
             return None;
@@ -86,7 +86,7 @@ impl<'a> Noted<'a> {
         })
     }
 
-    /// Prints a note on each of these fault lines whose reason is known, and on what the command made.
+    /// Prints a note on each of these fault lines with a known reason, and on what the command made.
     pub fn tell<E: Sink>(&self, printed: &[u8], errors: &mut E) {
         for line in printed.split(|byte| *byte == b'\n') {
             if !line.is_empty() {

@@ -17,7 +17,7 @@ const BUFFER: usize = 65_536;
 /// How many messages of a packet are read at most.
 const MOST: u32 = u32::MAX;
 
-// What is wrong with a packet.
+// The fault of a packet.
 #[derive(Clone, Copy)]
 enum Wrong {
     NotForUs(Address),
@@ -90,7 +90,7 @@ fn explain_packet<E: Sink>(
     true
 }
 
-// What is wrong with the packet with this path, if it can be read.
+// The fault of the packet at this path, if it can be read.
 fn wrong_in(rt: &HostRuntime, own: Address, limits: Limits, path: &str) -> Option<Wrong> {
     let file = open_regular(rt, path).ok()?;
     let source = Buffered::new(rt.alloc(), Watched::new(file), BUFFER).ok()?;

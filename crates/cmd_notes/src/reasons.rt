@@ -17,7 +17,7 @@ use std::io::Write;
 pub enum Reason<'a> {
     /// A line of a link file is wrong.
     Line(WrongLine<'a>),
-    /// What is found at a path.
+    /// The state of a path.
     Path(PathState<'a>),
     /// A packet is for another system.
     NotForUs(Misdelivered<'a>),
@@ -41,14 +41,14 @@ pub struct WrongLine<'a> {
     pub word: &'a [u8],
 }
 
-/// A path, and what is found there.
+/// A path and its state.
 #[derive(Clone, Copy)]
 pub struct PathState<'a> {
     pub path: &'a str,
     pub state: State,
 }
 
-/// What is found at a path.
+/// The state of a path.
 #[derive(Clone, Copy, Debug, PartialEq, Eq)]
 pub enum State {
     NoFile,
@@ -146,7 +146,7 @@ fn push_line(lines: &mut Vec<u8>, line: WrongLine<'_>) -> Result<(), AllocError>
     push_complaint(lines, line.fault, line.word)
 }
 
-// Adds what is wrong with this word.
+// Adds the fault of this word.
 fn push_complaint(lines: &mut Vec<u8>, fault: LinkFault, word: &[u8]) -> Result<(), AllocError>
     ensures { OnOk result (lines.new.items ≡ lines.old.items ++ word_reason fault word.now) }
 {
@@ -157,7 +157,7 @@ fn push_complaint(lines: &mut Vec<u8>, fault: LinkFault, word: &[u8]) -> Result<
     lines.extend_from_slice(expectation(fault))
 }
 
-// What is wrong with a word in a line of a link file.
+// The fault of a word in a line of a link file.
 fn complaint(fault: LinkFault) -> &'static [u8]
     ensures { result.now ≡ complaint fault }
 {

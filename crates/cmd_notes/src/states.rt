@@ -1,4 +1,4 @@
-//! What is found at a path that a command could not use.
+//! The state of a path that a command could not use.
 
 use crate::reasons::{PathState, State};
 use cmd_input::folder_of;
@@ -21,7 +21,7 @@ pub(crate) enum Usage {
     New,
 }
 
-/// What is found at a path that cannot be used so, or at its folder. None where the reason is not known.
+/// Why a command cannot use this path: the state of the path, or of its folder. None if the reason is not known.
 pub(crate) fn state_at<'a>(rt: &HostRuntime, path: &'a str, usage: Usage) -> Option<PathState<'a>> {
     match fs::metadata(rt, path) {
         Ok(found) => {
@@ -64,7 +64,7 @@ fn no_folder<'a>(rt: &HostRuntime, folder: &'a str) -> Option<PathState<'a>> {
     })
 }
 
-// What is wrong with what has the path.
+// The fault of the entry at the path.
 fn state_of(rt: &HostRuntime, path: &str, found: &Metadata, usage: Usage) -> Option<State> {
     match usage {
         Usage::File if found.is_dir() => Some(State::IsFolder),

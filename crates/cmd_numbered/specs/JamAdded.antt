@@ -1,4 +1,4 @@
--- What is added to a JAM base: which messages of a base, under which numbers, and their bytes in its files.
+-- Messages of a base that are added to a JAM base: which ones, their numbers, and their bytes in its files.
 use Rattle.std.specs.Prelude.{◌≡◌, ℕ, zero, suc, ◌+◌, ◌⊎◌, ◌&&◌, nat_lt, max, Bool, false, List, [], ◌∷◌, ◌++◌, length, if◌then◌else◌, slice_get, Option, Some, None, Result, Ok, Err}
 use Rattle.echo_filed.specs.Filed.{Filed}
 use Rattle.echo_links.specs.Links.{upper}
@@ -13,7 +13,7 @@ use Rattle.cmd_numbered.specs.declared.adding.JamEnd.{JamEnd}
 use Rattle.cmd_numbered.specs.declared.adding.JamExport.{JamExport}
 use Rattle.cmd_numbered.specs.Numbered.{is_exported}
 
--- what is added to headers, texts and index; the numbers that its messages have in their base; how many subfields are cut
+-- The bytes added to headers, texts and index; the numbers that the messages have in their base; how many subfields are cut.
 pub record Added : Type 0 where
   pub headers : List ℕ
   pub texts : List ℕ
@@ -33,7 +33,7 @@ added_in a = record {
 abbrev pub nothing_added : Added
 nothing_added = record { headers = []; texts = []; index = []; messages = []; cuts = 0 }
 
--- one message more, scanned or not, behind where the base ends and what was added before
+-- One message more, scanned or not, after the end of the JAM base and the messages added before.
 abbrev pub with_message : Bool → JamEnd → ℕ → Filed → Added → Added
 with_message scanned end i m a = record {
   headers = a.headers ++ header_of scanned m (end.number + length a.messages) (end.texts + length a.texts);
@@ -43,24 +43,24 @@ with_message scanned end i m a = record {
   cuts = a.cuts + cuts_of m;
 }
 
--- the message of this number more, if it is exported; those before the cursor were scanned
+-- The message of this number more, if it is exported; those before the cursor were scanned.
 abbrev pub added_at : List ℕ → ℕ → ℕ → JamEnd → ℕ → Option Filed → Added → Added
 added_at area first cursor end i None a = a
 added_at area first cursor end i (Some m) a = if is_exported area first cursor i m then with_message (nat_lt i cursor) end i m a else a
 
--- the first so many messages
+-- The first so many messages.
 abbrev pub added_of : List ℕ → ℕ → ℕ → JamEnd → List Filed → ℕ → Added
 added_of area first cursor end base zero = nothing_added
 added_of area first cursor end base (suc n) =
     added_at area first cursor end n (slice_get base n) (added_of area first cursor end base n)
 
--- whether the last message of the JAM base, whose header stands there, is the message of this number, exported before
+-- Whether the message of this number, exported before, is the last message of the JAM base, with its header at this place.
 abbrev pub is_last_jam : List ℕ → ℕ → ℕ → List ℕ → Option ℕ → List ℕ → ℕ → Option Filed → Bool
 is_last_jam area first cursor headers None text i m = false
 is_last_jam area first cursor headers (Some place) text i None = false
 is_last_jam area first cursor headers (Some place) text i (Some m) = is_exported area first cursor i m && is_same headers place text m
 
--- the number behind that of the last message among the first so many that it is; `first` where it is none of them
+-- The number after that of the last message among the first so many that it is. `first` if it is not among them.
 abbrev pub resumed_jam : List ℕ → ℕ → ℕ → List ℕ → Option ℕ → List ℕ → List Filed → ℕ → ℕ
 resumed_jam area first cursor headers last text base zero = first
 resumed_jam area first cursor headers last text base (suc n) =
@@ -78,7 +78,7 @@ pub record IsJamExport (area : List ℕ) (first : ℕ) (headers : List ℕ) (las
   pub added_is : added_in exported.adding ≡ added_of (upper area) from cursor end messages (length messages)
   pub end_is : exported.end ≡ max from (length messages)
 
--- what is answered where the messages of a base are to be added to a JAM base
+-- the right answer if the messages of a base are to be added to a JAM base
 abbrev pub JamAnswers : List ℕ → ℕ → List ℕ → Option ℕ → List ℕ → JamEnd → List ℕ → Result JamExport Fault → Type 0
 JamAnswers area first headers last text end base (Ok exported) = IsJamExport area first headers last text end base exported
 JamAnswers area first headers last text end base (Err fault) = IsOutOfMemory fault ⊎ IsBaseFault (Some base) fault

@@ -3,23 +3,23 @@ use Rattle.std.specs.Prelude.{ℕ, ◌-◌, ◌&&◌, List, ◌++◌, length, ta
 use Rattle.echo_addr.specs.Digits.{number_within}
 use Rattle.echo_links.specs.Links.{upper}
 
--- a name without its last four bytes
+-- A name without its last four bytes.
 abbrev pub front_of_name : List ℕ → List ℕ
 front_of_name name = take (length name - 4) name
 
--- whether it ends in `.msg`
+-- Whether it ends in `.msg`.
 abbrev pub ends_in_msg : List ℕ → Bool
 ends_in_msg name = bytes_eq (upper (drop (length name - 4) name)) (codes ".MSG")
 
--- the number of the message that has this name: one of at most eight digits' worth, as the field's file systems take
+-- The number of the message that has this name: one of at most eight digits' worth, as the field's file systems take.
 abbrev pub number_of_name : List ℕ → Option ℕ
 number_of_name name = if ends_in_msg name then number_within 99999999 (front_of_name name) else None
 
--- the name of the message of this number
+-- The name of the message of this number.
 abbrev pub name_of : ℕ → List ℕ
 name_of number = decimal number ++ codes ".msg"
 
--- whether a file with this name stands beside a stored message, which a stopped run left there
+-- Whether a file with this name is the staging file of a stored message, which a stopped run left there.
 abbrev pub is_left : List ℕ → Bool
 is_left name =
     bytes_eq (drop (length name - 10) name) (codes ".~msg~.new") && is_some (number_of_name (take (length name - 10) name))

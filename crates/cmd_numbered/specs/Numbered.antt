@@ -12,53 +12,53 @@ use Rattle.cmd_numbered.specs.declared.numbering.Exported.{Exported}
 use Rattle.cmd_numbered.specs.declared.numbering.MessageFile.{MessageFile}
 use Rattle.cmd_numbered.specs.Names.{name_of}
 
--- whether nothing is left of a message's text but its id
+-- Whether nothing is left of a message's text but its id.
 abbrev pub is_purged : Filed → Bool
 is_purged m = is_some (msgid_of m.echo.kept) && is_stub m
 
--- whether the message of this number is exported: one of the area, from the number `first` on, of which no purge took the text
+-- Whether the message of this number is exported: one of the area, from the number `first` on, of which no purge took the text.
 abbrev pub is_exported : List ℕ → ℕ → ℕ → ℕ → Filed → Bool
 is_exported area first cursor i m = nat_le first i && (bytes_eq m.echo.tag area && (nat_le cursor i || not (is_purged m)))
 
--- what stands before the numbers of a stored message, and behind them; readers change the numbers alone
+-- The bytes of a stored message before its numbers, and after them. Readers change the numbers alone.
 abbrev pub before_numbers : List ℕ → List ℕ
 before_numbers bytes = take 164 bytes
 
 abbrev pub behind_numbers : List ℕ → List ℕ
 behind_numbers bytes = drop 190 bytes
 
--- whether two stored messages are the same but for their numbers
+-- Whether two stored messages are the same except for their numbers.
 abbrev pub is_same_stored : List ℕ → List ℕ → Bool
 is_same_stored one other = bytes_eq (before_numbers one) (before_numbers other) && bytes_eq (behind_numbers one) (behind_numbers other)
 
--- whether the last file of the folder is the message of this number, exported before
+-- Whether the last file of the folder is the message of this number, exported before.
 abbrev pub is_last : List ℕ → ℕ → ℕ → Option (List ℕ) → ℕ → Option Filed → Bool
 is_last area first cursor None i m = false
 is_last area first cursor (Some last) i None = false
 is_last area first cursor (Some last) i (Some m) = is_exported area first cursor i m && is_same_stored last (stored_bytes (nat_lt i cursor) m)
 
--- the number behind that of the last message among the first so many that the last file is; `first` where it is none of them
+-- The number after that of the last message among the first so many that the last file holds. `first` if it holds no such message.
 abbrev pub resumed : List ℕ → ℕ → ℕ → Option (List ℕ) → List Filed → ℕ → ℕ
 resumed area first cursor last base zero = first
 resumed area first cursor last base (suc n) = if is_last area first cursor last n (slice_get base n) then n + 1 else resumed area first cursor last base n
 
--- the file with this number, of the message of this number; those before the cursor were scanned
+-- The file with this number, of the message of this number; those before the cursor were scanned.
 abbrev pub file_of : ℕ → ℕ → ℕ → Filed → MessageFile
 file_of cursor number i m = record { name = name_of number; message = i; bytes = stored_bytes (nat_lt i cursor) m }
 
--- the file of the message of this number, if it is exported
+-- The file of the message of this number, if it is exported.
 abbrev pub file_at : List ℕ → ℕ → ℕ → ℕ → ℕ → Option Filed → List MessageFile
 file_at area first cursor number i None = []
 file_at area first cursor number i (Some m) = if is_exported area first cursor i m then file_of cursor number i m ∷ [] else []
 
--- the files of the first so many messages, numbered from `number` on
+-- The files of the first so many messages, numbered from `number` on.
 abbrev pub files_of : List ℕ → ℕ → ℕ → ℕ → List Filed → ℕ → List MessageFile
 files_of area first cursor number base zero = []
 files_of area first cursor number base (suc n) =
     files_of area first cursor number base n
     ++ file_at area first cursor (number + length (files_of area first cursor number base n)) n (slice_get base n)
 
--- the number of the first file behind the greatest that is there; never 1, where tossers of the field keep how far they came
+-- The number of the first new file, after the greatest that exists. It is never 1, where tossers of the field record how far they came.
 abbrev pub first_number : ℕ → ℕ
 first_number greatest = max greatest 1 + 1
 
@@ -73,7 +73,7 @@ pub record IsExport (area : List ℕ) (first greatest : ℕ) (last : Option (Lis
   pub files_are : exported.files ≡ files_of (upper area) from cursor (first_number greatest) messages (length messages)
   pub end_is : exported.end ≡ max from (length messages)
 
--- what is answered where the messages of a base are to become files
+-- the right answer if the messages of a base are to become files
 abbrev pub ExportAnswers : List ℕ → ℕ → ℕ → Option (List ℕ) → List ℕ → Result Exported Fault → Type 0
 ExportAnswers area first greatest last base (Ok exported) = IsExport area first greatest last base exported
 ExportAnswers area first greatest last base (Err fault) = IsOutOfMemory fault ⊎ IsBaseFault (Some base) fault

@@ -22,7 +22,7 @@ pub record IsMadeAgain (file : LinkFile) (stamp : Stamp) (area : List ℕ) (to :
   pub moment : is_stamp stamp ≡ true
   pub packet_is : packet ≡ resent_packet file stamp (upper area) to first messages cursor
 
--- what is answered where a packet is to be made again
+-- the right answer if a packet is to be made again
 abbrev pub ResendAnswers : LinkFile → Stamp → List ℕ → Address → ℕ → List ℕ → Result Packet Fault → Type 0
 ResendAnswers file stamp area to first base (Ok packet) = IsMadeAgain file stamp area to first base packet
 ResendAnswers file stamp area to first base (Err fault) =

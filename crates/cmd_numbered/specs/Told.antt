@@ -1,30 +1,30 @@
--- The line that tells how many messages became files, and from which number the next export begins.
+-- The line that reports how many messages became files, and from which number the next export begins.
 use Rattle.std.specs.Prelude.{ℕ, ◌==◌, List, [], ◌++◌, codes, decimal, if◌then◌else◌, slice_get, Option, Some, None, unwrap_or}
 use Rattle.cmd_numbered.specs.declared.adding.JamExport.{JamExport}
 use Rattle.cmd_numbered.specs.declared.numbering.Exported.{Exported}
 use Rattle.cmd_numbered.specs.declared.numbering.MessageFile.{MessageFile}
 
--- the number of the first message whose file was not made, or the end
+-- The number of the first message without a file, or the end.
 abbrev pub next_at : Option MessageFile → ℕ → ℕ
 next_at None end = end
 next_at (Some file) end = file.message
 
--- the line that tells how many messages were exported, and which is the next
+-- The line that reports how many messages were exported, and which is the next.
 abbrev pub told_line : ℕ → ℕ → List ℕ
 told_line made next = codes "exported " ++ (decimal made ++ (codes " messages, next " ++ (decimal next ++ codes "\n")))
 
--- that line, where so many of the files were made
+-- That line, where so many of the files were made.
 abbrev pub exported_line : Exported → ℕ → List ℕ
 exported_line exported made = told_line made (next_at (slice_get exported.files made) exported.end)
 
--- that line, where so many of the messages were added to a JAM base: the next is the first that was not, or the one behind all
+-- That line, where so many of the messages were added to a JAM base: the next is the first that was not, or the one behind all.
 abbrev pub added_line : JamExport → ℕ → List ℕ
 added_line exported made = told_line made (unwrap_or (slice_get exported.adding.messages.items made) exported.end)
 
--- the line on standard error where subfields were cut
+-- The line on standard error where subfields were cut.
 abbrev pub cuts_line : ℕ → List ℕ
 cuts_line count = if count == 0 then [] else (codes "echonet: " ++ (decimal count ++ codes " control lines cut\n"))
 
--- the line on standard error where a stored message is not to be posted
+-- The line on standard error where a stored message is not to be posted.
 abbrev pub refused_line : List ℕ
 refused_line = codes "echonet: bad message\n"

@@ -29,7 +29,7 @@ pub struct JamBase<'a> {
     pub end: JamEnd,
 }
 
-/// What is to be added to the files of a JAM base, and the numbers that its messages have in their base.
+/// The bytes to add to the files of a JAM base, and the numbers that its messages have in their base.
 #[derive(Debug, Drop)]
 pub struct Adding {
     pub jam: Jam,

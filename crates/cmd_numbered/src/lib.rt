@@ -1,12 +1,12 @@
 //! Messages of a base for the readers of the field: as numbered files of a folder, each a stored message (FTS-0001), or
 //! added to a JAM base. And a packet of scanned messages that is made again.
 //!
-//! The contract for the program: the files are just those of the messages that are asked for, one after another, with
-//! their bytes and their names; what is added to a JAM base is just those messages, too. The line that is printed at the
-//! end counts those that were made, and names the message from which the next export begins.
+//! The contract for the program: the files are just those of the messages asked for, in order, with their bytes and
+//! their names. Just those messages are added to a JAM base, too. The line printed at the end counts the messages made,
+//! and names the message from which the next export begins.
 //!
-//! Modules in reading order: `names` (which number a file's name has), `numbering` (which files are made), `adding` (what
-//! is added to a JAM base), `telling` (the lines at the end) and `resending`.
+//! Begin with `numbering` (which files are made), `adding` (what is added to a JAM base) and `resending`. `names` reads
+//! the number in a file's name, and `telling` has the lines at the end.
 #![tactic(auto)]
 
 mod adding;

@@ -1,4 +1,4 @@
-//! The lines that tell what was exported, and that a message is not to be posted.
+//! The lines that report what an export made, and that refuse to post a message.
 ghost use Rattle.std.specs.Prelude.{◌≡◌, ◌++◌, false, slice_get, unwrap_or, IfErr, OnErr, OnOk};
 ghost use Rattle.std.specs.Io.KnownBytes.{Appends};
 ghost use Rattle.cmd_status.specs.Ended.{Stops};
@@ -32,7 +32,7 @@ pub fn tell_exported<'a, W: Sink>(
     print_rest(&mut line, out)
 }
 
-// The number of the first message whose file was not made, or the number after the last message.
+// The number of the first message without a file, or the number after the last message.
 fn next_of(exported: &Exported, made: usize) -> u64
     ensures { result ≡ next_at (slice_get exported.now.files made) exported.now.end }
 {

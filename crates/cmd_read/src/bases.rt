@@ -5,7 +5,7 @@ use crate::listing::{export_folder, list_folder};
 use base_file::BaseFault;
 use cmd_input::{Progress, is_folder, read_file};
 use cmd_print::ListForm;
-use cmd_show::{export, list, list_areas, tell_lost};
+use cmd_show::{ExportQuery, export, list, list_areas, tell_lost};
 use cmd_status::{Fault, Status, number_of};
 use cmd_words::{ExportWords, ListWords};
 use disk_io::Sink;
@@ -55,30 +55,37 @@ fn export_given<'a, W: Sink>(
         Some(word) => number_of(word)?,
         None => 0,
     };
-    let form = if words.json {
+    let asked = ExportQuery {
+        form: export_form(words),
+        area: words.area.map(|tag| tag.as_bytes()),
+        first,
+        purged: words.purged,
+    };
+    if is_folder(rt, words.base) {
+        return export_folder(rt, words.base, &asked, out);
+    }
+    export_file(rt, words.base, &asked, out)
+}
+
+// The form that the words ask for.
+fn export_form(words: &ExportWords<'_>) -> Form {
+    if words.json {
         Form::Json
     } else {
         Form::Mailbox
-    };
-    if is_folder(rt, words.base) {
-        return export_folder(rt, words, form, first, out);
     }
-    export_file(rt, words, form, first, out)
 }
 
-// The same of a base file, from this number on. No seed for the hasher counts as a failed read.
+// The same of a base file. No seed for the hasher counts as a failed read.
 fn export_file<'a, W: Sink>(
     rt: &HostRuntime,
-    words: &ExportWords<'a>,
-    form: Form,
-    first: u64,
+    base: &'a str,
+    asked: &ExportQuery<'_>,
     out: &mut W,
 ) -> Result<u128, Fault<'a>> {
     let hasher = RandomState::new(rt).map_err(|_| Fault::Base(BaseFault::Read))?;
-    let bytes = read_file(rt, words.base, usize::MAX)?;
-    let area = words.area.map(|tag| tag.as_bytes());
-    let purged = words.purged;
-    export(rt.alloc(), form, area, first, purged, &bytes, hasher, out)
+    let bytes = read_file(rt, base, usize::MAX)?;
+    export(rt.alloc(), asked, &bytes, hasher, out)
 }
 
 /// `export`, and on standard error how many characters were lost.

@@ -4,11 +4,10 @@ use crate::bases::form_of;
 use base_folder::FolderSnapshot;
 use base_store::SipDigest;
 use cmd_input::{Progress, look_into};
-use cmd_show::{begin_at, export_seen, judge_messages, list_areas_seen, list_seen};
+use cmd_show::{ExportQuery, begin_at, export_seen, judge_messages, list_areas_seen, list_seen};
 use cmd_status::{Fault, Status};
-use cmd_words::{ExportWords, ListWords};
+use cmd_words::ListWords;
 use disk_io::Sink;
-use echo_export::Form;
 
 /// How many messages are read between two looks at the clock.
 const SOME: usize = 1_000;
@@ -47,17 +46,15 @@ fn judge_seen<'a>(
     Ok(())
 }
 
-/// `export` of the base folder that the words name, from this number on.
+/// `export` of this base folder.
 pub(crate) fn export_folder<'a, W: Sink>(
     rt: &HostRuntime,
-    words: &ExportWords<'a>,
-    form: Form,
-    first: u64,
+    base: &'a str,
+    asked: &ExportQuery<'_>,
     out: &mut W,
 ) -> Result<u128, Fault<'a>> {
-    let seen = look_into(rt, words.base, first)?;
+    let seen = look_into(rt, base, asked.first)?;
     let count = seen.count();
-    judge_messages::<SipDigest>(rt.alloc(), &seen, begin_at(first, count), count)?;
-    let area = words.area.map(|tag| tag.as_bytes());
-    export_seen::<SipDigest, W>(rt.alloc(), form, area, first, words.purged, &seen, out)
+    judge_messages::<SipDigest>(rt.alloc(), &seen, begin_at(asked.first, count), count)?;
+    export_seen::<SipDigest, W>(rt.alloc(), asked, &seen, out)
 }

@@ -18,51 +18,60 @@ use std::alloc::{AllocError, Global};
 use std::hash::BuildHasher;
 use std::io::Write;
 
-/// `export [--area TAG] [--from I] [--purged] [--mbox | --json] BASE`: prints the messages of a base in a form, those
-/// of the area where one is given, from the number `first` on. Of those that a purge left there is none unless
-/// they are asked for. The answer is how many U+FFFD were printed, for what the charsets of messages do
-/// not have. Of a faulty base nothing is printed.
+/// Which messages of a base are exported, and as what: those of the area, if one is given, from the number `first` on.
+/// What a purge left is among them only if that is asked for.
+#[derive(Clone, Copy)]
+pub struct ExportQuery<'a> {
+    pub form: Form,
+    pub area: Option<&'a [u8]>,
+    pub first: u64,
+    pub purged: bool,
+}
+
+/// The same with the tag in capital letters.
+#[derive(Drop)]
+pub(crate) struct Sought {
+    pub(crate) form: Form,
+    pub(crate) area: Option<Items<u8>>,
+    pub(crate) first: u64,
+    pub(crate) purged: bool,
+}
+
+/// `export [--area TAG] [--from I] [--purged] [--mbox | --json] BASE`: prints the messages that are asked for in a form.
+/// It returns how many U+FFFD were printed for characters that the charset of a message lacks. Of a faulty base it
+/// prints nothing.
 pub fn export<'a, S: BuildHasher + Drop, W: Sink>(
     alloc: Global,
-    form: Form,
-    area: Option<&[u8]>,
-    first: u64,
-    purged: bool,
+    asked: &ExportQuery<'_>,
     base: &[u8],
     hasher: S,
     out: &mut W,
 ) -> Result<u128, Fault<'a>>
-    ensures { ExportAnswers form (option_copied area.entry) first purged base.now (output_of W.contents W.failures W.holds out.old) (output_of W.contents W.failures W.holds out.new) result }
+    ensures { ExportAnswers asked.now.form (option_copied asked.now.area) asked.now.first asked.now.purged base.now (output_of W.contents W.failures W.holds out.old) (output_of W.contents W.failures W.holds out.new) result }
 {
     let base = base_read(alloc, base, hasher)?;
-    export_read(alloc, form, area, first, purged, &base, out)
+    export_read(alloc, asked, &base, out)
 }
 
 // The same of a base that is read.
 fn export_read<'a, S: BuildHasher, W: Sink>(
     alloc: Global,
-    form: Form,
-    area: Option<&[u8]>,
-    first: u64,
-    purged: bool,
+    asked: &ExportQuery<'_>,
     base: &Base<S>,
     out: &mut W,
 ) -> Result<u128, Fault<'a>>
     ensures { (bytes : List ℕ) → IsBaseGiven (Some bytes) base.now.messages base.now.cursor
-        → ExportAnswers form (option_copied area.entry) first purged bytes (output_of W.contents W.failures W.holds out.old) (output_of W.contents W.failures W.holds out.new) result }
+        → ExportAnswers asked.now.form (option_copied asked.now.area) asked.now.first asked.now.purged bytes (output_of W.contents W.failures W.holds out.old) (output_of W.contents W.failures W.holds out.new) result }
 {
-    let area = upper_tag(alloc, area)?;
+    let area = upper_tag(alloc, asked.area)?;
+    let sought = Sought {
+        form: asked.form,
+        area,
+        first: asked.first,
+        purged: asked.purged,
+    };
     let mut lines = Vec::new(alloc);
-    let count = print_sought(
-        alloc,
-        form,
-        area.as_ref(),
-        first,
-        purged,
-        base,
-        &mut lines,
-        out,
-    )?;
+    let count = print_sought(alloc, &sought, base, &mut lines, out)?;
     print_rest(&mut lines, out)?;
     Ok(count)
 }
@@ -91,17 +100,14 @@ fn push_lost(line: &mut Vec<u8>, count: u128) -> Result<(), AllocError>
 // `lines`.
 fn print_sought<'a, S: BuildHasher, W: Sink>(
     alloc: Global,
-    form: Form,
-    area: Option<&Items<u8>>,
-    first: u64,
-    purged: bool,
+    sought: &Sought,
     base: &Base<S>,
     lines: &mut Vec<u8>,
     out: &mut W,
 ) -> Result<u128, Fault<'a>>
-    ensures lines { OnOk result (PassesOn (lines.old.items ++ sought_texts form (option_copied area.entry) first purged base.now.cursor base.now.messages (length base.now.messages)) lines.new.items (W.contents out.old) (W.contents out.new)) }
-    ensures count { IfOk result (λ n. n ≡ sought_lost form (option_copied area.entry) first purged base.now.cursor base.now.messages (length base.now.messages)) }
-    ensures begun { OnErr result (WritesFront (lines.old.items ++ sought_texts form (option_copied area.entry) first purged base.now.cursor base.now.messages (length base.now.messages)) (W.contents out.old) (W.contents out.new)) }
+    ensures lines { OnOk result (PassesOn (lines.old.items ++ sought_texts sought.now.form sought.now.area sought.now.first sought.now.purged base.now.cursor base.now.messages (length base.now.messages)) lines.new.items (W.contents out.old) (W.contents out.new)) }
+    ensures count { IfOk result (λ n. n ≡ sought_lost sought.now.form sought.now.area sought.now.first sought.now.purged base.now.cursor base.now.messages (length base.now.messages)) }
+    ensures begun { OnErr result (WritesFront (lines.old.items ++ sought_texts sought.now.form sought.now.area sought.now.first sought.now.purged base.now.cursor base.now.messages (length base.now.messages)) (W.contents out.old) (W.contents out.new)) }
     ensures ok { OnOk result (W.failures out.new ≡ W.failures out.old) }
     ensures err { IfErr result (Stops (W.failures out.old) (W.failures out.new)) }
 {
@@ -109,9 +115,7 @@ fn print_sought<'a, S: BuildHasher, W: Sink>(
     let mut count: u128 = 0;
     'messages: for i in 0..base.len() {
         let message = base.message(i);
-        let more = print_one(
-            alloc, form, area, first, purged, cursor, i, message, lines, out,
-        )?;
+        let more = print_one(alloc, sought, cursor, i, message, lines, out)?;
         count += more as u128;
     }
     Ok(count)
@@ -120,47 +124,41 @@ fn print_sought<'a, S: BuildHasher, W: Sink>(
 /// Prints the message of this number, if it is asked for, and counts the U+FFFD in it.
 pub(crate) fn print_one<'a, W: Sink>(
     alloc: Global,
-    form: Form,
-    area: Option<&Items<u8>>,
-    first: u64,
-    purged: bool,
+    sought: &Sought,
     cursor: usize,
     i: usize,
     message: Option<&Filed>,
     lines: &mut Vec<u8>,
     out: &mut W,
 ) -> Result<usize, Fault<'a>>
-    ensures lines { OnOk result (PassesOn (lines.old.items ++ sought_text form (option_copied area.entry) first purged cursor i (option_copied message.entry)) lines.new.items (W.contents out.old) (W.contents out.new)) }
-    ensures count { IfOk result (λ n. n ≡ sought_count form (option_copied area.entry) first purged cursor i (option_copied message.entry)) }
+    ensures lines { OnOk result (PassesOn (lines.old.items ++ sought_text sought.now.form sought.now.area sought.now.first sought.now.purged cursor i (option_copied message.entry)) lines.new.items (W.contents out.old) (W.contents out.new)) }
+    ensures count { IfOk result (λ n. n ≡ sought_count sought.now.form sought.now.area sought.now.first sought.now.purged cursor i (option_copied message.entry)) }
     ensures few { IfOk result (λ n. n < 2 ^ 64) }
-    ensures begun { OnErr result (WritesFront (lines.old.items ++ sought_text form (option_copied area.entry) first purged cursor i (option_copied message.entry)) (W.contents out.old) (W.contents out.new)) }
+    ensures begun { OnErr result (WritesFront (lines.old.items ++ sought_text sought.now.form sought.now.area sought.now.first sought.now.purged cursor i (option_copied message.entry)) (W.contents out.old) (W.contents out.new)) }
     ensures ok { OnOk result (W.failures out.new ≡ W.failures out.old) }
     ensures err { IfErr result (Stops (W.failures out.old) (W.failures out.new)) }
 {
     let Some(message) = message else {
         return Ok(0);
     };
-    if !is_sought(area, first, purged, cursor, i, message) {
+    if !is_sought(sought, cursor, i, message) {
         return Ok(0);
     }
-    let count = push_message(alloc, lines, form, i, state_of(cursor, i, message), message)?;
+    let state = state_of(cursor, i, message);
+    let count = push_message(alloc, lines, sought.form, i, state, message)?;
     pass_on(lines, out)?;
     Ok(count)
 }
 
 // Whether the message of this number is asked for.
-fn is_sought(
-    area: Option<&Items<u8>>,
-    first: u64,
-    purged: bool,
-    cursor: usize,
-    i: usize,
-    message: &Filed,
-) -> bool
-    ensures { result ≡ is_sought (option_copied area.entry) first purged cursor i message.now }
+fn is_sought(sought: &Sought, cursor: usize, i: usize, message: &Filed) -> bool
+    ensures { result ≡ is_sought sought.now.area sought.now.first sought.now.purged cursor i message.now }
 {
     let tag = message.echo.tag.as_slice();
-    first <= i as u64 && is_of_area(area, tag) && is_exported(purged, state_of(cursor, i, message))
+    let state = state_of(cursor, i, message);
+    sought.first <= i as u64
+        && is_of_area(sought.area.as_ref(), tag)
+        && is_exported(sought.purged, state)
 }
 
 // Whether messages of this state are exported.

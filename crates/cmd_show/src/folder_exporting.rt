@@ -9,15 +9,13 @@ ghost use Rattle.cmd_status.specs.Ended.{Stops};
 ghost use Rattle.cmd_status.specs.Inputs.{IsBaseGiven};
 ghost use Rattle.cmd_status.specs.Lines.{PassesOn, WritesFront};
 
-use crate::exporting::print_one;
+use crate::exporting::{ExportQuery, Sought, print_one};
 use crate::folder_listing::{begin_at, message_of};
 use crate::upper_tag;
 use base_folder::FolderSnapshot;
 use base_store::Digest;
 use cmd_status::{Fault, print_rest};
 use disk_io::Sink;
-use echo_addr::Items;
-use echo_export::Form;
 use std::alloc::Global;
 
 /// `export [--area TAG] [--from I] [--purged] [--mbox | --json] BASE` of a base folder, of which the messages from the
@@ -25,29 +23,23 @@ use std::alloc::Global;
 /// A damaged one ends it where it comes: `judge_messages` finds it before.
 pub fn export_seen<'a, H: Digest, W: Sink>(
     alloc: Global,
-    form: Form,
-    area: Option<&[u8]>,
-    first: u64,
-    purged: bool,
+    asked: &ExportQuery<'_>,
     seen: &FolderSnapshot,
     out: &mut W,
 ) -> Result<u128, Fault<'a>>
-    ensures answers { (base : model.Base) (file : List ℕ) → SeesBase H.keyed first base seen.now → IsBaseGiven (Some file) base.messages base.cursor
-        → ExportAnswers form (option_copied area.entry) first purged file (output_of W.contents W.failures W.holds out.old) (output_of W.contents W.failures W.holds out.new) result }
-    ensures vouched { OnOk result ((i : ℕ) → first ≤ i → i < length seen.now.keys.items / 16 → IsVouched H.keyed seen.now i) }
+    ensures answers { (base : model.Base) (file : List ℕ) → SeesBase H.keyed asked.now.first base seen.now → IsBaseGiven (Some file) base.messages base.cursor
+        → ExportAnswers asked.now.form (option_copied asked.now.area) asked.now.first asked.now.purged file (output_of W.contents W.failures W.holds out.old) (output_of W.contents W.failures W.holds out.new) result }
+    ensures vouched { OnOk result ((i : ℕ) → asked.now.first ≤ i → i < length seen.now.keys.items / 16 → IsVouched H.keyed seen.now i) }
 {
-    let area = upper_tag(alloc, area)?;
+    let area = upper_tag(alloc, asked.area)?;
+    let sought = Sought {
+        form: asked.form,
+        area,
+        first: asked.first,
+        purged: asked.purged,
+    };
     let mut lines = Vec::new(alloc);
-    let count = print_seen::<H, W>(
-        alloc,
-        form,
-        area.as_ref(),
-        first,
-        purged,
-        seen,
-        &mut lines,
-        out,
-    )?;
+    let count = print_seen::<H, W>(alloc, &sought, seen, &mut lines, out)?;
     print_rest(&mut lines, out)?;
     Ok(count)
 }
@@ -56,41 +48,27 @@ pub fn export_seen<'a, H: Digest, W: Sink>(
 // `lines`.
 fn print_seen<'a, H: Digest, W: Sink>(
     alloc: Global,
-    form: Form,
-    area: Option<&Items<u8>>,
-    first: u64,
-    purged: bool,
+    sought: &Sought,
     seen: &FolderSnapshot,
     lines: &mut Vec<u8>,
     out: &mut W,
 ) -> Result<u128, Fault<'a>>
-    ensures lines { (base : model.Base) → SeesBase H.keyed first base seen.now
-        → OnOk result (PassesOn (lines.old.items ++ sought_texts form (option_copied area.entry) first purged base.cursor base.messages (length base.messages)) lines.new.items (W.contents out.old) (W.contents out.new)) }
-    ensures count { (base : model.Base) → SeesBase H.keyed first base seen.now
-        → IfOk result (λ n. n ≡ sought_lost form (option_copied area.entry) first purged base.cursor base.messages (length base.messages)) }
-    ensures begun { (base : model.Base) → SeesBase H.keyed first base seen.now
-        → OnErr result (WritesFront (lines.old.items ++ sought_texts form (option_copied area.entry) first purged base.cursor base.messages (length base.messages)) (W.contents out.old) (W.contents out.new)) }
-    ensures vouched { OnOk result ((i : ℕ) → first ≤ i → i < length seen.now.keys.items / 16 → IsVouched H.keyed seen.now i) }
+    ensures lines { (base : model.Base) → SeesBase H.keyed sought.now.first base seen.now
+        → OnOk result (PassesOn (lines.old.items ++ sought_texts sought.now.form sought.now.area sought.now.first sought.now.purged base.cursor base.messages (length base.messages)) lines.new.items (W.contents out.old) (W.contents out.new)) }
+    ensures count { (base : model.Base) → SeesBase H.keyed sought.now.first base seen.now
+        → IfOk result (λ n. n ≡ sought_lost sought.now.form sought.now.area sought.now.first sought.now.purged base.cursor base.messages (length base.messages)) }
+    ensures begun { (base : model.Base) → SeesBase H.keyed sought.now.first base seen.now
+        → OnErr result (WritesFront (lines.old.items ++ sought_texts sought.now.form sought.now.area sought.now.first sought.now.purged base.cursor base.messages (length base.messages)) (W.contents out.old) (W.contents out.new)) }
+    ensures vouched { OnOk result ((i : ℕ) → sought.now.first ≤ i → i < length seen.now.keys.items / 16 → IsVouched H.keyed seen.now i) }
     ensures ok { OnOk result (W.failures out.new ≡ W.failures out.old) }
-    ensures err { (base : model.Base) → SeesBase H.keyed first base seen.now → IfErr result (Stops (W.failures out.old) (W.failures out.new)) }
+    ensures err { (base : model.Base) → SeesBase H.keyed sought.now.first base seen.now → IfErr result (Stops (W.failures out.old) (W.failures out.new)) }
 {
     let count = seen.count();
     let cursor = seen.cursor() as usize;
     let mut lost: u128 = 0;
-    'messages: for i in begin_at(first, count)..count {
+    'messages: for i in begin_at(sought.first, count)..count {
         let alone = message_of::<H>(alloc, seen, i)?;
-        let more = print_one(
-            alloc,
-            form,
-            area,
-            first,
-            purged,
-            cursor,
-            i,
-            alone.message(0),
-            lines,
-            out,
-        )?;
+        let more = print_one(alloc, sought, cursor, i, alone.message(0), lines, out)?;
         lost += more as u128;
     }
     Ok(lost)

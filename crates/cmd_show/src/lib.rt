@@ -38,7 +38,7 @@ mod tags;
 mod words;
 
 pub use area_counts::{AreaCounts, list_areas};
-pub use exporting::{export, tell_lost};
+pub use exporting::{ExportQuery, export, tell_lost};
 pub use faulty::FaultyLine;
 pub use folder_areas::list_areas_seen;
 pub use folder_exporting::export_seen;

@@ -1,14 +1,14 @@
--- What a run of calls changes, seen now and after a crash at any moment of it.
+-- The changes that a run of calls makes, as seen after it and after a crash at any time.
 use Rattle.std.specs.Prelude.{◌≡◌, List, ℕ, length, IsSome, Some}
 use Rattle.disk_io.specs.Disk.{DiskState, Files, bytes_in}
 use Rattle.disk_io.specs.Fixed.{AreBytes}
 use Rattle.disk_io.specs.Runs.{KeepsAlone, KeepsFlushed, KeepsNamed, LeavesOnly, OneStepOn}
 
--- but for these paths the files are the same
+-- except at these paths the files are the same
 abbrev pub DifferAt : (List ℕ → Type 0) → Files → Files → Type 0
 DifferAt paths before after = (m : List ℕ) → (paths m → ⊥) → after m ≡ before m
 
--- A run that changes nothing but what these paths lead to: a crash at any moment of it leaves what one might have left before it, but for them.
+-- A run that changes nothing except at these paths. A crash at any time leaves a state that a crash before could have left, except at them.
 pub record ChangesOnly (paths : List ℕ → Type 0) (old new : DiskState) : Type 0 where
   pub seen : DifferAt paths old.seen new.seen
   pub named : KeepsNamed paths old new
@@ -17,13 +17,13 @@ pub record ChangesOnly (paths : List ℕ → Type 0) (old new : DiskState) : Typ
   pub honest : new.is_honest → old.is_honest
   pub any_moment : LeavesOnly old new (OneStepOn (DifferAt paths) old)
 
--- the path leads to a file of these bytes, and each crash leaves it so
+-- The path leads to a file with these bytes, also after any crash.
 pub record HasOnDisk (disk : DiskState) (path bytes : List ℕ) : Type 0 where
   pub seen : disk.seen path ≡ Some bytes
   pub named : disk.is_named path
   pub flushed : disk.is_flushed path
 
--- the path leads to a file of so many bytes, and no other path does; the disk has the path
+-- The path leads to a file of this size, and no other path does. The path is on the disk.
 pub record IsGrowing (disk : DiskState) (path : List ℕ) (at : ℕ) : Type 0 where
   pub there : IsSome (disk.seen path)
   pub long : length (bytes_in (disk.seen path)) ≡ at

@@ -6,41 +6,41 @@ use Rattle.disk_atomic.specs.Changes.{ChangesOnly, DifferAt, HasOnDisk}
 use Rattle.disk_atomic.specs.Outgoing.{IsOfOne}
 use Rattle.disk_atomic.specs.declared.outgoing.Outgoing.{Outgoing}
 
--- What stood beside the path stands at one of the two, and the path has what it had or that; all else is as it was.
+-- The staging file is at one of the two paths, and the path is unchanged or has that file. All else is unchanged.
 pub record Names (path staging : List ℕ) (before after : Files) : Type 0 where
   pub others : DifferAt (λ m. (m ≡ staging) ⊎ (m ≡ path)) before after
   pub stands : (after path ≡ before staging) ⊎ (after staging ≡ before staging)
   pub either : (after path ≡ before path) ⊎ (after path ≡ before staging)
 
--- the path leads to the same file, or none, on the disk where it was there
+-- The path leads to the same file, or still to none. It is still on the disk if it was.
 pub record StaysThere (old new : DiskState) (path : List ℕ) : Type 0 where
   pub seen : new.seen path ≡ old.seen path
   pub named : old.is_named path → new.is_named path
   pub flushed : old.is_flushed path → new.is_flushed path
 
--- What a call does that gives the file beside a path that path, whether it could or not.
+-- A call that gives a staging file its path, whether it could or not.
 pub record Gives (old new : DiskState) (path staging : List ℕ) : Type 0 where
   pub any_moment : LeavesOnly old new (OneStepOn (Names path staging) old)
   pub changes : ChangesOnly (λ m. (m ≡ staging) ⊎ (m ≡ path)) old new
   pub stays : StaysThere old new staging
 
--- the file beside the path has the path alone, on the disk
+-- The staging file has its path alone, on the disk.
 pub record HasMoved (old new : DiskState) (path staging : List ℕ) : Type 0 where
   pub seen : new.seen path ≡ old.seen staging
   pub gone : new.seen staging ≡ None
   pub named : new.is_named path
   pub flushed : new.is_flushed path
 
--- another file has the path
+-- Another file has the path.
 pub record IsTaken (old : DiskState) (path staging : List ℕ) : Type 0 where
   pub there : IsSome (old.seen path)
   pub other : old.seen path ≢ old.seen staging
 
--- the packet stands whole at one of its two paths
+-- The packet is whole at one of its two paths.
 abbrev pub StandsWhole : Files → Outgoing → Type 0
 StandsWhole c p = (c p.path.now ≡ Some p.file.now.bytes) ⊎ (c p.staging.now ≡ Some p.file.now.bytes)
 
--- Each packet stands whole at one of its two paths; all else is as it was.
+-- Each packet is whole at one of its two paths; all else is unchanged.
 pub record NamesEach (packets : List Outgoing) (before after : Files) : Type 0 where
   pub others : DifferAt (IsOfOne packets) before after
   pub whole : All (StandsWhole after) packets

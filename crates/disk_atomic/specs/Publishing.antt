@@ -7,17 +7,17 @@ use Rattle.disk_atomic.specs.declared.outgoing.Outgoing.{Outgoing}
 use Rattle.disk_atomic.specs.declared.placing_error.PlacingError.{PlacingError}
 use Rattle.disk_atomic.specs.declared.placing_error.PlacingError.TheVariants as error
 
--- neither path of the packet is one of these
+-- Neither path of the packet is one of these.
 pub record IsApartFrom (paths : List ℕ → Type 0) (p : Outgoing) : Type 0 where
   pub path : paths p.path.now → ⊥
   pub staging : paths p.staging.now → ⊥
 
--- a disk's fault, as a fault of placing
+-- An error of the disk as an error of placing.
 abbrev pub placing_cause : DiskError → PlacingError
 placing_cause disk_error.Memory = error.Memory
 placing_cause disk_error.Device = error.Device
 
--- a failure of the device is answered only where its count of failures rose
+-- A failure of the device is reported only if its count of failures rose.
 pub record HasPlacingCause {T : Type 0} (before now : ℕ) (result : Result T PlacingError) : Type 0 where
   pub later : before ≤ now
   pub failed : IsErrOf result error.Device → Failed before now

@@ -138,7 +138,8 @@ fn write_packet<D: Disk>(
     Ok(())
 }
 
-/// Writes the packet into a file that was just made and whose path is on the disk. At `Ok` the packet is on it too.
+/// Writes the packet into a file that was just made, at a path that is on the disk. At `Ok` the packet is on the disk
+/// too.
 pub(crate) fn fill_packet<D: Disk>(
     alloc: Global,
     disk: &mut D,

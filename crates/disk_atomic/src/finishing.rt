@@ -44,8 +44,8 @@ fn finish_one<D: Disk>(
 }
 
 /// Names or removes packets in staging files. If the cursor is past the number that was scanned before a packet, its
-/// scan was committed, and the packet gets its path; else it is removed. Returns whether all of them ended so: a
-/// packet whose path another file has keeps its staging file.
+/// scan was committed, and the packet gets its path. Otherwise the packet is removed. Returns whether all of them ended
+/// like that. If another file has the path of a packet, that packet keeps its staging file.
 pub fn finish_stopped<D: Disk>(
     alloc: Global,
     disk: &mut D,
@@ -60,7 +60,7 @@ pub fn finish_stopped<D: Disk>(
     ensures taken { Honestly (D.state disk.new) (IfOk result (λ all. all ≡ false → All (IsFreeOf (D.state disk.old)) found.now → ⊥)) }
     ensures named { OnOk result ((m : List ℕ) → IsIn folder.now m → (D.state disk.new).is_named m) }
 
-    // A crash at any time leaves each packet of a committed scan at one of its two paths at least, and no other
+    // A crash at any time leaves each packet of a committed scan at one of its two paths at least. It leaves no other
     // packet at its path.
     ensures any_moment { Honestly (D.state disk.new) (LeavesOnly (D.state disk.old) (D.state disk.new) (OneStepOn (FinishesEach cursor found.now) (D.state disk.old))) }
     ensures changes { ChangesOnly (IsOfLeft found.now) (D.state disk.old) (D.state disk.new) }

@@ -1,9 +1,9 @@
-//! Files that are written whole, whatever a crash leaves.
+//! Files that are written whole: a crash leaves the old file or the new one, and packets together with a commit.
 //!
-//! Modules in reading order: `staging` (a file is written and synced), `replacing` (a file is replaced whole),
-//! `filling` (a packet is written message by message), `outgoing` and `staged` (packets in staging files), `trying`
-//! (whether a packet can get a second path), `naming` (packets get their paths), `placing_error`, `dropping` (staging
-//! files of packets are removed) and `finishing` (what a stopped scan left).
+//! Begin with `replacing` (a file is replaced whole), then `filling`, `outgoing` and `staged` (packets in staging
+//! files) and `naming` (packets get their paths). `staging` writes and syncs one file. `trying` finds out whether a
+//! packet can get a second path. `dropping` removes staging files of packets, and `finishing` ends what a stopped scan
+//! left.
 #![tactic(auto)]
 
 mod dropping;

@@ -130,8 +130,8 @@ pub fn name_packet<D: Disk>(
     Ok(true)
 }
 
-/// Gives each packet its path, and returns whether all have theirs. A packet whose path another file has keeps its
-/// staging path.
+/// Gives each packet its path, and returns whether all have theirs. If another file has the path of a packet, that
+/// packet keeps its staging path.
 pub fn name_packets<D: Disk>(
     alloc: Global,
     disk: &mut D,

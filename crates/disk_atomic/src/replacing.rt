@@ -23,8 +23,8 @@ pub fn replace_file<D: Disk>(
     ensures replaced { OnOk result (HasOnDisk (D.state disk.new) path.now bytes.now) }
     ensures moved { OnOk result ((D.state disk.new).seen staging.now ≡ None) }
 
-    // A crash at any time leaves what it might have left before, except at the staging path, and at the path the old
-    // file or these bytes.
+    // A crash at any time leaves the old file or these bytes at the path. Except at these two paths, it leaves a state
+    // that a crash before could have left.
     ensures any_moment { LeavesOnly (D.state disk.old) (D.state disk.new) (OneStepOn (Replaces path.now staging.now bytes.now) (D.state disk.old)) }
     ensures changes { ChangesOnly (λ m. (m ≡ staging.now) ⊎ (m ≡ path.now)) (D.state disk.old) (D.state disk.new) }
     ensures cause { HasCause (D.failures disk.old) (D.failures disk.new) result }

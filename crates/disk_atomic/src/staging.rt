@@ -7,7 +7,7 @@ ghost use Rattle.disk_atomic.specs.Changes.{ChangesOnly, HasOnDisk};
 
 use disk_io::{Disk, DiskError, sync_folder_of};
 
-/// Writes the bytes of a file that was just made and whose path is synced. At `Ok` they are synced too.
+/// Writes the bytes of a file that was just made, at a synced path. At `Ok` the bytes are synced too.
 pub fn fill_file<D: Disk>(disk: &mut D, path: &[u8], bytes: &[u8]) -> Result<(), DiskError>
     requires empty { (D.state disk.old).seen path.now ≡ Some [] }
     requires named { (D.state disk.old).is_named path.now }
@@ -22,7 +22,7 @@ pub fn fill_file<D: Disk>(disk: &mut D, path: &[u8], bytes: &[u8]) -> Result<(),
     disk.sync(path)
 }
 
-/// Makes a file of these bytes at the path, in place of any file there, and syncs it with all paths of its folder.
+/// Makes a file of these bytes at the path, instead of any file there, and syncs it with all paths of its folder.
 pub fn stage_file<D: Disk>(
     disk: &mut D,
     folder: &[u8],

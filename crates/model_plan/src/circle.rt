@@ -42,7 +42,7 @@ fn shorter_in(ring: Ring<'_>) -> Result<Option<Vec<usize>>, AllocError> {
     Ok(Some(arc(ring.area.alloc, ring.members, hub, from, to)?))
 }
 
-// At which place of the loop each system stands, none where it is no member.
+// The place of each system in the loop, or none if it is no member.
 fn places(
     alloc: Global,
     systems: usize,
@@ -89,7 +89,7 @@ impl<'a> Ring<'a> {
         found
     }
 
-    // How many members that are not beside it the member at this place lists.
+    // How many members that are not its neighbours the member at this place lists.
     fn links_across(self, place: usize) -> usize {
         let mut count: usize = 0;
         for link in self.links_at(place) {

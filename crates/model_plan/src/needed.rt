@@ -4,7 +4,7 @@ use crate::plan::Move;
 use crate::sketch::{Sent, Sketch};
 use std::alloc::{AllocError, Global};
 
-/// The moves without which these packets of the sketch would not be made, with packets numbered anew.
+/// The moves without which these packets of the sketch would not be made, with new numbers of packets.
 pub(crate) fn moves_for(
     alloc: Global,
     sketch: &Sketch<'_>,

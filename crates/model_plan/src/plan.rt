@@ -22,7 +22,7 @@ pub enum Guess {
     Nobody(Address),
 }
 
-/// A posting, what follows it, and what is guessed to go wrong then.
+/// A posting, the moves after it, and a guess of what goes wrong then.
 #[derive(Drop)]
 pub struct Plan {
     pub poster: usize,

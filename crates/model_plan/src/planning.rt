@@ -1,4 +1,4 @@
-//! Whose posting is tried, and where packets come then.
+//! Which system posts, and which packets arrive then.
 
 use crate::area::Area;
 use crate::circle::short_loop;
@@ -12,7 +12,7 @@ use model_replay::Receivers;
 use std::alloc::{AllocError, Global};
 use std::hash::RandomState;
 
-/// How many systems post in turn where it is not known whose posting goes wrong.
+/// How many systems post in turn if it is not known which posting goes wrong.
 const MOST_TRIED: usize = 4;
 
 /// A plan by which the fault would show in the area of the tag, if one is found: of those that were looked at the one with the

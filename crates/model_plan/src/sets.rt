@@ -15,7 +15,7 @@ const BITS: usize = 32;
 /// The greatest bit.
 const HIGH: u32 = 0x8000_0000;
 
-// Where the way goes on: that of entries whose next bit is 0, and that of the others.
+// Where the way goes on: for entries with next bit 0, and for the others.
 #[derive(Clone, Copy)]
 struct Branch {
     low: usize,
@@ -92,7 +92,7 @@ fn number(entry: NetNode) -> u32 {
     u32::from(entry.net) * 65536 + u32::from(entry.node)
 }
 
-// Where an entry goes on whose next bits these are.
+// Where an entry with these next bits goes on.
 fn next(branch: Branch, left: u32) -> usize {
     if left >= HIGH {
         branch.high

@@ -1,5 +1,5 @@
-//! How a message would spread, told by addresses alone: no packet is made here. Nothing hangs on it but
-//! which events are tried on real packets.
+//! How a message would spread, by addresses alone: no packet is made here. The sketch only decides which events are
+//! tried on real packets.
 
 use crate::area::Area;
 use crate::plan::{Guess, Move};
@@ -254,8 +254,8 @@ impl<'a> Sketch<'a> {
         }
     }
 
-    // What is wrong where nothing more happens: a packet that never comes, or, where all came, the first
-    // carrier by address that has nothing.
+    // The fault if nothing more happens: a packet that never arrives. If all arrived, it is the first carrier by
+    // address that has nothing.
     fn guess_at_rest(&mut self, all_came: bool) -> Result<Option<Guess>, AllocError> {
         if let Some((k, to)) = self.lost {
             self.showing.push(k)?;
@@ -282,7 +282,7 @@ impl<'a> Sketch<'a> {
     }
 }
 
-// The one of the two whose address is smaller.
+// The one with the smaller address.
 fn earlier(
     found: Option<(Address, usize)>,
     address: Address,

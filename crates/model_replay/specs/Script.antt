@@ -13,50 +13,50 @@ use Rattle.model_steps.specs.declared.stamp.Stamp.{Stamp}
 use Rattle.model_replay.specs.declared.script.ScriptFault.{ScriptFault}
 use Rattle.model_replay.specs.declared.script.ScriptFault.TheVariants as fault
 
--- the moment of every posting and scan of a script
+-- The moment of every posting and scan of a script.
 abbrev pub moment : Stamp
 moment = record { year = 2000; month = 1; day = 1; hour = 0; minute = 0; second = 0 }
 
--- the number that the bytes write, where each is a digit of the radix
+-- The number that the bytes write, where each is a digit of the radix.
 unfoldable pub number_in : ℕ → List ℕ → Option ℕ
 number_in radix bytes = if list_all (λ b. nat_lt (digit_value b) radix) bytes then Some (digits_value radix bytes) else None
 
--- an index: 1 to 9 decimal digits
+-- An index: 1 to 9 decimal digits.
 unfoldable pub index_in : List ℕ → Option ℕ
 index_in word = if nat_lt 0 (length word) && nat_le (length word) 9 then number_in 10 word else None
 
--- a serial: eight hexadecimal digits with small letters
+-- A serial: eight hexadecimal digits with small letters.
 unfoldable pub serial_in : List ℕ → Option ℕ
 serial_in word = if length word == 8 && not (list_any is_ascii_uppercase word) then number_in 16 word else None
 
--- what stands after the first word of a line, which has no 0A
+-- The rest of a line, which has no 0A, after its first word.
 unfoldable pub after_first_word : List ℕ → List ℕ
 after_first_word line = drop (length (first_of (tokens line))) (drop (position_or_len (λ b. not (is_blank b)) line) line)
 
--- what is posted: the body, to all, from the operator, with the serial's digits as subject and no reply
+-- The draft of a posting: the body, to all, from the operator, with the serial's digits as subject and no reply.
 abbrev pub draft_of : List ℕ → List ℕ → Draft
 draft_of serial body = record { to_name = codes "All"; from_name = codes "Sysop"; subject = serial; reply = []; body = body }
 
--- a posting of an index, a tag and a serial, where both numbers are ones
+-- A posting of an index, a tag and a serial, where both numbers are ones.
 abbrev pub posting_with : Option ℕ → List ℕ → List ℕ → Option ℕ → List ℕ → Option Event
 posting_with (Some i) tag digits (Some serial) body = Some (Post i tag (draft_of digits body) serial moment)
 posting_with _ tag digits _ body = None
 
--- a posting of these words and body: an index, a tag and a serial stand first
+-- A posting of these words and body: an index, a tag and a serial are first.
 abbrev pub posting_of : List (List ℕ) → List ℕ → Option Event
 posting_of (i ∷ (tag ∷ (serial ∷ more))) body = posting_with (index_in i) tag serial (serial_in serial) body
 posting_of _ body = None
 
--- what stands after the word POST: the body is the rest of the line after the serial and one blank
+-- The posting after the word POST: the body is the rest of the line after the serial and one blank.
 unfoldable pub posting_in : List ℕ → Option Event
 posting_in rest = posting_of (tokens rest) (drop 1 (after_first_word (after_first_word (after_first_word rest))))
 
--- the index that stands alone
+-- The index, if it is the only word.
 abbrev pub only_index : List (List ℕ) → Option ℕ
 only_index (word ∷ []) = index_in word
 only_index _ = None
 
--- the event of a line by its first word, what stands after that, and the words there
+-- The event of a line: its first word, the rest after it, and the words of the rest.
 abbrev pub event_of : List ℕ → List ℕ → List (List ℕ) → Option Event
 event_of word rest more =
     if bytes_eq word (codes "POST") then posting_in rest
@@ -65,34 +65,34 @@ event_of word rest more =
     else if bytes_eq word (codes "PURGE") then option_map (λ i. Purge i) (only_index more)
     else None
 
--- the event of a line, none where the line is of another form
+-- The event of a line, or none if the line has another form.
 unfoldable pub event_in : List ℕ → Option Event
 event_in line =
     if list_any is_control_byte line then None
     else event_of (first_of (tokens line)) (after_first_word line) (after_first_of (tokens line))
 
--- a line that is neither skipped nor an event, of this number
+-- A line that is neither skipped nor an event, of this number.
 abbrev pub script_line_fault : ℕ → List ℕ → Option ScriptFault
 script_line_fault number line = if is_skipped line then None else if is_some (event_in line) then None else Some (fault.Line number)
 
--- the first such line, where the first of the lines has this number
+-- The first such line, where the first of the lines has this number.
 abbrev pub first_script_fault : ℕ → List (List ℕ) → Option ScriptFault
 first_script_fault number [] = None
 first_script_fault number (line ∷ later) = option_or (script_line_fault number line) (first_script_fault (number + 1) later)
 
--- the events of lines, one a line that is not skipped
+-- The events of lines, one a line that is not skipped.
 abbrev pub events_in : List (List ℕ) → List Event
 events_in lines = filter_map event_in (filter (λ line. not (is_skipped line)) lines)
 
--- the first line of a script that is of another form
+-- The first line of a script that has another form.
 unfoldable pub script_fault : List ℕ → Option ScriptFault
 script_fault bytes = first_script_fault 1 (file_lines bytes)
 
--- the events of a script
+-- The events of a script.
 unfoldable pub events_of : List ℕ → List Event
 events_of bytes = events_in (file_lines bytes)
 
--- what reading a script is to answer: its events where no line is of another form, else the first that is
+-- The right answer for a script: its events if no line has another form, otherwise the first line that has.
 abbrev pub ScriptOf : List ℕ → Result (List Event) ScriptFault → Type 0
 ScriptOf bytes (Ok events) = (script_fault bytes ≡ None) × (events ≡ events_of bytes)
 ScriptOf bytes (Err refused) = script_fault bytes ≡ Some refused

@@ -9,16 +9,16 @@ use Rattle.model_steps.specs.declared.packet.Packet.{Packet}
 use Rattle.model_steps.specs.Tossing.{sender_of, tossing}
 use Rattle.model_run.specs.Run.{Run, System, nth, receiver}
 
--- none of these messages of one sender would be filed
+-- No message of these, from one sender, would be filed.
 abbrev pub NoneIsFiled : LinkFile → List Filed → Address → List Message → Type 0
 NoneIsFiled file base sender [] = ⊤
 NoneIsFiled file base sender (packed ∷ later) = (tossing file base sender packed ≡ None) × NoneIsFiled file base sender later
 
--- a system would file nothing of the packet
+-- A system would file nothing of the packet.
 abbrev pub HasTaken : System → Packet → Type 0
 HasTaken s packet = NoneIsFiled s.file s.base (sender_of s.file packet.header) packet.messages
 
--- each packet that was delivered is there, and its system would file nothing more of it
+-- Each packet that was delivered is there, and its system would file nothing more of it.
 pub record AreTaken (run : Run) : Type 0 where
   pub there : (k : ℕ) → Among k run.delivered → k < length run.packets
   pub taken : (k : ℕ) (packet : Packet) (s : System) → Among k run.delivered → nth k run.packets ≡ Some packet

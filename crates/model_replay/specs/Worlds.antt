@@ -20,39 +20,39 @@ use Rattle.model_steps.specs.Tossing.{sender_of, tossed}
 use Rattle.model_run.specs.Run.{Run, System, change, destination, nth}
 pub use Rattle.model_run.specs.Run.{state_of}
 
--- an exported_packet packet: its bytes, whom it is for, and whether it came
+-- An exported_packet packet: its bytes, whom it is for, and whether it came.
 pub record Exported : Type 0 where
   pub bytes : List ℕ
   pub to : Address
   pub came : Bool
 
--- the systems in order of their files, and the packets in order of export
+-- The systems in order of their files, and the packets in order of export.
 pub record WorldState : Type 0 where
   pub systems : List SystemState
   pub packets : List Exported
 
--- the bytes of a packet
+-- The bytes of a packet.
 abbrev pub encoded : Packet → List ℕ
 encoded packet = packet_bytes packet.header packet.messages
 
--- a packet, and whether its index is among those that were delivered
+-- A packet, and whether its index is among those that were delivered.
 abbrev pub exported_packet : List ℕ → ℕ → Packet → Exported
 exported_packet delivered k packet = record { bytes = encoded packet; to = destination packet; came = list_any (λ d. d == k) delivered }
 
--- packets, of which the first has this index
+-- Packets, of which the first has this index.
 abbrev pub exported_from : List ℕ → ℕ → List Packet → List Exported
 exported_from delivered k [] = []
 exported_from delivered k (packet ∷ later) = exported_packet delivered k packet ∷ exported_from delivered (k + 1) later
 
--- a packet that was just made
+-- A packet that was just made.
 abbrev pub made : Packet → Exported
 made packet = record { bytes = encoded packet; to = destination packet; came = false }
 
--- nothing is too long
+-- Nothing is too long.
 abbrev pub unlimited : Limits
 unlimited = record { text = 2 ^ 64 - 1; messages = 2 ^ 64 - 1 }
 
--- the packet's bytes are a packet of its header and messages
+-- The packet's bytes are a packet of its header and messages.
 abbrev pub Fits : Packet → Type 0
 Fits packet = PacketOf unlimited packet.header packet.messages (encoded packet)
 
@@ -67,47 +67,47 @@ pub record IsWorldOf (world : WorldState) (run : Run) : Type 0 where
 abbrev pub message_at : Run → ℕ → ℕ → Option Filed
 message_at run i number = unwrap_or (option_map (λ s. slice_get s.base number) (nth i run.systems)) None
 
--- the answer for the system of an index: there is one just where there is the system, and it is so of both
+-- The answer for the system of an index: it exists just if the system does, and then this holds for both.
 abbrev pub OfSystem : {A : Type 0} → Option A → Option System → (A → System → Type 0) → Type 0
 OfSystem None None Holds = Unit {0}
 OfSystem None (Some s) Holds = ⊥
 OfSystem (Some answer) None Holds = ⊥
 OfSystem (Some answer) (Some s) Holds = Holds answer s
 
--- the place that a look-up found is the first that passes, or none passes
+-- The place that a look-up found is the first that passes, or none passes.
 abbrev pub IsFirst : Option ℕ → (Address → Bool) → List Address → Type 0
 IsFirst found passes systems =
     MatchOption found (position_or_len passes systems ≡ length systems) (λ i. (i ≡ position_or_len passes systems) × (i < length systems))
 
--- the entries lead from each address to the first of the systems that has it
+-- The entries lead from each address to the first of the systems that has it.
 abbrev pub LeadsToFirst : List (Address × ℕ) → List Address → Type 0
 LeadsToFirst entries systems = (a : Address) → IsFirst (lookup (λ k. same_address a k) entries) (λ b. same_address b a) systems
 
--- the own own_addresses of the systems
+-- The own own_addresses of the systems.
 abbrev pub own_addresses : List SystemState → List Address
 own_addresses ss = map (λ s. s.file.system) ss
 
--- one system changes
+-- One system changes.
 abbrev pub with_change : WorldState → ℕ → (SystemState → SystemState) → WorldState
 with_change world i f = record { systems = change i f world.systems; packets = world.packets }
 
--- a system after a posting, with the message where nothing refuses it
+-- A system after a posting, with the message where nothing refuses it.
 abbrev pub after_posting : List ℕ → Draft → ℕ → Stamp → SystemState → SystemState
 after_posting tag draft serial stamp s = state_with s (posting s.file s.base tag draft serial stamp)
 
--- a system after a purge
+-- A system after a purge.
 abbrev pub after_purge : SystemState → SystemState
 after_purge s = record { file = s.file; base = purged s.base s.cursor; cursor = s.cursor }
 
--- the packets of a scan, none where its stamp is out of range
+-- The packets of a scan, none where its stamp is out of range.
 abbrev pub made_by : Stamp → SystemState → List Packet
 made_by stamp s = if is_stamp stamp then scanned s.file s.base s.cursor stamp else []
 
--- a system after a scan
+-- A system after a scan.
 abbrev pub after_scan : Stamp → SystemState → SystemState
 after_scan stamp s = if is_stamp stamp then record { file = s.file; base = s.base; cursor = length s.base } else s
 
--- the world after a scan of this system
+-- The world after a scan of this system.
 abbrev pub scanned_world : WorldState → ℕ → Stamp → Option SystemState → WorldState
 scanned_world world i stamp None = world
 scanned_world world i stamp (Some s) = record {
@@ -115,24 +115,24 @@ scanned_world world i stamp (Some s) = record {
   packets = world.packets ++ map made (made_by stamp s);
 }
 
--- the packets of a scan of this system fit
+-- The packets of a scan of this system fit.
 abbrev pub ScanFits : Stamp → Option SystemState → Type 0
 ScanFits stamp None = Unit {0}
 ScanFits stamp (Some s) = All Fits (made_by stamp s)
 
--- a system after the toss of a packet
+-- A system after the toss of a packet.
 abbrev pub after_toss : Packet → SystemState → SystemState
 after_toss packet s = record { file = s.file; base = tossed s.file s.base (sender_of s.file packet.header) packet.messages; cursor = s.cursor }
 
--- a packet that came
+-- A packet that came.
 abbrev pub arrived : Exported → Exported
 arrived e = record { bytes = e.bytes; to = e.to; came = true }
 
--- the index of the first system of the address, the number of systems where there is none
+-- The index of the first system of the address, the number of systems where there is none.
 abbrev pub first_at : WorldState → Address → ℕ
 first_at world to = position_or_len (λ s. same_address s.file.system to) world.systems
 
--- the world after the packet of an index came
+-- The world after the packet of an index came.
 abbrev pub world_after : WorldState → ℕ → Packet → WorldState
 world_after world k packet =
     if nat_lt (first_at world (destination packet)) (length world.systems)

@@ -186,8 +186,8 @@ fn export_one(
     Ok(())
 }
 
-// A packet comes to the first system of its destination, where there is one. What came before is
-// refused there or known, and changes nothing.
+// A packet arrives at the first system of its destination, if there is one. A packet that arrived before is refused
+// there or known, and changes nothing.
 fn deliver(
     alloc: Global,
     receivers: &Receivers,

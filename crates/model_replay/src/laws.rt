@@ -16,8 +16,8 @@ ghost use Rattle.model_replay.specs.Worlds.{IsWorldOf, WorldState};
 
 use model_run::{each_message_is_filed_once, every_run_of_a_tidy_area_is_orderly};
 
-/// On every net no replay shows a message twice in a base. On a net whose area is tidy each replay is
-/// of an orderly run, so it cannot show what `check` excludes.
+/// On every net no replay shows a message twice in a base. On a net with a tidy area each replay is that of an orderly
+/// run, so it cannot show what `check` excludes.
 pub fn replay_laws()
     ensures filed_once { (files : List LinkFile) → FilesFit files → (events : List RunEvent) (world : WorldState) → IsWorldOf world (run_of files events) →
         (s : SystemState) → Among s world.systems → (key : Key) → count key s.base ≤ 1 }

@@ -1,12 +1,12 @@
 //! What would happen to a net (FTS-0004): events are replayed over the bytes of real packets.
 //!
-//! The contract for the layer above is that of `replay`: the world that it answers is that of the run
-//! of these events on these files, which the laws of runs speak of.
+//! The contract for the layer above is that of `replay`. It returns the world of the run of these events on these
+//! files, and the laws of runs hold for that run.
 //!
-//! Modules in reading order: `world` (the systems and packets after the events, and what one reads off
-//! them), `receivers` (which system has an address), `fitting` (what is known of a packet without its bytes),
-//! `happening` (what one event does), `replay_progress` (who is told how
-//! far it is), `replaying`, `script` (events as text), and `laws` (what holds of every replay).
+//! Begin with `world` (the systems and packets after the events, and what can be read of them) and `replaying`. They
+//! use `receivers` (which system has an address), `fitting` (what is known of a packet without its bytes), `happening`
+//! (the effect of one event) and `replay_progress` (progress reports). `script` reads events from text, and `laws` has
+//! what holds of every replay.
 #![tactic(auto)]
 
 mod fitting;

@@ -1,11 +1,11 @@
-//! Who is told how far a replay is.
+//! Progress reports of a replay.
 
-/// Is told after each event how many happened, and how many there are in all.
+/// Receives after each event how many happened, and how many there are in all.
 pub trait ReplayProgress {
     fn tell(&self, happened: usize, events: usize);
 }
 
-/// Tells nobody.
+/// Reports nothing.
 #[derive(Clone, Copy)]
 pub struct Untold;
 

@@ -17,10 +17,10 @@ use model_run::Event;
 use std::alloc::{AllocError, Global};
 use std::hash::RandomState;
 
-/// What becomes of a net on which these events happen, one after another. Each system begins with an
-/// empty base. Packets travel as their bytes and are tossed by the packet reader; one comes to the first
-/// system that has its destination. An event that names nothing, or whose posting or scan is refused,
-/// does nothing. Look-ups go by the hasher. Fails only when out of memory.
+/// What becomes of a net on which these events happen in this order. Each system begins with an empty base. Packets
+/// travel as their bytes and are tossed by the packet reader. A packet arrives at the first system with its
+/// destination. An event that names nothing does nothing, and so does a refused posting or scan. Look-ups go by the
+/// hasher. It fails only when out of memory.
 pub fn replay(
     alloc: Global,
     files: Vec<LinkFile>,

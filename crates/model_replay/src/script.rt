@@ -74,15 +74,14 @@ const INDEX_DIGITS: usize = 9;
 /// The digits of a serial.
 const SERIAL_DIGITS: usize = 8;
 
-/// The events of a script, one a line: `POST i TAG serial body`, `SCAN i`, `DELIVER k` or `PURGE i`. Blank
-/// lines and lines that begin with `;` are skipped. An index has 1 to 9 decimal digits, a serial
-/// eight hexadecimal ones with small letters; the body is the rest of the line after one blank. It is posted
-/// to All, from Sysop, with the serial's digits as subject. A fault is the first line of another form,
-/// and only `Memory` may come in place of the answer.
+/// The events of a script, one a line: `POST i TAG serial body`, `SCAN i`, `DELIVER k` or `PURGE i`. Blank lines and
+/// lines that begin with `;` are skipped. An index has 1 to 9 decimal digits, a serial eight hexadecimal ones with
+/// small letters. The body is the rest of the line after one blank. It is posted to All, from Sysop, with the serial's
+/// digits as subject. A fault is the first line of another form. Only `Memory` may be returned instead.
 pub fn read_script(alloc: Global, bytes: &[u8]) -> Result<Vec<Event>, ScriptFault>
     // What it answers is so of the bytes.
     ensures judged { MatchResult result (λ events. ScriptOf bytes.now (Ok events.items)) (λ fault. (fault ≡ script.Memory) ⊎ ScriptOf bytes.now (Err fault)) }
-    // What is so of the bytes, it answers.
+    // It returns each answer that is right for the bytes.
     ensures only { (other : Result (List Event) ScriptFault) → ScriptOf bytes.now other →
         MatchResult result (λ events. other ≡ Ok events.items) (λ fault. (fault ≡ script.Memory) ⊎ (other ≡ Err fault)) }
 {
@@ -148,7 +147,7 @@ fn event_in(alloc: Global, line: &[u8]) -> Result<Option<Event>, AllocError>
     }
 }
 
-/// The scan of the index that stands alone.
+/// The scan of an index, if the line has nothing else.
 fn scan(rest: &[u8]) -> Option<Event>
     ensures { result ≡ option_map (λ i. Scan i moment) (only_index (tokens rest.now)) }
 {
@@ -159,7 +158,7 @@ fn scan(rest: &[u8]) -> Option<Event>
     })
 }
 
-/// The delivery of the index that stands alone.
+/// The delivery of an index, if the line has nothing else.
 fn delivery(rest: &[u8]) -> Option<Event>
     ensures { result ≡ option_map (λ k. Deliver k) (only_index (tokens rest.now)) }
 {
@@ -167,7 +166,7 @@ fn delivery(rest: &[u8]) -> Option<Event>
     Some(Event::Deliver { packet })
 }
 
-/// The purge of the index that stands alone.
+/// The purge of an index, if the line has nothing else.
 fn purge(rest: &[u8]) -> Option<Event>
     ensures { result ≡ option_map (λ i. Purge i) (only_index (tokens rest.now)) }
 {
@@ -175,7 +174,7 @@ fn purge(rest: &[u8]) -> Option<Event>
     Some(Event::Purge { system })
 }
 
-/// The posting that stands after the word POST.
+/// The posting after the word POST.
 fn posting(alloc: Global, rest: &[u8]) -> Result<Option<Event>, AllocError>
     ensures { IfOk result (λ event. event ≡ posting_in rest.now) }
 {
@@ -204,7 +203,7 @@ fn posting(alloc: Global, rest: &[u8]) -> Result<Option<Event>, AllocError>
     }))
 }
 
-/// What stands after one blank.
+/// The rest after one blank.
 fn after_blank(bytes: &[u8]) -> &[u8]
     ensures { result.now ≡ drop 1 bytes.now }
 {
@@ -214,7 +213,7 @@ fn after_blank(bytes: &[u8]) -> &[u8]
     }
 }
 
-/// What is posted.
+/// The posted message.
 fn draft(alloc: Global, digits: &[u8], body: &[u8]) -> Result<Draft, AllocError>
     ensures { IfOk result (λ draft. draft ≡ draft_of digits.now body.now) }
 {
@@ -227,7 +226,7 @@ fn draft(alloc: Global, digits: &[u8], body: &[u8]) -> Result<Draft, AllocError>
     })
 }
 
-/// The index that stands alone.
+/// The index, if the line has nothing else.
 fn only_index(rest: &[u8]) -> Option<usize>
     ensures { result ≡ only_index (tokens rest.now) }
 {

@@ -199,9 +199,9 @@ impl World {
         bytes_at(alloc, &self.packets, k)
     }
 
-    /// Writes the base of the system as a base file of version 2, none where there is no such system.
-    /// What the writer holds back is left to its owner. It is `TooMany` where four bytes do not count the
-    /// messages, or the bytes of a text or an id, and `Write` with the number of bytes that went out.
+    /// Writes the base of the system as a base file of version 2, or returns None if there is no such system. Bytes
+    /// that the writer holds back are left to its owner. The error is `TooMany` if four bytes cannot count the
+    /// messages, or the bytes of a text or an id. It is `Write` with the number of bytes written if the writer fails.
     pub fn save<W: Sink>(&self, system: usize, writer: &mut W) -> Option<Result<(), BaseFault>>
         ensures bytes { (run : Run) → IsWorldOf self.now run → OfSystem result (nth system run.systems) (λ saved s.
             Saves (W.contents writer.old) (W.contents writer.new) saved (saved_bytes s.base s.cursor)) }
@@ -226,7 +226,7 @@ fn count_from<S: BuildHasher>(tosser: &Tosser<S>, from: usize, tag: &[u8]) -> us
     count
 }
 
-// Whether there is a message of this number, and it is of the area.
+// Whether there is a message of this number, and it belongs to the area.
 fn is_of_area<S: BuildHasher>(tosser: &Tosser<S>, i: usize, tag: &[u8]) -> bool
     ensures { result ≡ unwrap_or (option_map (λ m. bytes_eq m.echo.tag tag.now) (slice_get tosser.now.base i)) false }
 {

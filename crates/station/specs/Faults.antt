@@ -7,40 +7,40 @@ use Rattle.disk_io.specs.declared.disk_error.DiskError.TheVariants as disk_error
 use Rattle.cmd_status.specs.declared.fault.Fault.{Fault}
 use Rattle.cmd_status.specs.declared.fault.Fault.TheVariants.{CannotUse, OutOfMemory, TooLarge}
 
--- the file with this path cannot be used
+-- The file with this path cannot be used.
 abbrev pub IsCannotUse : List ℕ → Fault → Type 0
 IsCannotUse path (CannotUse other) = other.now ≡ path
 IsCannotUse path _ = ⊥
 
--- the file with this path has more bytes than it may have
+-- The file with this path has more bytes than allowed.
 abbrev pub IsTooLarge : List ℕ → Fault → Type 0
 IsTooLarge path (TooLarge other) = other.now ≡ path
 IsTooLarge path _ = ⊥
 
--- what is reported of a disk's fault at the file with this path
+-- The fault that reports a disk's error at the file with this path.
 abbrev pub IsFaultAt : List ℕ → DiskError → Fault → Type 0
 IsFaultAt path disk_error.Memory told = told ≡ OutOfMemory
 IsFaultAt path disk_error.Device told = IsCannotUse path told
 
--- there was no memory, or the file with this path cannot be used, as a device failed
+-- There was no memory, or the file with this path cannot be used, as a device failed.
 abbrev pub FailsAt : List ℕ → Type 0 → Fault → Type 0
 FailsAt path failed fault = (fault ≡ OutOfMemory) ⊎ (IsCannotUse path fault × failed)
 
--- how many bytes a file has, or that there is none
+-- The size of a file, if it exists.
 abbrev pub HasSize : Option (List ℕ) → Option ℕ → Type 0
 HasSize None size = size ≡ None
 HasSize (Some bytes) size = size ≡ Some (length bytes)
 
--- how many bytes a link file may have
+-- The most bytes of a link file.
 abbrev pub most_links : ℕ
 most_links = 1048576
 
--- there was no memory, there is no such link file, a device failed, or the file has more bytes than it may have
+-- There was no memory, there is no such link file, a device failed, or the file has more bytes than allowed.
 abbrev pub LinksUnread : DiskState → List ℕ → Type 0 → Fault → Type 0
 LinksUnread disk path failed fault =
     (fault ≡ OutOfMemory)
     ⊎ ((IsCannotUse path fault × ((disk.seen path ≡ None) ⊎ failed)) ⊎ (IsTooLarge path fault × (most_links < length (bytes_in (disk.seen path)))))
 
--- the disk failed, or the lock did: of each how often it did before, and does now
+-- The disk failed, or the lock did: the counts of failures of each, before and now.
 abbrev pub HaveFailed : ℕ → ℕ → ℕ → ℕ → Type 0
 HaveFailed disk disk_now lock lock_now = Failed disk disk_now ⊎ Failed lock lock_now

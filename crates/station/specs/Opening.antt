@@ -9,21 +9,21 @@ use Rattle.cmd_status.specs.declared.fault.Fault.{Fault}
 use Rattle.base_store.specs.Store.{StoreState}
 use Rattle.station.specs.Place.{IsOfPlace, KeepsElsewhere, Place, StandsOrWasLeft}
 
--- no file is locked: of the two locks, the files whose locks they hold
+-- neither lock holds a file
 abbrev pub AreFree : Option (List ℕ) → Option (List ℕ) → Type 0
 AreFree links base = (links ≡ None) × (base ≡ None)
 
--- The disk failed, or one of the two locks did: of each how often it did before, and does now.
+-- The disk failed, or one of the two locks did: the counts of failures of each, before and now.
 abbrev pub HaveFailed : ℕ → ℕ → ℕ → ℕ → ℕ → ℕ → Type 0
 HaveFailed disk disk_now links links_now base base_now = Failed disk disk_now ⊎ (Failed links links_now ⊎ Failed base base_now)
 
--- The store holds the base for which the files stood, and that was committed last; opening it changed no base.
+-- The store holds the base that the files held, and has committed it. Opening it changed no base.
 pub record IsOpenFor (place : Place) (old : DiskState) (s : StoreState) : Type 0 where
   pub keeps : (base : Base) → place.stands_for base old.seen → s.keeps base
   pub committed : (base : Base) → place.stands_for base old.seen → s.committed base
   pub run : (base : Base) → place.stands_for base old.seen → LeavesOnly old s.disk (StandsOrWasLeft place old base)
 
--- The station is open as this store, whose disk failed so often before and now, with this link file.
+-- The station is open as this store, with this link file. The counts are the failures of the disk, before and now.
 pub record IsOpened (place : Place) (Reads : LinkFile → Type 0) (old : DiskState) (before now : ℕ) (s : StoreState) (links : LinkFile) : Type 0 where
   pub ready : s.is_ready
   pub read : Honestly s.disk (Reads links)
@@ -31,7 +31,7 @@ pub record IsOpened (place : Place) (Reads : LinkFile → Type 0) (old : DiskSta
   pub of_place : IsOfPlace place old s
   pub later : before ≤ now
 
--- The station is not opened, for this reason: a crash meanwhile leaves the base from before.
+-- The station is not opened, for this reason. A crash during the opening leaves the base from before.
 pub record IsNotOpened (place : Place) (Shut : Fault → Type 0) (old new : DiskState) (fault : Fault) : Type 0 where
   pub cause : Honestly new (Shut fault)
   pub crash : Honestly new ((base : Base) → place.stands_for base old.seen → LeavesOnly old new (StandsOrWasLeft place old base))

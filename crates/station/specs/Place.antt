@@ -1,19 +1,19 @@
--- Where the base of a station is kept.
+-- Where the base of a station is.
 use Rattle.std.specs.Prelude.{◌≡◌, ◌⊎◌, ◌↔◌, ℕ, List}
 use Rattle.base_file.specs.Base.{Base}
 use Rattle.disk_io.specs.Disk.{DiskState, Files}
 use Rattle.base_store.specs.Store.{StoreState}
 
--- which files stand for which base, and which paths are the station's own
+-- Which files hold which base, and which paths are the station's own.
 pub record Place : Type 1 where
   pub stands_for : Base → Files → Type 0
   pub is_own : List ℕ → Type 0
 
--- the other files that were on the disk are as they were
+-- The other files that were on the disk are unchanged.
 abbrev pub SameElsewhere : Place → DiskState → Files → Type 0
 SameElsewhere place old c = (m : List ℕ) → (place.is_own m → ⊥) → old.is_named m → old.is_flushed m → c m ≡ old.seen m
 
--- what was seen and on the disk elsewhere is so still
+-- Elsewhere the files seen and the files on the disk are unchanged.
 pub record KeepsElsewhere (place : Place) (old new : DiskState) : Type 0 where
   pub seen : (m : List ℕ) → (place.is_own m → ⊥) → new.seen m ≡ old.seen m
   pub named : (m : List ℕ) → (place.is_own m → ⊥) → old.is_named m → new.is_named m
@@ -21,16 +21,16 @@ pub record KeepsElsewhere (place : Place) (old new : DiskState) : Type 0 where
   pub alone : (m : List ℕ) → (place.is_own m → ⊥) → old.is_alone m → new.is_alone m
   pub honest : new.is_honest → old.is_honest
 
--- the files stand for this base, and nothing elsewhere has changed
+-- The files hold this base, and nothing elsewhere has changed.
 pub record StandsAlone (place : Place) (old : DiskState) (base : Base) (c : Files) : Type 0 where
   pub elsewhere : SameElsewhere place old c
   pub stands : place.stands_for base c
 
--- or it is what a crash might have left before
+-- These files, or a state that a crash before could have left.
 abbrev pub StandsOrWasLeft : Place → DiskState → Base → Files → Type 0
 StandsOrWasLeft place old base c = StandsAlone place old base c ⊎ old.may_leave c
 
--- a store is one of this place, and nothing elsewhere has changed
+-- This is a store of this place, and nothing elsewhere has changed.
 pub record IsOfPlace (place : Place) (old : DiskState) (s : StoreState) : Type 0 where
   pub own : (m : List ℕ) → s.is_own m → place.is_own m
   pub stands : (base : Base) (c : Files) → s.stands base c ↔ place.stands_for base c

@@ -11,34 +11,34 @@ use Rattle.cmd_store.specs.declared.command_error.CommandError.{CommandError}
 use Rattle.cmd_store.specs.declared.command_error.CommandError.TheVariants.{Met, Store}
 use Rattle.station.specs.Place.{Place, SameElsewhere, StandsOrWasLeft}
 
--- the files stand for a base that the command makes, as they are seen and whatever a crash leaves
+-- The files hold a base that the command makes, as they are seen and after any crash.
 pub record IsKept (place : Place) (IsMade : Base → Type 0) (now : DiskState) : Type 0 where
   pub next : Base
   pub made : IsMade next
   pub seen : place.stands_for next now.seen
   pub stands : (c : Files) → now.may_leave c → place.stands_for next c
 
--- the base from before, or one that the command makes; nothing elsewhere has changed
+-- The files hold the base from before, or one that the command makes; nothing elsewhere has changed.
 pub record StandsForMadeAlone (place : Place) (old : DiskState) (IsMade : Base → Type 0) (base : Base) (c : Files) : Type 0 where
   pub elsewhere : SameElsewhere place old c
   pub stands : place.stands_for base c ⊎ ((next : Base) × IsMade next × place.stands_for next c)
 
--- or it is what a crash might have left before
+-- These files, or a state that a crash before could have left.
 abbrev pub MadeOrWasLeft : Place → DiskState → (Base → Type 0) → Base → Files → Type 0
 MadeOrWasLeft place old IsMade base c = StandsForMadeAlone place old IsMade base c ⊎ old.may_leave c
 
--- the files stand for the base from before, as they are seen and whatever a crash leaves, meanwhile and then
+-- The files hold the base from before, as they are seen and after any crash, during the run or later.
 pub record StandsAsBefore (place : Place) (old new : DiskState) (base : Base) : Type 0 where
   pub crash : LeavesOnly old new (StandsOrWasLeft place old base)
   pub seen : place.stands_for base new.seen
   pub stands : (c : Files) → new.may_leave c → place.stands_for base c
 
--- where the store did not fail, the files stand for the base from before
+-- If the store did not fail, the files hold the base from before.
 abbrev pub StandsWhereMet : Place → DiskState → DiskState → Base → CommandError → Type 0
 StandsWhereMet place old new base (Met fault) = StandsAsBefore place old new base
 StandsWhereMet place old new base (Store cause) = Unit {0}
 
--- what is so of a run on a station whose files stood for this base
+-- The result of a run on a station that held this base.
 pub record IsRunOn {A : Type 0} (IsAnswer : Type 0) (Makes May : Base → Type 0) (place : Place) (old new : DiskState) (base : Base) (result : Result A CommandError) : Type 0 where
   pub answer : IsAnswer
   pub kept : OnOk result (IsKept place Makes new)
@@ -46,14 +46,14 @@ pub record IsRunOn {A : Type 0} (IsAnswer : Type 0) (Makes May : Base → Type 0
   pub crash : LeavesOnly old new (MadeOrWasLeft place old May base)
   pub whole : IsErrOf result (Store Damaged) → ⊥
 
--- the command was run with this link file, for whatever base the files stood
+-- The command was run with this link file, for each base that the files held.
 pub record IsRun {A : Type 0} (IsAnswer : LinkFile → Base → Type 0) (Makes May : LinkFile → Base → Base → Type 0) (place : Place) (Reads : LinkFile → Type 0) (failed : Type 0) (old new : DiskState) (result : Result A CommandError) : Type 0 where
   pub file : LinkFile
   pub read : Reads file
   pub runs : (base : Base) → place.stands_for base old.seen → IsRunOn (IsAnswer file base) (Makes file base) (May file base) place old new base result
   pub cause : IsErrOf result (Store Device) → failed
 
--- The command was not run, for this reason: nothing is printed, and a crash meanwhile leaves the base from before.
+-- The command was not run, for this reason. Nothing is printed, and a crash leaves the base from before.
 pub record IsNotRun {A : Type 0} (place : Place) (Shut : Fault → Type 0) (old new : DiskState) (old_out new_out : Output) (result : Result A CommandError) : Type 0 where
   pub fault : Fault
   pub is : result ≡ Err (Met fault)
@@ -61,7 +61,7 @@ pub record IsNotRun {A : Type 0} (place : Place) (Shut : Fault → Type 0) (old 
   pub printed : new_out ≡ old_out
   pub crash : (base : Base) → place.stands_for base old.seen → LeavesOnly old new (StandsOrWasLeft place old base)
 
--- The program stopped the command on the open station, for this reason: nothing is printed, and the base is as before.
+-- The program stopped the command on the open station, for this reason. Nothing is printed, and the base is unchanged.
 pub record IsStopped {A : Type 0} (place : Place) (Stops : Fault → Type 0) (old new : DiskState) (old_out new_out : Output) (result : Result A CommandError) : Type 0 where
   pub fault : Fault
   pub is : result ≡ Err (Met fault)
@@ -69,7 +69,7 @@ pub record IsStopped {A : Type 0} (place : Place) (Stops : Fault → Type 0) (ol
   pub printed : new_out ≡ old_out
   pub stands : (base : Base) → place.stands_for base old.seen → StandsAsBefore place old new base
 
--- What comes of a command on a station. It is not run where that is shut, as is said of the fault, or where the program stops it.
+-- The result of a command on a station. It is not run if the station is shut, as its fault says, or if the program stops it.
 abbrev pub RunsIn : {A : Type 0} → (LinkFile → Base → Type 0) → (LinkFile → Base → Base → Type 0) → (LinkFile → Base → Base → Type 0) → Place → (LinkFile → Type 0) → (Fault → Type 0) → (Fault → Type 0) → Type 0
     → DiskState → DiskState → Output → Output → Result A CommandError → Type 0
 RunsIn IsAnswer Makes May place Reads Shut Stops failed old new old_out new_out result =

@@ -1,4 +1,4 @@
-//! A station whose disk can be used without its store, for files that do not belong to the store.
+//! A station that can pass its disk on, for files that do not belong to its store.
 ghost use Rattle.std.specs.Prelude.{◌≡◌, ◌↔◌, ℕ, List, IsTrue};
 ghost use Rattle.disk_io.specs.Runs.{ChangesNothing};
 ghost use Rattle.base_store.specs.Store.{LooksOn, StoreState};
@@ -10,15 +10,15 @@ use std::alloc::Global;
 
 /// Knows the paths of a station's own files.
 pub trait OwnPaths {
-    // The paths of its own files.
+    // The paths of the station's files.
     ghost is_own: { Self → List ℕ → Type 0 };
 
-    /// Whether one of its own files has this path.
+    /// Whether one of the station's files has this path.
     fn owns(&self, path: &[u8]) -> bool
         ensures { IsTrue result ↔ is_own self.now path.now };
 }
 
-/// A station whose disk can be taken out of its store, used for other files, and returned.
+/// A station that can take its disk out of its store, pass it on for other files, and take it back.
 pub trait LendStation<'a, D: Disk>: OpenStation<'a, D> {
     /// The parts of the store without the disk.
     type Rest;
@@ -28,7 +28,7 @@ pub trait LendStation<'a, D: Disk>: OpenStation<'a, D> {
     // What the store is with this disk.
     ghost store_on: { Self.Rest → D → StoreState };
 
-    /// Knows the paths of its own files.
+    /// The paths of the station's files.
     fn paths(&self) -> Self::Paths
         ensures { (m : List ℕ) → Self.Paths.is_own result m ↔ (Self.place self.now).is_own m };
 

@@ -1,12 +1,12 @@
-//! A station opened as a store, whatever its base is kept in, and one function that runs a command on it.
+//! A station opened as a store, for every kind of base, and one function that runs a command on it.
 //!
 //! The contract for the commands: the link file is read as the disk shows it, at most a MiB, and never before its lock
 //! is held. What a command promises on a store, `run_command` promises on the disk.
 //!
-//! Modules in reading order: `locked` (the lock of a file), `paths` (staging paths), `reading` and `links` (the link
-//! file), `progress` (progress while a base file is read); `locks` (the locks of a station), `opening` (the trait of
-//! a kind of station), `before` (what a program does with the store before the command), `running` and `lending` (the
-//! disk of a store is used for other files).
+//! Begin with `opening` (the trait of a kind of station) and `running`. They use `locked` and `locks` (the locks of a
+//! station), `paths` (staging paths), `reading` and `links` (the link file) and `progress` (progress while a base file
+//! is read). `before` is what a program does with the store before the command. `lending` passes the disk of a store on
+//! for other files.
 #![tactic(auto)]
 
 mod before;

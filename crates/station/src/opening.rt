@@ -29,7 +29,7 @@ pub struct Stopped<'a, D> {
     pub fault: Fault<'a>,
 }
 
-/// A station, whatever its base is kept in.
+/// A kind of station: how it is opened as a store.
 pub trait OpenStation<'a, D: Disk> {
     type Kept: PurgedStore;
 

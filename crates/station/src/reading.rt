@@ -56,7 +56,7 @@ fn check_links<'a, D: Disk>(disk: &mut D, path: &'a str) -> Result<(), Fault<'a>
     }
 }
 
-// The bytes of a link file, whose lock is held.
+// The bytes of a link file. Its lock is held.
 pub(crate) fn read_links<'a, D: Disk, L: FileLock>(
     alloc: Global,
     disk: &mut D,

@@ -13,20 +13,20 @@ use Rattle.base_store.specs.Store.{StoreState}
 use Rattle.base_store.specs.declared.store_error.StoreError.{StoreError}
 use Rattle.base_store.specs.declared.store_error.StoreError.TheVariants as error
 
--- what is at the path is a base file of this base, or there is no file and the base is empty
+-- The path has a base file of this base, or there is no file and the base is empty.
 abbrev pub StandsInFile : List ℕ → Base → Files → Type 0
 StandsInFile path base c = IsBaseGiven (c path) base.messages base.cursor
 
--- so it is seen, and whatever a crash leaves
+-- So it is seen, and whatever a crash leaves.
 pub record IsInFile (disk : DiskState) (path : List ℕ) (base : Base) : Type 0 where
   pub seen : StandsInFile path base disk.seen
   pub left : (c : Files) → disk.may_leave c → StandsInFile path base c
 
--- the base file's path, or the one beside it
+-- The base file's path, or its staging path.
 abbrev pub IsOfFile : List ℕ → List ℕ → List ℕ → Type 0
 IsOfFile path own m = (m ≡ staging_path path own) ⊎ (m ≡ path)
 
--- a base in memory, with the file in which it is committed
+-- A base in memory, with the file in which it is committed.
 abbrev pub file_state : DiskState → List ℕ → List ℕ → Base → ℕ → StoreState
 file_state disk path own base place = record {
   disk = disk;
@@ -41,11 +41,11 @@ file_state disk path own base place = record {
   shown = λ honest ready b is. is.seen;
 }
 
--- no memory, or too many
+-- No memory, or too many.
 abbrev pub IsUnsaved : StoreError → Type 0
 IsUnsaved why = (why ≡ error.Memory) ⊎ (why ≡ error.TooMany)
 
--- four bytes count the messages with one more, and the bytes of its text
+-- Four bytes count the messages with one more, and the bytes of its text.
 pub record HasRoomFor (base : Base) (message : Filed) : Type 0 where
   pub messages : length base.messages + 1 < 2 ^ 32
   pub text : is_short_enough (stored_as false message) ≡ true
@@ -54,7 +54,7 @@ pub record HasRoomFor (base : Base) (message : Filed) : Type 0 where
 abbrev pub IsUncounted : Base → Type 0
 IsUncounted base = is_countable base.messages base.cursor ≡ false
 
--- the file is as it was or of this base; what is beside it may be anything, and all else is as it was
+-- The path has its old file or a file of this base. The staging path may have anything, and all else is unchanged.
 pub record PutsBase (path own : List ℕ) (base : Base) (before after : Files) : Type 0 where
   pub others : DifferAt (IsOfFile path own) before after
   pub either : (after path ≡ before path) ⊎ StandsInFile path base after

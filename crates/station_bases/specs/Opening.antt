@@ -1,4 +1,4 @@
--- A station whose base is a folder, with its link file and its folder locked.
+-- A station with its base in a folder; its link file and its folder are locked.
 use Rattle.std.specs.Prelude.{◌≡◌, ◌⊎◌, ◌↔◌, ℕ, Bool, List}
 use Rattle.echo_addr.specs.declared.address.Address.{Address}
 use Rattle.base_file.specs.Base.{Base}
@@ -16,7 +16,7 @@ use Rattle.station.specs.Links.{AreLinks, NoLinks}
 use Rattle.cmd_status.specs.declared.fault.Fault.{Fault}
 use Rattle.base_store.specs.Store.{StoreState}
 
--- the folder is not opened for the system
+-- The folder is not opened for the system.
 pub record IsNotOpened (own : Address) (strange : Bool) (base path : List ℕ) (failed : Type 0) (old new : DiskState) (fault : Fault) : Type 0 where
   pub why : OpenError
   pub wrong : IsNotOurs own strange path old.seen why
@@ -24,19 +24,18 @@ pub record IsNotOpened (own : Address) (strange : Bool) (base path : List ℕ) (
   pub told : IsToldAs base why fault
   pub cause : why ≡ unread.Device → failed
 
--- nothing was changed: there are no links, or the folder cannot be locked
+-- Nothing was changed: there are no links, or the folder cannot be locked.
 pub record IsLockedOut (links base : List ℕ) (failed : Type 0) (old new : DiskState) (fault : Fault) : Type 0 where
   pub same : ChangesNothing old new
   pub cause : NoLinks old links failed fault ⊎ FailsAt base failed fault
 
--- the links are read, and the folder is not opened for their system
+-- The links are read, and the folder is not opened for their system.
 pub record IsShut (links base path : List ℕ) (strange : Bool) (failed : Type 0) (old new : DiskState) (fault : Fault) : Type 0 where
   pub file : LinkFile
   pub of_links : AreLinks old links file
   pub folder : IsNotOpened file.system strange base path failed old new fault
 
--- A store on a folder is open for the system of a link file: it holds the base for which the folder's files stood, and that was
--- committed last.
+-- A store on a folder is open for the system of a link file. It holds the base that the folder's files held, and has committed it.
 pub record IsBegun (keyed : ℕ → ℕ → List ℕ → ℕ) (links path : List ℕ) (strange : Bool) (old : DiskState) (s : StoreState) (file : LinkFile) : Type 0 where
   pub of_links : AreLinks old links file
   pub ours : (address : Address) → IsOfOther file.system strange path old.seen address → ⊥

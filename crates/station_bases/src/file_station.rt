@@ -1,4 +1,4 @@
-//! A station whose base is a file.
+//! A station with its base in a file.
 ghost use Rattle.std.specs.Prelude.{◌≡◌, Some};
 ghost use Rattle.station.specs.Links.{AreLinks};
 ghost use Rattle.station_bases.specs.Reading.{IsShutFor, file_place};

@@ -1,4 +1,4 @@
-//! A station whose base is a folder.
+//! A station with its base in a folder.
 ghost use Rattle.std.specs.Prelude.{◌≡◌, Some};
 ghost use Rattle.disk_io.specs.Runs.{ChangesNothing};
 ghost use Rattle.base_log.specs.Opening.{AreAlone};

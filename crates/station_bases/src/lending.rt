@@ -10,7 +10,7 @@ use station::{LendStation, MessageProgress, OwnPaths};
 use std::alloc::Global;
 use std::hash::BuildHasher;
 
-/// What comes before and after the name of a system in a staging path.
+/// The bytes before and after the name of a system in a staging path.
 const BEFORE: &[u8] = b".~";
 
 const BEHIND: &[u8] = b"~.new";

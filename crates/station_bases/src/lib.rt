@@ -1,9 +1,9 @@
-//! The two kinds of stations: one whose base is a file, and one whose base is a folder.
+//! The two kinds of stations: the base is a file, or it is a folder. Each promises what `station` asks of a kind.
 //!
-//! Modules in reading order, for a base file: `saving` (a base replaces its file), `file_store`, `loading` (the link
-//! file and the base file are read), `file_station` and `lending` (the disk is used for other files). For a base
-//! folder: `place` (where it is), `opening` (its files, locked and opened), `beginning` (the folder as a store),
-//! `folder_station` and `folder_lending`.
+//! Begin with `file_station` and `folder_station`. For a base file: `saving` (a base replaces its file), `file_store`,
+//! `loading` (the link file and the base file are read) and `lending` (the disk is used for other files). For a base
+//! folder: `place` (where it is), `opening` (its files, locked and opened), `beginning` (the folder as a store) and
+//! `folder_lending`.
 #![tactic(auto)]
 
 mod beginning;

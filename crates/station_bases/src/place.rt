@@ -1,7 +1,7 @@
 //! Where a station with a base folder is.
 
-/// The paths of a station: its link file, its base folder as it was named (its lock goes by that), and the path
-/// before the names of the folder's files, which ends in a slash.
+/// The paths of a station: its link file, its base folder, and the prefix of the folder's files, which ends in a slash.
+/// The lock of the folder goes by its path as it was given.
 #[derive(Clone, Copy, Debug)]
 pub struct FolderPlace<'a> {
     pub links: &'a str,

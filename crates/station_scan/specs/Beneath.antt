@@ -1,10 +1,10 @@
--- The disk of a store is used beneath it.
+-- The disk of a store is used for other files.
 use Rattle.std.specs.Prelude.{ℕ, List}
 use Rattle.disk_atomic.specs.Changes.{ChangesOnly}
 use Rattle.base_store.specs.Store.{IsSameStore, StoreState}
 use Rattle.station.specs.Beneath.{AreSettledByOwn, HoldsAsBefore}
 
--- The disk was used at these paths, none of which is the store's own: the store holds what it held.
+-- The disk was used at these paths. The store owns no such path, and holds what it held.
 pub record IsUsedAt (paths : List ℕ → Type 0) (old new : StoreState) : Type 0 where
   pub settled : AreSettledByOwn old
   pub same : IsSameStore old new

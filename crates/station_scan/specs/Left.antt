@@ -1,4 +1,4 @@
--- What earlier scans left is brought to its end.
+-- Leftover packets: the staging files that earlier scans left. A scan finishes them: it names or removes each.
 use Rattle.std.specs.Prelude.{◌≡◌, ◌≢◌, ◌⊎◌, ◌<◌, ◌≤◌, ℕ, List, [], ◌∷◌, ◌++◌, length, get_or, All, AllPairs, Contains, IsSome, None, OnOk, Result}
 use Rattle.disk_io.specs.Disk.{DiskState, Files}
 use Rattle.disk_io.specs.Runs.{LeavesOnly, OneStepOn}
@@ -12,74 +12,74 @@ use Rattle.station_scan.specs.declared.finding.LeftPaths.{LeftPaths}
 use Rattle.station_scan.specs.ListStaged.{IsNumbered, HasStagingFile}
 use Rattle.station_scan.specs.Sending.{IsNameByte, IsOffOwn, two_paths}
 
--- It has the two paths of what was listed, and its number; neither path is the station's own.
+-- It has the two paths of the listed packet, and its number. Neither path is the station's own.
 pub record IsFoundAs (Own : List ℕ → Type 0) (folder own : List ℕ) (packet : StagedPacket) (l : LeftPaths) : Type 0 where
   pub two : l.two ≡ two_paths folder own packet.name
   pub before : l.before ≡ packet.before
   pub plain : All IsNameByte packet.name
   pub off : IsOffOwn Own l.two
 
--- some packet that was listed is found so
+-- Some listed packet is found as this.
 abbrev pub IsFound : (List ℕ → Type 0) → List ℕ → List ℕ → List StagedPacket → LeftPaths → Type 0
 IsFound Own folder own named l = (packet : StagedPacket) × Contains named packet × IsFoundAs Own folder own packet l
 
--- a file stands beside its path
+-- Its staging file exists.
 abbrev pub IsStagingThere : Files → LeftPaths → Type 0
 IsStagingThere files l = IsSome (files l.two.staging)
 
--- nothing has its path
+-- Nothing has its path.
 abbrev pub IsFreeFound : Files → LeftPaths → Type 0
 IsFreeFound files l = files l.two.path ≡ None
 
--- two have two paths that are not the same
+-- Their paths differ.
 abbrev pub HaveOtherLeft : LeftPaths → LeftPaths → Type 0
 HaveOtherLeft one other = one.two.path ≢ other.two.path
 
--- one of this path is among them
+-- One of this path is among them.
 abbrev pub IsAmong : List ℕ → List LeftPaths → Type 0
 IsAmong path found = (l : LeftPaths) × Contains found l × (l.two.path ≡ path)
 
--- it is a packet's name, neither of its paths is the station's own, and a file stands beside it
+-- It is a packet's name. Neither of its paths is the station's own, and its staging file exists.
 pub record IsToFind (Own : List ℕ → Type 0) (folder own : List ℕ) (files : Files) (name : List ℕ) : Type 0 where
   pub plain : All IsNameByte name
   pub off : IsOffOwn Own (two_paths folder own name)
   pub there : HasStagingFile folder own files name
 
--- nothing has the path of one of these
+-- No file has the path of one of these.
 abbrev pub AreFreeLeft : (List ℕ → Type 0) → List ℕ → List ℕ → Files → Type 0
 AreFreeLeft Own folder own files = (name : List ℕ) → IsToFind Own folder own files name → files (folder ++ name) ≡ None
 
--- what was to be found was
+-- If the listed packet has to be found, it is among those found.
 abbrev pub IsFoundWhere : (List ℕ → Type 0) → List ℕ → List ℕ → Files → List LeftPaths → StagedPacket → Type 0
 IsFoundWhere Own folder own files found packet = IsToFind Own folder own files packet.name → IsAmong (folder ++ packet.name) found
 
--- What was listed is found: which packets, each once, and whether they are all.
+-- The leftover packets of a list: each is found, once.
 pub record AreFound (Own : List ℕ → Type 0) (folder own : List ℕ) (named : List StagedPacket) (found : List LeftPaths) : Type 0 where
   pub each : All (IsFound Own folder own named) found
   pub differ : AllPairs HaveOtherLeft found
 
--- None is added, or this one, of what was listed, whose path none has.
+-- Either nothing is added, or this listed packet, if no earlier one has its path.
 abbrev pub Adds : (List ℕ → Type 0) → List ℕ → List ℕ → StagedPacket → List LeftPaths → List LeftPaths → Type 0
 Adds Own folder own packet before after =
     (after ≡ before) ⊎ ((l : LeftPaths) × (after ≡ before ++ l ∷ []) × IsFoundAs Own folder own packet l × All (HaveOtherLeft l) before)
 
--- the same packet, by what is lent of its paths
+-- The same packet, with its paths borrowed.
 pub record IsLent (two : LeftPaths) (l : Left) : Type 0 where
   pub path : l.path.now ≡ two.two.path
   pub staging : l.staging.now ≡ two.two.staging
   pub before : l.before ≡ two.before
 
--- so are these, one by one
+-- These are the same packets, one by one.
 pub record AreLent (paths : List LeftPaths) (found : List Left) : Type 0 where
   pub as_many : length found ≡ length paths
   pub each : (k : ℕ) (w : LeftPaths) (l : Left) → k < length paths → IsLent (get_or paths k w) (get_or found k l)
 
--- the path beside one of these, or that of one past which the cursor was moved, or one that leads to no file
+-- The staging path of one of these; or the path of one, if its scan was committed or its path leads to no file.
 abbrev pub IsEndedAt : ℕ → List Left → Files → List ℕ → Type 0
 IsEndedAt cursor found c m = (l : Left) × Contains found l × ((m ≡ l.staging.now) ⊎ ((m ≡ l.path.now) × ((l.before < cursor) ⊎ (c m ≡ None))))
 
--- These are brought to their end, and that is on the disk. A crash at any moment leaves each packet of a committed scan at one of its two paths at least, and
--- none other at its path.
+-- These packets are finished, and that is on the disk. A crash at any time leaves each packet of a committed scan at one of its two paths
+-- at least. It leaves no other packet at its path.
 pub record EndsThese (cursor : ℕ) (paths : List LeftPaths) (old new : DiskState) (result : Result (Unit {0}) PlacingError) : Type 0 where
   pub found : List Left
   pub lent : AreLent paths found
@@ -93,30 +93,29 @@ pub record EndsThese (cursor : ℕ) (paths : List LeftPaths) (old new : DiskStat
 abbrev pub IsOfPaths : List LeftPaths → List ℕ → Type 0
 IsOfPaths paths m = (w : LeftPaths) × Contains paths w × ((m ≡ w.two.staging) ⊎ (m ≡ w.two.path))
 
--- it is a packet of the own system of this name, of which neither path is the station's own
+-- It is a packet of the own system with this name. Neither of its paths is the station's own.
 pub record IsLeftAs (Own : List ℕ → Type 0) (folder own name : List ℕ) (l : Left) : Type 0 where
   pub path : l.path.now ≡ folder ++ name
   pub staging : l.staging.now ≡ staging_path (folder ++ name) own
   pub plain : All IsNameByte name
   pub off : IsOffOwn Own (two_paths folder own name)
 
--- it is one of some name, which has its number where the list was true
+-- It has some name, and its number is the one in that name if the list was true.
 abbrev pub IsLeftOf : Type 0 → (List ℕ → Type 0) → List ℕ → List ℕ → Left → Type 0
 IsLeftOf is_true Own folder own l = (name : List ℕ) × IsLeftAs Own folder own name l × (is_true → IsNumbered l.before name)
 
--- where the list was true, each packet's name beside which a file stands is among them
+-- If the list was true, each name of a packet with a staging file is among them.
 abbrev pub AreAllLeft : Type 0 → (List ℕ → Type 0) → List ℕ → List ℕ → Files → List Left → Type 0
 AreAllLeft is_true Own folder own files found =
     is_true → (name : List ℕ) (before : ℕ) → IsNumbered before name → IsToFind Own folder own files name → (l : Left) × Contains found l × (l.path.now ≡ folder ++ name)
 
--- Where the cursor was moved past it, its path has what stood beside it, and that is there no more; else it is gone, and its path has
--- what it had.
+-- If the cursor was moved past it, its staging file moved to its path. Otherwise that file is removed, and its path is unchanged.
 pub record IsEnded (cursor : ℕ) (before after : Files) (l : Left) : Type 0 where
   pub committed : l.before < cursor → after l.path.now ≡ before l.staging.now
   pub untouched : cursor ≤ l.before → after l.path.now ≡ before l.path.now
   pub gone : after l.staging.now ≡ None
 
--- What earlier scans left is brought to its end, as far as it was listed.
+-- The listed leftover packets are finished.
 pub record EndsLeft (is_true : Type 0) (Own : List ℕ → Type 0) (folder own : List ℕ) (cursor : ℕ) (old new : DiskState) (result : Result (Unit {0}) PlacingError) : Type 0 where
   pub found : List Left
   pub each : All (IsLeftOf is_true Own folder own) found
@@ -127,10 +126,10 @@ pub record EndsLeft (is_true : Type 0) (Own : List ℕ → Type 0) (folder own :
   pub any_moment : LeavesOnly old new (OneStepOn (FinishesEach cursor found) old)
   pub changes : ChangesOnly (IsOfLeft found) old new
 
--- the path of a packet's name in the folder, or the one beside it
+-- the path of a packet's name in the folder, or its staging path
 abbrev pub IsOfName : List ℕ → List ℕ → List ℕ → Type 0
 IsOfName folder own m = (name : List ℕ) × All IsNameByte name × ((m ≡ staging_path (folder ++ name) own) ⊎ (m ≡ folder ++ name))
 
--- one that is not of the station's own files
+-- such a path that is not one of the station's own files
 abbrev pub IsOfNameOff : (List ℕ → Type 0) → List ℕ → List ℕ → List ℕ → Type 0
 IsOfNameOff Own folder own m = IsOfName folder own m × (Own m → ⊥)

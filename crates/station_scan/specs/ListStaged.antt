@@ -1,21 +1,21 @@
--- What earlier scans left beside the names of packets.
+-- The list of staging files that earlier scans left.
 use Rattle.std.specs.Prelude.{◌≡◌, ℕ, List, ◌++◌, All, Contains, codes, decimal, IsSome}
 use Rattle.disk_io.specs.Disk.{Files}
 use Rattle.station.specs.Paths.{staging_path}
 use Rattle.station_scan.specs.declared.listing.StagedPacket.{StagedPacket}
 use Rattle.station_scan.specs.Sending.{IsNameByte}
 
--- the name of a packet of a scan before which so many messages were scanned
+-- The name of a packet of a scan before which so many messages were scanned.
 pub record IsNumbered (before : ℕ) (name : List ℕ) : Type 0 where
   pub front : List ℕ
   pub parts : name ≡ front ++ (codes "." ++ (decimal before ++ codes ".pkt"))
   pub plain : All IsNameByte name
 
--- a file stands beside this name of the folder, where the system of this own name writes
+-- This name of the folder has a staging file of the system with this own name.
 abbrev pub HasStagingFile : List ℕ → List ℕ → Files → List ℕ → Type 0
 HasStagingFile folder own files name = IsSome (files (staging_path (folder ++ name) own))
 
--- What is listed is so: each is the name of a packet, with its number, and each such name beside which a file stands is listed.
+-- The list is right: each entry is the name of a packet, with its number. Each such name with a staging file is listed.
 pub record AreListed (folder own : List ℕ) (files : Files) (found : List StagedPacket) : Type 0 where
   pub each : All (λ l. IsNumbered l.before l.name) found
   pub all : (name : List ℕ) (before : ℕ) → IsNumbered before name → HasStagingFile folder own files name → (l : StagedPacket) × Contains found l × (l.name ≡ name)

@@ -20,11 +20,11 @@ use Rattle.station.specs.Beneath.{HoldsAsBefore}
 use Rattle.station_scan.specs.declared.publish_error.PublishError.{PublishError}
 use Rattle.station_scan.specs.declared.publish_error.PublishError.TheVariants.{Base as OfBase, Staging, Packets}
 
--- what the path leads to is on the disk
+-- What the path leads to is on the disk.
 abbrev pub IsOnDisk : DiskState → List ℕ → Type 0
 IsOnDisk disk m = disk.is_named m × disk.is_flushed m
 
--- but for these paths, what was seen and on the disk is so still
+-- Except at these paths, the files seen and the files on the disk are unchanged.
 pub record UnchangedExcept (paths : List ℕ → Type 0) (old new : DiskState) : Type 0 where
   pub seen : DifferAt paths old.seen new.seen
   pub named : KeepsNamed paths old new
@@ -32,27 +32,27 @@ pub record UnchangedExcept (paths : List ℕ → Type 0) (old new : DiskState) :
   pub alone : KeepsAlone paths old new
   pub honest : new.is_honest → old.is_honest
 
--- none of the packets has this path of the folder
+-- The trial path is in the folder, and belongs to no packet.
 pub record IsTrial (outbound : List ℕ) (packets : List Outgoing) (trial : List ℕ) : Type 0 where
   pub inside : IsIn outbound trial
   pub off : IsOfOne packets trial → ⊥
 
--- packets that go into the folder, and a path of it that is tried: these paths are apart, and none is the store's own
+-- Packets that go into the folder, and a trial path in it. All these paths are distinct, and the store owns none.
 pub record AreGoing (Own : List ℕ → Type 0) (outbound trial : List ℕ) (packets : List Outgoing) : Type 0 where
   pub placed : ArePlaced outbound packets
   pub apart : All (IsApartFrom Own) packets
   pub is_trial : IsTrial outbound packets trial
   pub off : Own trial → ⊥
 
--- one of their paths, or the one that is tried
+-- One of their paths, or the trial path.
 abbrev pub IsGoingAt : List Outgoing → List ℕ → List ℕ → Type 0
 IsGoingAt packets trial m = IsOfOne packets m ⊎ (m ≡ trial)
 
--- where there are packets it was tried before anything else was done whether a file gets a second path
+-- If there are packets, the first step was to try whether a file gets a second path.
 abbrev pub IsTriedWith : {D : Type 0} → (D → DiskState) → List Outgoing → List ℕ → DiskState → Type 0
 IsTriedWith state packets trial old = (length packets ≡ 0) ⊎ WasTried state (IsAtStaging packets trial) trial old
 
--- Before the commit packets are written beside their paths, and a path is tried: the base that was committed stands.
+-- Before the commit staging files are written, and the trial path is used. The files hold the committed base.
 pub record StagesOver (old : StoreState) (packets : List Outgoing) (trial : List ℕ) (first : Base) (c : Files) : Type 0 where
   pub staged : OneStepOn (DifferAt (IsAtStaging packets trial)) old.disk c
   pub stands : old.stands first c
@@ -61,35 +61,37 @@ pub record StagesOver (old : StoreState) (packets : List Outgoing) (trial : List
 abbrev pub IsFreeIn : Files → Outgoing → Type 0
 IsFreeIn c p = c p.path.now ≡ None
 
--- From the commit on: the base that was committed before, and nothing has the path of a packet of these; or the one that was held, and
--- each packet, which is bytes, stands whole at its path or beside it. What else was on the disk, but for these paths, is as it was seen.
+-- From the commit on. Either the files hold the base that was committed before, and no file has the path of a packet of these. Or they hold
+-- the store's new base, and each packet, which is bytes, is whole at its path or its staging path. All else on the disk, except at these
+-- paths, is as it was seen.
 pub record CommitsWith (old : StoreState) (paths : List ℕ → Type 0) (packets : List Outgoing) (first next : Base) (c : Files) : Type 0 where
   pub others : (m : List ℕ) → (old.is_own m → ⊥) → (paths m → ⊥) → IsOnDisk old.disk m → c m ≡ old.disk.seen m
   pub either : (old.stands first c × All (IsFreeIn c) packets) ⊎ (old.stands next c × All (StandsWhole c) packets × All SendsBytes packets)
 
--- what a crash meanwhile may leave
+-- What a crash at any time during the steps may leave.
 abbrev pub PublishesOn : StoreState → List Outgoing → List ℕ → Base → Base → Files → Type 0
 PublishesOn old packets trial first next c = StagesOver old packets trial first c ⊎ CommitsWith old (IsGoingAt packets trial) packets first next c
 
--- a crash at any moment leaves such files
+-- A crash at any moment leaves such files.
 abbrev pub MayPublish : List Outgoing → List ℕ → StoreState → StoreState → Type 0
 MayPublish packets trial old new =
     Honestly new.disk ((first next : Base) → old.committed first → old.keeps next → LeavesOnly old.disk new.disk (PublishesOn old packets trial first next))
 
--- nothing stands beside their paths, nor at the path that was tried
+-- Their staging files are gone, and so is the trial file.
 abbrev pub AreGone : List Outgoing → List ℕ → DiskState → Type 0
 AreGone packets trial disk = All (IsStagingGone disk) packets × (disk.seen trial ≡ None)
 
--- What stands where it failed. Where a packet stopped it the base is as it was, with none beside its path unless this one was taken, or is
--- committed; where packets stay beside their paths that is said. Where the base stopped it each stays whole there, since it may be committed.
+-- The state after a failure. If a packet stopped it, the base is unchanged or committed. If unchanged, no staging file remains, unless a
+-- path was in use. `Staging` reports that staging files remain. If the base stopped it, each packet is whole in its staging file, since the
+-- base may be committed.
 abbrev pub StopsPublishing : List Outgoing → List ℕ → StoreState → StoreState → PublishError → Type 0
 StopsPublishing packets trial old new (Packets placing.Taken) = HoldsAsBefore old new ⊎ Commits old new
 StopsPublishing packets trial old new (Packets cause) = (HoldsAsBefore old new × AreGone packets trial new.disk) ⊎ Commits old new
 StopsPublishing packets trial old new (Staging cause) = HoldsAsBefore old new
 StopsPublishing packets trial old new (OfBase cause) = All (IsFilled new.disk) packets
 
--- A failure of the device is answered only where its count of failures rose, and damage, on an honest disk, only of a store that holds no
--- base.
+-- A failure of the device is reported only if its count of failures rose. On an honest disk, damage is reported only for a store that holds
+-- no base.
 pub record HasPublishCause {T : Type 0} (old new : StoreState) (before now : ℕ) (result : Result T PublishError) : Type 0 where
   pub later : before ≤ now
   pub packets : IsErrOf result (Packets placing.Device) → Failed before now
@@ -97,25 +99,25 @@ pub record HasPublishCause {T : Type 0} (old new : StoreState) (before now : ℕ
   pub base : IsErrOf result (OfBase store.Device) → Failed before now
   pub damaged : Honestly new.disk (IsErrOf result (OfBase store.Damaged) → (base : Base) → old.keeps base → ⊥)
 
--- nothing has the packet's path, and that is on the disk
+-- Nothing has the packet's path, and that is on the disk.
 pub record IsClear (disk : DiskState) (p : Outgoing) : Type 0 where
   pub none : disk.seen p.path.now ≡ None
   pub named : disk.is_named p.path.now
   pub flushed : disk.is_flushed p.path.now
 
--- each packet, which is bytes, stands beside its path, and nothing has that
+-- Each packet, which is bytes, is in its staging file, and no file has its path.
 pub record AreStaged (packets : List Outgoing) (disk : DiskState) : Type 0 where
   pub bytes : All SendsBytes packets
   pub staged : All (IsStaged disk) packets
   pub clear : Honestly disk (All (IsClear disk) packets)
 
--- where a packet was not staged none stays beside its path, unless that is said
+-- If a packet was not staged, no staging file remains, unless the error says so.
 abbrev pub NoneStays : List Outgoing → List ℕ → DiskState → PublishError → Type 0
 NoneStays packets trial new (Packets cause) = AreGone packets trial new
 NoneStays packets trial new (Staging cause) = Unit {0}
 NoneStays packets trial new (OfBase cause) = ⊥
 
--- A failure of the device is answered only where its count of failures rose; neither that a path is taken nor a failure of the base is.
+-- A failure of the device is reported only if its count of failures rose. A used path and a failure of the base are never reported.
 pub record HasStageCause {T : Type 0} (before now : ℕ) (result : Result T PublishError) : Type 0 where
   pub later : before ≤ now
   pub packets : IsErrOf result (Packets placing.Device) → Failed before now
@@ -123,39 +125,39 @@ pub record HasStageCause {T : Type 0} (before now : ℕ) (result : Result T Publ
   pub free : IsErrOf result (Packets placing.Taken) → ⊥
   pub staging : (cause : StoreError) → IsErrOf result (OfBase cause) → ⊥
 
--- each packet has its path, on the disk, and what the store held is committed
+-- each packet is at its path on the disk, and the store's base is committed
 pub record ArePublished (packets : List Outgoing) (old new : StoreState) : Type 0 where
   pub committed : Commits old new
   pub named : Honestly new.disk (All (HasItsPath new.disk) packets)
   pub bytes : All SendsBytes packets
 
--- but for these paths, what was seen and on the disk is so still, and it is the same store
+-- It is the same store. Except at these paths, the files seen and the files on the disk are unchanged.
 pub record KeepsStoreBut (paths : List ℕ → Type 0) (old new : StoreState) : Type 0 where
   pub same : IsSameStore old new
   pub keeps : UnchangedExcept paths old.disk new.disk
 
--- one of the store's own paths, or one of these
+-- One of the store's own paths, or one of these.
 abbrev pub IsPublishedAt : StoreState → (List ℕ → Type 0) → List ℕ → Type 0
 IsPublishedAt s paths m = s.is_own m ⊎ paths m
 
--- a crash at any moment from the commit on leaves such files
+-- A crash at any moment from the commit on leaves such files.
 abbrev pub MayCommitWith : List Outgoing → StoreState → StoreState → Type 0
 MayCommitWith packets old new =
     Honestly new.disk ((first next : Base) → old.committed first → old.keeps next → LeavesOnly old.disk new.disk (CommitsWith old (IsOfOne packets) packets first next))
 
--- where a packet stopped it the base is committed, and where the base did each packet stays beside its path
+-- If a packet stopped it, the base is committed; if the base stopped it, each packet is in its staging file.
 abbrev pub StopsCommitting : List Outgoing → StoreState → StoreState → PublishError → Type 0
 StopsCommitting packets old new (Packets cause) = Commits old new
 StopsCommitting packets old new (Staging cause) = ⊥
 StopsCommitting packets old new (OfBase cause) = All (IsFilled new.disk) packets
 
--- whether all packets got their paths, as it is answered
+-- The result that reports whether all packets got their paths.
 abbrev pub IsNamedAs : Result Bool DiskError → Result (Unit {0}) PublishError → Type 0
 IsNamedAs (Ok true) result = result ≡ Ok tt
 IsNamedAs (Ok false) result = result ≡ Err (Packets placing.Taken)
 IsNamedAs (Err cause) result = result ≡ Err (Packets (placing_cause cause))
 
--- Why it failed from the commit on: that a path is taken is answered only where one was.
+-- Why it failed from the commit on. A used path is reported only if there was one.
 pub record HasCommitCause {T : Type 0} (packets : List Outgoing) (old new : StoreState) (before now : ℕ) (result : Result T PublishError) : Type 0 where
   pub causes : HasPublishCause old new before now result
   pub taken : Honestly new.disk (IsErrOf result (Packets placing.Taken) → All (IsFree old.disk) packets → ⊥)

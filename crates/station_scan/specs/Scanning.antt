@@ -30,53 +30,53 @@ use Rattle.station_scan.specs.Stops.{IsOfPlacing, as_scan, most}
 use Rattle.station_scan.specs.declared.scan_error.ScanError.{ScanError}
 use Rattle.station_scan.specs.declared.scan_error.ScanError.TheVariants.{Command}
 
--- one of the station's own paths, or that of a packet's name in the folder of packets, or the one beside it
+-- one of the station's own paths, or the path or staging path of a packet's name in the folder of packets
 abbrev pub IsTouched : (List ℕ → Type 0) → List ℕ → List ℕ → Type 0
 IsTouched Own outbound m = Own m ⊎ ((own : List ℕ) × IsOfName outbound own m)
 
--- Before the commit: what earlier scans left is on its way to its end, and then packets are written beside their paths. No packet of this
--- scan gets its path, and the base stands that was committed before.
+-- Before the commit: the leftover packets are being finished, then staging files are written. No packet of this scan gets its path, and the
+-- files hold the base that was committed before.
 pub record PreparesScan (outbound own : List ℕ) (Stays : Files → Type 0) (cursor : ℕ) (found : List Left) (files : List PacketFile) (before after : Files) : Type 0 where
   pub between : Files
   pub ends : FinishesEach cursor found before between
   pub writes : DifferAt (IsStagingOfPacket outbound own files) between after
   pub stands : Stays after
 
--- From the commit on, where these files were seen before the scan: what earlier scans left is at its end. The base stands that was
--- committed before, and nothing has the path of a packet of this scan; or the new one stands, and each packet, which is bytes, whole at one
--- of its two paths. What else was on the disk is as it was seen.
+-- From the commit on, where these files were seen before the scan: the leftover packets are finished. Either the files hold the base that
+-- was committed before, and no file has the path of a packet of this scan. Or they hold the new base, and each packet, which is bytes, is
+-- whole at one of its two paths. All else on the disk is as it was seen.
 pub record CommitsScan (Own : List ℕ → Type 0) (outbound own : List ℕ) (OnDisk : List ℕ → Type 0) (Stays Comes : Files → Type 0) (cursor : ℕ) (found : List Left) (files : List PacketFile) (seen after : Files) : Type 0 where
-  -- what was seen once they were at their end
+  -- the files once the leftover packets were finished
   pub between : Files
   pub ended : All (IsEnded cursor seen between) found
   pub staging_them : DifferAt (IsOfLeft found) seen between
   pub others : (m : List ℕ) → (IsOfThese Own outbound own files m → ⊥) → (OnDisk m × (IsOfLeft found m → ⊥)) ⊎ IsEndedAt cursor found between m → after m ≡ between m
   pub either : (Stays after × All (IsFreeAt outbound after) files) ⊎ (Comes after × All (StandsWhole outbound own after) files × All HasBytes files)
 
--- What earlier scans left was brought to its end, and then the packets of this one and the new base were put on the disk.
+-- The leftover packets were finished. Then the packets of this scan and the new base were put on the disk.
 pub record AreSentOut (is_true : Type 0) (Own : List ℕ → Type 0) (outbound own : List ℕ) (Comes : Files → Type 0) (cursor : ℕ) (found : List Left) (files : List PacketFile) (seen : Files) (new : DiskState) : Type 0 where
-  -- where the list was true, all that was left is among them
+  -- If the list was true, all leftover packets are among them.
   pub all : AreAllLeft is_true Own outbound own seen found
-  -- what was seen once they were at their end
+  -- The files once the leftover packets were finished.
   pub between : Files
   pub ended : All (IsEnded cursor seen between) found
   pub staging_them : DifferAt (IsOfLeft found) seen between
-  -- each packet of this scan is on the disk, at its path alone
+  -- Each packet of this scan is on the disk, at its path alone.
   pub packets : All (IsAtItsPath outbound new) files
   pub gone : All (IsStagingGone outbound own new.seen) files
-  -- the new base stands, as it is seen and whatever a crash leaves
+  -- The files hold the new base, as they are seen and after any crash.
   pub shown : Comes new.seen
   pub on_disk : (c : Files) → new.may_leave c → Comes c
   pub others : DifferAt (IsOfThese Own outbound own files) between new.seen
   pub bytes : All HasBytes files
 
--- a file has the path of a packet that an earlier scan left, or once these are at their end that of one of this scan
+-- A file has the path of a leftover packet. Or, once these are finished, a file has the path of a packet of this scan.
 abbrev pub IsTaken : (List ℕ → Type 0) → List ℕ → List ℕ → ℕ → List Left → List PacketFile → Files → Type 0
 IsTaken Own outbound own cursor found files seen =
     (AreFreeLeft Own outbound own seen → ⊥)
     ⊎ ((between : Files) × All (IsEnded cursor seen between) found × DifferAt (IsOfLeft found) seen between × AreTaken Own outbound own files between)
 
--- These packets and the new base are sent out: found is what earlier scans left.
+-- These packets and the new base are sent out. The leftover packets are `found`.
 pub record SendsOut (is_true failed : Type 0) (Own : List ℕ → Type 0) (outbound own : List ℕ) (Stays Comes : Files → Type 0) (cursor : ℕ) (files : List PacketFile) (old new : DiskState) (result : Result (Unit {0}) ScanError) : Type 0 where
   pub found : List Left
   pub each : All (IsLeftOf is_true Own outbound own) found
@@ -84,70 +84,69 @@ pub record SendsOut (is_true failed : Type 0) (Own : List ℕ → Type 0) (outbo
   pub crash : LeavesOnly old new (λ c. OneStepOn (PreparesScan outbound own Stays cursor found files) old c ⊎ CommitsScan Own outbound own (IsOnDisk old) Stays Comes cursor found files old.seen c)
   pub why : IfErr result (IsOfPlacing failed (IsTaken Own outbound own cursor found files old.seen) (most < cursor))
 
--- The packets that a scan of a store answered are sent out, once the store was looked through; where the scan stopped nothing has changed.
+-- The packets that a scan of a store returned are sent out, once the store was looked through. If the scan stopped, nothing has changed.
 abbrev pub IsPutOn : (List ℕ → Type 0) → List ℕ → List ℕ → (Files → Type 0) → Type 0 → StoreState → StoreState → Base → Result (List PacketFile) CommandError → Result (Unit {0}) ScanError → Type 0
 IsPutOn Own outbound own IsTrue failed old new base (Ok files) result =
     SendsOut (IsTrue old.disk.seen) failed Own outbound own (old.stands base) (old.stands (all_scanned base)) base.cursor files old.disk new.disk result
 IsPutOn Own outbound own IsTrue failed old new base (Err why) result = (result ≡ Err (Command why)) × ChangesNothing old.disk new.disk
 
--- What is so of a scan of a store that held this base, and had committed it.
+-- The result of a scan of a store that held this base, and had committed it.
 pub record ScansOnStore (stamp : Stamp) (Own : List ℕ → Type 0) (outbound : List ℕ) (IsTrue : Files → Type 0) (failed : Type 0) (old new : StoreState) (old_out new_out : Output) (file : LinkFile) (base : Base) (result : Result (Unit {0}) ScanError) : Type 0 where
   pub made : Result (List PacketFile) CommandError
   pub answer : ScansOn stamp (state_in file base) old_out new_out made
   pub put : IsPutOn Own outbound (dotted file.system) IsTrue failed old new base made result
   pub whole : IsErrOf result (Command (Store Damaged)) → ⊥
 
--- What a scan of this base does before the commit, or from there on. These files were seen once the station was open.
+-- The steps of a scan of this base before the commit, or from the commit on. These files were seen once the station was open.
 abbrev pub IsOnItsWay : Place → List ℕ → List ℕ → DiskState → Base → List Left → List PacketFile → Files → Files → Type 0
 IsOnItsWay place outbound own old base found files opened c =
     ((before : Files) × StandsOrWasLeft place old base before × PreparesScan outbound own (place.stands_for base) base.cursor found files before c)
     ⊎ CommitsScan place.is_own outbound own (IsOnDisk old) (place.stands_for base) (place.stands_for (all_scanned base)) base.cursor found files opened c
 
--- what a crash at any moment of it may leave: that, or what one might have left before
+-- What a crash during the scan may leave: a state of these steps, or one that a crash before could have left.
 abbrev pub MayLeave : Place → List ℕ → List ℕ → DiskState → Base → List Left → List PacketFile → Files → Files → Type 0
 MayLeave place outbound own old base found files opened c = old.may_leave c ⊎ IsOnItsWay place outbound own old base found files opened c
 
--- The packets that were made of this base, and the base with its cursor at the end, are put in place, once what earlier scans left is at
--- its end.
+-- Once the leftover packets are finished, the packets of this base get their paths. The base gets its cursor at the end.
 pub record IsPutIn (place : Place) (outbound own : List ℕ) (IsTrue : Files → Type 0) (failed : Type 0) (old new : DiskState) (base : Base) (files : List PacketFile) (result : Result (Unit {0}) ScanError) : Type 0 where
-  -- what was seen once the station was open
+  -- The files once the station was open.
   pub opened : Files
   pub elsewhere : (m : List ℕ) → (place.is_own m → ⊥) → opened m ≡ old.seen m
   pub found : List Left
   pub each : All (IsLeftOf (IsTrue opened) place.is_own outbound own) found
   pub sent : OnOk result (AreSentOut (IsTrue opened) place.is_own outbound own (place.stands_for (all_scanned base)) base.cursor found files opened new)
   pub crash : LeavesOnly old new (MayLeave place outbound own old base found files opened)
-  -- however it ended, the base that was read is on the disk, or the new one
+  -- However it ended, the base that was read is on the disk, or the new one.
   pub lasts : (c : Files) → new.may_leave c → IsOnItsWay place outbound own old base found files opened c
   pub why : IfErr result (IsOfPlacing failed (IsTaken place.is_own outbound own base.cursor found files opened) (most < base.cursor))
 
--- What the scan answered is put in place; where it stopped that is answered, and the files stand for the base from before.
+-- The packets that the scan returned get their paths. If the scan stopped, that is returned, and the files hold the base from before.
 abbrev pub IsPutAs : Place → List ℕ → List ℕ → (Files → Type 0) → Type 0 → DiskState → DiskState → Base → Result (List PacketFile) CommandError → Result (Unit {0}) ScanError → Type 0
 IsPutAs place outbound own IsTrue failed old new base (Ok files) result = IsPutIn place outbound own IsTrue failed old new base files result
 IsPutAs place outbound own IsTrue failed old new base (Err why) result = (result ≡ Err (Command why)) × StandsAsBefore place old new base
 
--- what is so of a scan of a station whose files stood for this base
+-- The result of a scan of a station that held this base.
 pub record IsScanOn (stamp : Stamp) (place : Place) (outbound : List ℕ) (IsTrue : Files → Type 0) (failed : Type 0) (old new : DiskState) (old_out new_out : Output) (file : LinkFile) (base : Base) (result : Result (Unit {0}) ScanError) : Type 0 where
   pub made : Result (List PacketFile) CommandError
   pub answer : ScansOn stamp (state_in file base) old_out new_out made
   pub put : IsPutAs place outbound (dotted file.system) IsTrue failed old new base made result
   pub whole : IsErrOf result (Command (Store Damaged)) → ⊥
 
--- the scan was run with this link file, for whatever base the files stood
+-- The scan was run with this link file, for each base that the files held.
 pub record IsScanRun (stamp : Stamp) (place : Place) (outbound : List ℕ) (IsTrue : Files → Type 0) (Reads : LinkFile → Type 0) (failed : Type 0) (old new : DiskState) (old_out new_out : Output) (result : Result (Unit {0}) ScanError) : Type 0 where
   pub file : LinkFile
   pub read : Reads file
   pub runs : (base : Base) → place.stands_for base old.seen → IsScanOn stamp place outbound IsTrue failed old new old_out new_out file base result
   pub cause : IsErrOf result (Command (Store Device)) → failed
 
--- the scan was not run: the station is shut, or the program stopped it
+-- The scan was not run: the station is shut, or the program stopped it.
 pub record IsScanNotRun (place : Place) (Shut Stops : Fault → Type 0) (old new : DiskState) (old_out new_out : Output) (result : Result (Unit {0}) ScanError) : Type 0 where
   pub stopped : Result (Unit {0}) CommandError
   pub is : result ≡ as_scan stopped
   pub not_run : IsNotRun place Shut old new old_out new_out stopped ⊎ IsStopped place Stops old new old_out new_out stopped
 
--- What comes of a scan of a station into this folder of packets, of which it was listed so what earlier scans left. It is not run where the
--- station is shut, as is said of the fault, or where the program stops it.
+-- A scan of a station into this folder of packets, with this list of leftover packets. It is not run if the station is shut, as its fault
+-- says, or if the program stops it.
 abbrev pub ScansIn : Stamp → Place → List ℕ → (Files → Type 0) → (LinkFile → Type 0) → (Fault → Type 0) → (Fault → Type 0) → Type 0 → DiskState → DiskState → Output → Output → Result (Unit {0}) ScanError → Type 0
 ScansIn stamp place outbound IsTrue Reads Shut Stops failed old new old_out new_out result =
     IsScanRun stamp place outbound IsTrue Reads failed old new old_out new_out result ⊎ IsScanNotRun place Shut Stops old new old_out new_out result

@@ -8,68 +8,68 @@ use Rattle.disk_atomic.specs.declared.outgoing.Outgoing.{Outgoing}
 use Rattle.station.specs.Paths.{staging_path}
 use Rattle.station_scan.specs.declared.sending.TwoPaths.{TwoPaths}
 
--- a byte of a packet's name: no slash, and no tilde, which stands in what is beside a name
+-- A byte of a packet's name: no slash, and no tilde, which only staging paths contain.
 pub record IsNameByte (b : ℕ) : Type 0 where
   pub no_slash : b ≢ 47
   pub no_tilde : b ≢ 126
 
--- the path that a packet of this name is to have in the folder, and the one beside it, at which it stands before
+-- The path of a packet of this name in the folder, and its staging path.
 abbrev pub two_paths : List ℕ → List ℕ → List ℕ → TwoPaths
 two_paths folder own name = record { path = folder ++ name; staging = staging_path (folder ++ name) own }
 
--- a packet's name: it is not empty
+-- A packet's name: it is not empty.
 pub record IsNamed (sent : PacketFile) : Type 0 where
   pub some : sent.name ≢ []
   pub plain : All IsNameByte sent.name
 
--- those of a packet's file
+-- The two paths of a packet's file.
 abbrev pub file_paths : List ℕ → List ℕ → PacketFile → TwoPaths
 file_paths folder own sent = two_paths folder own sent.name
 
--- they have two paths that are not the same
+-- Their paths differ.
 abbrev pub HaveOtherPaths : TwoPaths → TwoPaths → Type 0
 HaveOtherPaths one other = one.path ≢ other.path
 
--- neither path is one of these, which are of the station's own files
+-- Neither path belongs to the station's files.
 pub record IsOffOwn (Own : List ℕ → Type 0) (two : TwoPaths) : Type 0 where
   pub path : Own two.path → ⊥
   pub staging : Own two.staging → ⊥
 
--- the packet that goes to these paths is this file
+-- The packet that goes to these paths is this file.
 pub record IsSent (sent : PacketFile) (two : TwoPaths) (packet : Outgoing) : Type 0 where
   pub path : packet.path.now ≡ two.path
   pub staging : packet.staging.now ≡ two.staging
   pub file : packet.file.now ≡ sent
 
--- so are the packets these files, one by one
+-- These packets are these files, one by one.
 pub record AreSent (files : List PacketFile) (paths : List TwoPaths) (packets : List Outgoing) : Type 0 where
   pub as_many : length packets ≡ length files
   pub each : (k : ℕ) (f : PacketFile) (t : TwoPaths) (p : Outgoing) → k < length files → IsSent (get_or files k f) (get_or paths k t) (get_or packets k p)
 
--- the packet is on the disk, at its path, with just its bytes
+-- The packet is on the disk, at its path, with just its bytes.
 abbrev pub IsAtItsPath : List ℕ → DiskState → PacketFile → Type 0
 IsAtItsPath folder disk sent = HasOnDisk disk (folder ++ sent.name) sent.bytes
 
--- what it has are bytes
+-- Its content is bytes.
 abbrev pub HasBytes : PacketFile → Type 0
 HasBytes sent = AreBytes sent.bytes
 
--- it stands whole at one of its two paths
+-- It is whole at one of its two paths.
 abbrev pub StandsWhole : List ℕ → List ℕ → Files → PacketFile → Type 0
 StandsWhole folder own c sent = (c (folder ++ sent.name) ≡ Some sent.bytes) ⊎ (c (staging_path (folder ++ sent.name) own) ≡ Some sent.bytes)
 
--- nothing has its path
+-- Nothing has its path.
 abbrev pub IsFreeAt : List ℕ → Files → PacketFile → Type 0
 IsFreeAt folder c sent = c (folder ++ sent.name) ≡ None
 
--- nothing stands beside its path
+-- It has no staging file.
 abbrev pub IsStagingGone : List ℕ → List ℕ → Files → PacketFile → Type 0
 IsStagingGone folder own c sent = c (staging_path (folder ++ sent.name) own) ≡ None
 
--- one of the two paths of a packet, or that which is tried: it stands beside no name
+-- One of the two paths of a packet, or the trial path, which is no packet's.
 abbrev pub IsOfPacket : List ℕ → List ℕ → List PacketFile → List ℕ → Type 0
 IsOfPacket folder own files m = ((sent : PacketFile) × Contains files sent × All IsNameByte sent.name × ((m ≡ staging_path (folder ++ sent.name) own) ⊎ (m ≡ folder ++ sent.name))) ⊎ (m ≡ staging_path folder own)
 
--- the path beside that of a packet, or that which is tried
+-- The staging path of a packet, or the trial path.
 abbrev pub IsStagingOfPacket : List ℕ → List ℕ → List PacketFile → List ℕ → Type 0
 IsStagingOfPacket folder own files m = ((sent : PacketFile) × Contains files sent × All IsNameByte sent.name × (m ≡ staging_path (folder ++ sent.name) own)) ⊎ (m ≡ staging_path folder own)

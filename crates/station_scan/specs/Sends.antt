@@ -20,38 +20,38 @@ use Rattle.station_scan.specs.declared.publish_error.PublishError.TheVariants.{P
 abbrev pub IsOfThese : (List ℕ → Type 0) → List ℕ → List ℕ → List PacketFile → List ℕ → Type 0
 IsOfThese Own outbound own files m = Own m ⊎ IsOfPacket outbound own files m
 
--- before the commit: packets are written beside their paths, and the base that was committed stands
+-- before the commit: staging files are written, and the files hold the committed base
 pub record WritesBeside (old : StoreState) (outbound own : List ℕ) (files : List PacketFile) (first : Base) (c : Files) : Type 0 where
   pub writes : OneStepOn (DifferAt (IsStagingOfPacket outbound own files)) old.disk c
   pub stands : old.stands first c
 
--- From the commit on: the base that was committed before, and nothing has the path of a packet; or the one that was held, and each packet,
--- which is bytes, whole at one of its two paths. What else was on the disk is as it was seen.
+-- From the commit on. Either the files hold the base that was committed before, and no file has the path of a packet. Or they hold the
+-- store's new base, and each packet, which is bytes, is whole at one of its two paths. All else on the disk is as it was seen.
 pub record CommitsThese (old : StoreState) (outbound own : List ℕ) (files : List PacketFile) (first next : Base) (c : Files) : Type 0 where
   pub others : (m : List ℕ) → (IsOfThese old.is_own outbound own files m → ⊥) → IsOnDisk old.disk m → c m ≡ old.disk.seen m
   pub either : (old.stands first c × All (IsFreeAt outbound c) files) ⊎ (old.stands next c × All (StandsWhole outbound own c) files × All HasBytes files)
 
--- what a crash meanwhile may leave
+-- What a crash at any time during the steps may leave.
 abbrev pub SendsThese : StoreState → List ℕ → List ℕ → List PacketFile → Base → Base → Files → Type 0
 SendsThese old outbound own files first next c = WritesBeside old outbound own files first c ⊎ CommitsThese old outbound own files first next c
 
--- a crash at any moment leaves such files
+-- A crash at any moment leaves such files.
 abbrev pub MaySendThese : List ℕ → List ℕ → List PacketFile → StoreState → StoreState → Type 0
 MaySendThese outbound own files old new =
     Honestly new.disk ((first next : Base) → old.committed first → old.keeps next → LeavesOnly old.disk new.disk (SendsThese old outbound own files first next))
 
--- each packet is on the disk at its path alone, and what the store held is committed
+-- Each packet is on the disk at its path alone, and what the store held is committed.
 pub record AreSentOn (outbound own : List ℕ) (files : List PacketFile) (old new : StoreState) : Type 0 where
   pub committed : Commits old new
   pub packets : Honestly new.disk (All (IsAtItsPath outbound new.disk) files)
   pub gone : Honestly new.disk (All (IsStagingGone outbound own new.disk.seen) files)
   pub bytes : All HasBytes files
 
--- where there are packets it was tried whether a file of the folder gets a second path, before anything but that was done there
+-- If there are packets, the first step in the folder was to try whether a file gets a second path.
 abbrev pub WasTriedFor : {D : Type 0} → (D → DiskState) → (List ℕ → Type 0) → List ℕ → List ℕ → List PacketFile → DiskState → Type 0
 WasTriedFor state Own outbound own files old = (length files ≡ 0) ⊎ WasTried state (IsOfNameOff Own outbound own) (staging_path outbound own) old
 
--- Why the packets were not sent: that a path is taken is answered only where one was.
+-- Why the packets were not sent. A used path is reported only if there was one.
 pub record HasSendCause {T : Type 0} (Own : List ℕ → Type 0) (outbound own : List ℕ) (files : List PacketFile) (old new : StoreState) (before now : ℕ) (result : Result T PublishError) : Type 0 where
   pub causes : HasPublishCause old new before now result
   pub taken : Honestly new.disk (IsErrOf result (Packets placing.Taken) → AreTaken Own outbound own files old.disk.seen)

@@ -10,23 +10,23 @@ use Rattle.station_scan.specs.declared.scan_error.ScanError.TheVariants.{Command
 use Rattle.station_scan.specs.declared.publish_error.PublishError.{PublishError}
 use Rattle.station_scan.specs.declared.publish_error.PublishError.TheVariants.{Base, Staging, Packets}
 
--- why packets and a base were not put on the disk, as why a scan stopped
+-- An error of publishing as an error of a scan.
 abbrev pub stop_of : PublishError → ScanError
 stop_of (Packets cause) = Placing cause
 stop_of (Staging cause) = Staying cause
 stop_of (Base cause) = Command (Store cause)
 
--- the base was not committed
+-- The base was not committed.
 abbrev pub IsOfBase : PublishError → Type 0
 IsOfBase (Base cause) = Unit {0}
 IsOfBase _ = ⊥
 
--- how many scanned messages the number in a packet's name can have, as it is read again: it has four bytes
+-- How many scanned messages the number in a packet's name can have, as it is read again: it has four bytes.
 abbrev pub most : ℕ
 most = 4294967295
 
--- Its packets were not put in place, or its base was not committed: a device failed, there was no memory, a path is taken, too many
--- messages were scanned before, or the store has too many bytes.
+-- Its packets did not get their paths, or its base was not committed. The reasons: a device failed, there was no memory, a path is in use,
+-- too many messages were scanned before, or the store has too many bytes.
 abbrev pub IsOfPlacing : Type 0 → Type 0 → Type 0 → ScanError → Type 0
 IsOfPlacing failed taken far (Command (Met fault)) = ⊥
 IsOfPlacing failed taken far (Command (Store store.Device)) = failed
@@ -39,12 +39,12 @@ IsOfPlacing failed taken far (Staying disk.Device) = failed
 IsOfPlacing failed taken far (Staying disk.Memory) = Unit {0}
 IsOfPlacing failed taken far TooFar = far
 
--- how a scan ended, where it was published so
+-- the result of publishing as the result of a scan
 abbrev pub scan_done : Result (Unit {0}) PublishError → Result (Unit {0}) ScanError
 scan_done (Ok done) = Ok done
 scan_done (Err why) = Err (stop_of why)
 
--- what a command answered, as a scan answers it
+-- the result of a command as the result of a scan
 abbrev pub as_scan : Result (Unit {0}) CommandError → Result (Unit {0}) ScanError
 as_scan (Ok done) = Ok done
 as_scan (Err why) = Err (Command why)

@@ -19,7 +19,7 @@ pub(crate) struct LeftPaths {
     pub before: u32,
 }
 
-// Whether none of these has its path.
+// Whether each of these has another path.
 fn is_another(one: &LeftPaths, others: &[LeftPaths]) -> bool
     ensures other { result ≡ true → All (HaveOtherLeft one.now) others.now }
     ensures same { result ≡ false → (l : LeftPaths) × Contains others.now l × (l.two.path ≡ one.now.two.path) }
@@ -87,7 +87,7 @@ fn add_found<D: Disk, O: OwnPaths>(
     Ok(())
 }
 
-/// Those of the listed packets whose staging files exist, once each.
+/// The listed packets that have a staging file, once each.
 pub(crate) fn find_left<D: Disk, O: OwnPaths>(
     alloc: Global,
     disk: &mut D,

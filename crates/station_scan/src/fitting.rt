@@ -54,7 +54,7 @@ pub(crate) fn differ(one: &[u8], other: &[u8]) -> bool
     one != other
 }
 
-// Whether the path is none of these.
+// Whether the path differs from each of these.
 fn is_new(one: &TwoPaths, others: &[TwoPaths]) -> bool
     ensures yes { result ≡ true → All (HaveOtherPaths one.now) others.now }
     ensures no { result ≡ false → All (HaveOtherPaths one.now) others.now → ⊥ }

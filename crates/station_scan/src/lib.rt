@@ -1,17 +1,17 @@
-//! The command `scan` on a station, whatever its base is kept in. It names or removes what earlier scans left. Then
-//! it writes its packets and its base together, whatever a crash leaves.
+//! The command `scan` on a station, for every kind of base. It names or removes the packets that earlier scans left.
+//! Then it writes its packets and its base together, so that a crash leaves both or neither.
 //!
 //! The contract for the program: the scan holds the locks of the station. It uses the link file as the disk shows it,
 //! and the base that the station's files hold. If it ends well, nothing of earlier scans is left. Each packet of the
 //! scan is at its path, with just its bytes, and each later crash leaves the base with the cursor at its end. A crash
-//! during the scan leaves the base from before and no packet of this scan at its path, or the new base and each
-//! packet whole.
+//! during the scan leaves the base from before and no packet of this scan at its path, or the new base and each packet
+//! whole.
 //!
-//! Modules in reading order: `sending` (the packets, each with its two paths), `fitting` (whether nothing else uses
-//! these paths), `listing` (lists what earlier scans left), `finding` and `finishing` (that is named or removed),
-//! `publish_error` (errors), `staging` (packets before a commit), `beneath` (work on the disk of a store), `publishing`
-//! (packets and commit), `scan_error`, `outgoing` (earlier packets, then these), `reported` (a store that reports progress), `taking` (the
-//! packets of the waiting messages), `putting` and `scanning`.
+//! Begin with `scanning` (the command), then `putting` and `outgoing` (earlier packets, then these) and `publishing`
+//! (packets and commit). They use `sending` (the two paths of each packet), `fitting` (whether nothing else uses these
+//! paths) and `staging` (packets before a commit). `listing`, `finding` and `finishing` list and end what earlier scans
+//! left. `beneath` works on the disk of a store, `taking` makes the packets of waiting messages, and `reported` reports
+//! progress. `publish_error` and `scan_error` are the errors.
 #![tactic(auto)]
 
 mod beneath;

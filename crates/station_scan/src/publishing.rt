@@ -14,10 +14,10 @@ use disk_io::{Disk, DiskError};
 use station::LendStation;
 use std::alloc::Global;
 
-/// Writes packets and commits a store: each packet goes into its staging file, then the store commits, then each
-/// packet gets its path. Nothing is committed if a path is in use before the commit, a packet cannot be written, or a
-/// file of the folder cannot get the tried second path; then the staging files are removed. If a path becomes used in
-/// between, the packet keeps its staging file. No path of a packet may belong to the store.
+/// Writes packets and commits a store. Each packet goes into its staging file, then the store commits, then each packet
+/// gets its path. Nothing is committed if a path is in use before the commit, a packet cannot be written, or the trial
+/// path cannot become a second path of a file. Then the staging files are removed. If a path becomes used in between,
+/// the packet keeps its staging file. No path of a packet may belong to the store.
 pub fn publish<'a, D: Disk, P: LendStation<'a, D>>(
     alloc: Global,
     store: P::Kept,
@@ -34,7 +34,7 @@ pub fn publish<'a, D: Disk, P: LendStation<'a, D>>(
     // If files of the folder can get no second path, nothing is committed.
     ensures tried { HoldsAsBefore (P.Kept.state store) (P.Kept.state result.store) ⊎ IsTriedWith D.state packets.now trial.now (P.Kept.state store).disk }
 
-    // A crash at any time leaves no commit and none of the packets at its path, or the commit and each packet whole.
+    // A crash at any time leaves no commit and no packet at its path, or the commit and each packet whole.
     ensures any_moment { MayPublish packets.now trial.now (P.Kept.state store) (P.Kept.state result.store) }
     ensures keeps { KeepsStoreBut (IsPublishedAt (P.Kept.state store) (IsGoingAt packets.now trial.now)) (P.Kept.state store) (P.Kept.state result.store) }
     ensures cause { HasPublishCause (P.Kept.state store) (P.Kept.state result.store) (P.Kept.failures store) (P.Kept.failures result.store) result.done }

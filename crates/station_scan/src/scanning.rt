@@ -22,8 +22,8 @@ use model_steps::Stamp;
 use station::{BeforeCommand, FileLock, LendStation, Locks, MessageProgress, OpenStation, Opened};
 use std::alloc::Global;
 
-/// A scan: its stamp, the folder of packets (a path that ends in a slash, or an empty one), a list of what earlier
-/// scans left there, and a progress report.
+/// A scan: its stamp, its folder of packets, a list of what earlier scans left there, and a progress report. The folder
+/// is a path that ends in a slash, or is empty.
 #[derive(Drop)]
 pub struct Scan<'s, G, T> {
     pub stamp: Stamp,
@@ -39,9 +39,9 @@ pub struct Scanned<'a, D> {
     pub done: Result<(), ScanError<'a>>,
 }
 
-/// `scan --at STAMP LINKS BASE DIR`: prints the lines of the packets of the waiting messages. It names or removes
-/// what earlier scans left in the folder of packets, writes the packets there, and moves the cursor to the end of the
-/// base. No path of a packet may belong to the station.
+/// `scan --at STAMP LINKS BASE DIR`: prints the lines of the packets of the waiting messages. It names or removes what
+/// earlier scans left in the folder of packets. Then it writes the packets there, and moves the cursor to the end of
+/// the base. No path of a packet may belong to the station.
 pub fn run_scan<
     'a,
     's,

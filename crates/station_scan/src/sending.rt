@@ -15,7 +15,7 @@ pub struct TwoPaths {
     pub staging: Items<u8>,
 }
 
-/// The packets of a scan and their folder, whose path ends in a slash or is empty. The own name is in their staging
+/// The packets of a scan and their folder: a path that ends in a slash or is empty. The own name is in their staging
 /// paths.
 #[derive(Clone, Copy)]
 pub(crate) struct Sending<'p> {

@@ -1,4 +1,4 @@
-//! Changes of a base folder, and what is found in it.
+//! Changes of a base folder, and the base found in it.
 ghost use Rattle.std.specs.Prelude.{◌≡◌, IfOk};
 ghost use Rattle.disk_io.specs.Disk.{Honestly};
 ghost use Rattle.base_log.specs.AtRest.{IsAtRest, IsStaged};

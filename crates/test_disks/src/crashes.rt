@@ -1,4 +1,4 @@
-//! Crashes before the calls of some commits, with what was not synced torn in several ways. After each the folder is
+//! Crashes before the calls of some commits, with unsynced writes torn in several ways. After each the folder is
 //! opened, and commits go on, up to the next crash.
 ghost use Rattle.std.specs.Prelude.{◌≡◌};
 ghost use Rattle.disk_io.specs.Disk.{Honestly};
@@ -62,7 +62,7 @@ impl Expected {
         }
     }
 
-    // Compares what was found with what may be there. From then on it is that.
+    // Compares the found base with those expected. From then on it is the expected one.
     fn find(&mut self, alloc: Global, found: Base) -> Result<(), AllocError> {
         let before = found.is(&self.before);
         let after = found.is(&self.after);
@@ -143,7 +143,7 @@ fn look(alloc: Global, disk: &mut MemoryDisk, expected: &mut Expected) -> Result
     Ok(expected.find(alloc, found)?)
 }
 
-// What is found after a crash behind so many calls of a run, and after more crashes, in openings and in further runs.
+// The base found after a crash after so many calls of a run, and after more crashes, in openings and in further runs.
 fn found_after(alloc: Global, seed: u64, way: u64, calls: u64) -> Result<Expected, FolderError> {
     let mut disk = MemoryDisk::new(alloc, tears(alloc, way)?, calls);
     let mut expected = Expected::new(alloc);

@@ -34,7 +34,7 @@ fn found<D: Disk>(alloc: Global, disk: &mut D, path: &[u8]) -> Result<Option<Vec
     Ok(Some(read_file(alloc, disk, path)?))
 }
 
-// A disk whose changes come so far.
+// A disk that tears changes at this length.
 fn torn(alloc: Global, bytes: usize, filler: Option<u8>) -> Result<MemoryDisk, AllocError> {
     let mut tears = Vec::new(alloc);
     tears.push(Tear { bytes, filler })?;

@@ -1,8 +1,8 @@
-//! Tests of what keeps files on a disk.
+//! Tests of the disks, and of what writes files on them.
 //!
-//! On a disk in memory: a base folder and a base file with a crash before each call of a command, and with writes that
-//! were not synced torn in several ways. On a file system that fails at each call: files read and made whole. On files of
-//! the system: the disk of the program, and a base folder on it.
+//! On a disk in memory a command crashes before each of its calls, with a base folder and with a base file. Writes that
+//! were not synced are torn in several ways. On a file system that fails at each call, files are read and made whole.
+//! On files of the system, the disk of the program and a base folder on it are tested. Begin with `crashes`.
 #![tactic(auto)]
 
 #[cfg(test)]

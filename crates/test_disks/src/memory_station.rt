@@ -8,7 +8,7 @@ use station_bases::FileStation;
 use std::alloc::Global;
 use std::hash::{BuildHasherDefault, FoldHasher};
 
-/// The station, whose base is a file.
+/// The station, with a base file.
 pub fn station() -> FileStation<'static, BuildHasherDefault<FoldHasher>, Unwatched> {
     FileStation {
         links: "links",

@@ -9,7 +9,7 @@ use std::test::Fail;
 /// The base folder of the test.
 const FOLDER: &[u8] = b"disk_tests_base/";
 
-/// Nobody's mark, and that of the folder's owner.
+/// The mark of a folder without an owner, and that of the folder's owner.
 const UNCLAIMED: FolderIdentity = FolderIdentity {
     owner: 0,
     first: 0,

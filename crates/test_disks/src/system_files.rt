@@ -10,7 +10,7 @@ use std::alloc::Global;
 use std::cell::RefCell;
 use std::test::Fail;
 
-/// What is written has 10 bytes, and each write takes 4.
+/// The new file has 10 bytes, and each write takes 4.
 const NEW: &[u8] = b"new of ten";
 
 /// More calls than any of these functions makes.
@@ -19,7 +19,7 @@ const CALLS: u64 = 16;
 /// The staging file of the system 1:10/2.
 const BESIDE_PACKET: &str = "a.pkt.~1.10.2~.new";
 
-/// What is to be written there by that system.
+/// The new file at this path, by that system.
 fn new_at(path: &str) -> NewFile<'_> {
     NewFile {
         path,
@@ -29,7 +29,7 @@ fn new_at(path: &str) -> NewFile<'_> {
     }
 }
 
-/// A state whose calls from one number up to another fail, with these files.
+/// A state with these files. Its calls from one number up to another fail.
 fn state(
     alloc: Global,
     fails: (u64, u64),
@@ -98,7 +98,7 @@ fn reads_files(rt: HostRuntime) -> Result<(), Fail> {
     Ok(())
 }
 
-/// A packet whose name is in use is a fault, and the file with that name stays.
+/// A packet with a name in use is a fault, and the file with that name stays.
 #[test]
 fn never_replaces_a_packet(rt: HostRuntime) -> Result<(), Fail> {
     let alloc = rt.alloc();
@@ -152,7 +152,7 @@ fn removes_what_a_power_cut_left(rt: HostRuntime) -> Result<(), Fail> {
     Ok(())
 }
 
-/// Makes a packet on a disk whose calls from one number up to another fail.
+/// Makes a packet on a disk. Its calls from one number up to another fail.
 fn created(
     alloc: Global,
     fails: (u64, u64),
@@ -195,7 +195,7 @@ fn flushed_at(state: &RefCell<State>) -> Result<Option<u64>, Fail> {
     Ok(state.flushed_at)
 }
 
-/// A folder is flushed where that is asked for.
+/// A folder is flushed if that is asked for.
 #[test]
 fn folders_are_flushed(rt: HostRuntime) -> Result<(), Fail> {
     let alloc = rt.alloc();
