@@ -13,39 +13,39 @@ use Rattle.base_folder.specs.OpenError.{IsWrong}
 use Rattle.base_folder.specs.declared.open_error.OpenError.{OpenError}
 use Rattle.base_folder.specs.declared.open_error.OpenError.TheVariants as unread
 
--- each base that was held, and does not know the message, is held with it at its end
+-- Each base that was held, and does not know the message, is held with it at its end.
 abbrev pub HoldsMore : (ℕ → ℕ → List ℕ → ℕ) → BaseBytes → BaseBytes → Filed → Type 0
 HoldsMore keyed old new m = (base : Base) → HoldsBase keyed old base → is_known base.messages (key_of m) ≡ false → HoldsBase keyed new (with_message base m)
 
--- so many of the messages are held, from the front, and this cursor
+-- So many of the messages are held, from the front, and this cursor.
 abbrev pub HoldsFront : (ℕ → ℕ → List ℕ → ℕ) → BaseBytes → List Filed → ℕ → ℕ → Type 0
 HoldsFront keyed bytes messages n cursor = HoldsBase keyed bytes (record { messages = take n messages; cursor = cursor })
 
--- the files stand for the base from before or for the other one, and nothing outside the folder has changed
+-- The files hold the base from before or the other one, and nothing outside the folder has changed.
 abbrev pub StandsForOneOf : (ℕ → ℕ → List ℕ → ℕ) → List ℕ → DiskState → Base → Base → Files → Type 0
 StandsForOneOf keyed path old first next c = StandsForBaseAlone keyed path old first c ⊎ StandsForBaseAlone keyed path old next c
 
--- or it is what a crash might have left before
+-- Or it is what a crash might have left before.
 abbrev pub StandsForOneOfOrWasLeft : (ℕ → ℕ → List ℕ → ℕ) → List ℕ → DiskState → Base → Base → Files → Type 0
 StandsForOneOfOrWasLeft keyed path old first next c = StandsForOneOf keyed path old first next c ⊎ old.may_leave c
 
--- a base without messages
+-- A base without messages.
 abbrev pub no_messages : Base
 no_messages = record { messages = []; cursor = 0 }
 
--- the files stand for this base, and each crash leaves files that do
+-- The files hold this base, and so they do after any crash.
 pub record IsKept (keyed : ℕ → ℕ → List ℕ → ℕ) (path : List ℕ) (disk : DiskState) (base : Base) : Type 0 where
   pub seen : StandsForBase keyed path base disk.seen
   pub stays : (c : Files) → disk.may_leave c → StandsForBase keyed path base c
 
--- a fault of the store, as one of the folder
+-- A fault of the store, as one of the folder.
 abbrev pub unfilled_cause : StoreError → OpenError
 unfilled_cause error.Memory = unread.Memory
 unfilled_cause error.Device = unread.Device
 unfilled_cause error.Damaged = unread.Memory
 unfilled_cause error.TooMany = unread.Wrong fault.TooMany
 
--- four bytes do not count what it is to be filled with, or something is wrong with it
+-- Four bytes do not count what it is to be filled with, or something is wrong with it.
 abbrev pub IsUnfilled : Bool → List ℕ → Files → OpenError → Type 0
 IsUnfilled strange path files (unread.Wrong fault.TooMany) = Unit {0}
 IsUnfilled strange path files why = IsWrong strange path files why

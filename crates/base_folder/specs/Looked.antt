@@ -1,4 +1,4 @@
--- What was read of a base folder.
+-- The contents of a base folder that was read.
 use Rattle.std.specs.Prelude.{◌≡◌, ◌≤◌, ◌<◌, ◌/◌, ℕ, List, drop, length, take}
 use Rattle.base_file.specs.Base.{Base}
 use Rattle.disk_io.specs.Disk.{Files, bytes_in}
@@ -10,7 +10,7 @@ use Rattle.base_store.specs.Keys.{place_at}
 use Rattle.base_folder_store.specs.Held.{HoldsBase}
 use Rattle.base_folder.specs.declared.snapshot.FolderSnapshot.{FolderSnapshot}
 
--- it is what these bytes are, of the messages at least those from this number on
+-- It is what these bytes are, of the messages at least those from this number on.
 pub record IsSeenFrom (first : ℕ) (bytes : BaseBytes) (seen : FolderSnapshot) : Type 0 where
   pub begins : first < length bytes.keys / 16 → seen.before ≤ place_at bytes.keys first
   pub within : seen.before ≤ length bytes.messages
@@ -20,18 +20,18 @@ pub record IsSeenFrom (first : ℕ) (bytes : BaseBytes) (seen : FolderSnapshot) 
   pub cursor : seen.cursor ≡ bytes.cursor
   pub mark : seen.mark ≡ bytes.mark
 
--- these bytes hold this base
+-- These bytes hold this base.
 pub record SeesBase (keyed : ℕ → ℕ → List ℕ → ℕ) (first : ℕ) (base : Base) (seen : FolderSnapshot) : Type 0 where
   pub bytes : BaseBytes
   pub read : IsSeenFrom first bytes seen
   pub holds : HoldsBase keyed bytes base
 
--- the logs that were read before the files and after them are the log of this folder
+-- The logs that were read before the files and after them are the log of this folder.
 pub record HasLogs (path : List ℕ) (files : Files) (seen : FolderSnapshot) : Type 0 where
   pub log : seen.log.items ≡ bytes_in (files (log_of path))
   pub reread : seen.reread.items ≡ bytes_in (files (log_of path))
 
--- a log goes on from what it was: it begins with the same records
+-- A log goes on from what it was: it begins with the same records.
 pub record GoesOn (before after : List ℕ) : Type 0 where
   pub first : End
   pub read : ReadsAll before first

@@ -11,17 +11,17 @@ use Rattle.base_folder.specs.Wrong.{IsCutShort, IsNoFolder}
 use Rattle.base_folder.specs.declared.open_error.OpenError.{OpenError}
 use Rattle.base_folder.specs.declared.open_error.OpenError.TheVariants as unread
 
--- a disk's fault
+-- A disk's fault.
 abbrev pub unread_cause : DiskError → OpenError
 unread_cause disk.Memory = unread.Memory
 unread_cause disk.Device = unread.Device
 
--- a failure of the device is answered only where its count of failures rose
+-- A failure of the device is answered only where its count of failures rose.
 pub record HasUnreadCause {T : Type 0} (before now : ℕ) (result : Result T OpenError) : Type 0 where
   pub later : before ≤ now
   pub failed : IsErrOf result unread.Device → Failed before now
 
--- how it is reported of the base with this path
+-- How it is reported of the base with this path.
 abbrev pub IsToldAs : List ℕ → OpenError → Fault → Type 0
 IsToldAs path unread.Memory told = told ≡ fault.OutOfMemory
 IsToldAs path unread.Device (fault.CannotUse shown) = shown.now ≡ path
@@ -31,7 +31,7 @@ IsToldAs path unread.Raced _ = ⊥
 IsToldAs path (unread.Wrong why) told = told ≡ fault.Base why
 IsToldAs path (unread.NotOwner address) told = told ≡ fault.NotOwner address
 
--- the files are those of no base folder, or of one that is cut short, if that is why
+-- The files are those of no base folder, or of one that is cut short, if that is why.
 abbrev pub IsWrong : Bool → List ℕ → Files → OpenError → Type 0
 IsWrong strange path files (unread.Wrong base.NotBase) = IsNoFolder strange path files
 IsWrong strange path files (unread.Wrong (base.Truncated n)) = IsCutShort strange path files n

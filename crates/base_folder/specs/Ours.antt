@@ -1,4 +1,4 @@
--- Whose a base folder is: an address as a number.
+-- The owner of a base folder: an address as a number.
 use Rattle.std.specs.Prelude.{◌≡◌, ◌≢◌, ◌⊎◌, ℕ, ◌+◌, ◌*◌, ◌/◌, ◌%◌, Bool, List, length}
 use Rattle.echo_addr.specs.declared.address.Address.{Address}
 use Rattle.disk_io.specs.Disk.{DiskState, Files, bytes_in}
@@ -12,26 +12,26 @@ use Rattle.base_folder.specs.Wrong.{IsToldBy}
 use Rattle.base_folder.specs.declared.open_error.OpenError.{OpenError}
 use Rattle.base_folder.specs.declared.open_error.OpenError.TheVariants as unread
 
--- sixteen bits each of zone, net and node
+-- Sixteen bits each of zone, net and node.
 abbrev pub number_of : Address → ℕ
 number_of own = own.zone * 4294967296 + own.net * 65536 + own.node
 
--- the address that such a number is
+-- The address that such a number is.
 abbrev pub address_of : ℕ → Address
 address_of number = record { zone = number / 4294967296 % 65536; net = number / 65536 % 65536; node = number % 65536 }
 
--- it was this system's, or nobody's, and is this system's
+-- It belonged to this system or to no system, and belongs to this system.
 pub record IsOurs (own : Address) (old new : Folder) : Type 0 where
   pub owner : new.told.mark.owner ≡ number_of own
   pub kept : old.told.mark.owner ≢ 0 → new ≡ old
 
--- this mark is another system's
+-- This mark is another system's.
 pub record IsMarkOfOther (own : Address) (mark : FolderIdentity) (address : Address) : Type 0 where
   pub claimed : mark.owner ≢ 0
   pub other : mark.owner ≢ number_of own
   pub told : address ≡ address_of mark.owner
 
--- the digests are by the same key
+-- The digests are by the same key.
 pub record SameKey (old new : FolderIdentity) : Type 0 where
   pub first : new.first ≡ old.first
   pub second : new.second ≡ old.second
@@ -41,19 +41,19 @@ abbrev pub HasGivenKey : Address → ℕ → ℕ → Folder → Type 0
 HasGivenKey own first second folder = length folder.keys.items ≡ 0
     → (folder.told.mark ≡ record { owner = number_of own; first = first; second = second }) ⊎ (folder.end.told.mark.owner ≡ number_of own)
 
--- the log tells that the folder is that of the system with this address, which is another one
+-- The log says that the folder belongs to the system with this address, which is another one.
 pub record IsOfOther (own : Address) (strange : Bool) (path : List ℕ) (files : Files) (address : Address) : Type 0 where
   pub told : CommitRecord
   pub log : IsToldBy strange (bytes_in (files (log_of path))) told
   pub mark : IsMarkOfOther own told.mark address
 
--- nothing was changed, if the folder is said to be another system's, or none, or cut short
+-- Nothing was changed, if the folder is said to be another system's, or none, or cut short.
 abbrev pub IsLeftAlone : DiskState → DiskState → OpenError → Type 0
 IsLeftAlone old new (unread.NotOwner address) = ChangesNothing old new
 IsLeftAlone old new (unread.Wrong fault) = ChangesNothing old new
 IsLeftAlone old new _ = Unit {0}
 
--- it is another system's, if that is why, or something is wrong with it
+-- It is another system's, if that is why, or something is wrong with it.
 abbrev pub IsNotOurs : Address → Bool → List ℕ → Files → OpenError → Type 0
 IsNotOurs own strange path files (unread.NotOwner address) = IsOfOther own strange path files address
 IsNotOurs own strange path files why = IsWrong strange path files why

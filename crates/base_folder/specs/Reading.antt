@@ -1,4 +1,4 @@
--- One message of what was read of a base folder.
+-- One message of a base folder that was read.
 use Rattle.std.specs.Prelude.{◌≡◌, ◌≤◌, ℕ, List}
 use Rattle.echo_filed.specs.Stored.{IsStored, Stored, message_in}
 use Rattle.echo_filed.specs.declared.stored.Version.TheVariants.{Second}
@@ -8,7 +8,7 @@ use Rattle.base_store.specs.Keys.{HasBytesOf, MayStandAlone, digest_at, digested
 use Rattle.base_folder.specs.Looked.{IsSeenFrom}
 use Rattle.base_folder.specs.declared.snapshot.FolderSnapshot.{FolderSnapshot}
 
--- these are the bytes of which it was read, and the message of this number, which is stored so, was read
+-- These are the bytes of which it was read, and the message of this number, which is stored so, was read.
 pub record IsThere (seen : FolderSnapshot) (bytes : BaseBytes) (i : ℕ) (s : Stored) : Type 0 where
   pub first : ℕ
   pub read : IsSeenFrom first bytes seen
@@ -17,14 +17,14 @@ pub record IsThere (seen : FolderSnapshot) (bytes : BaseBytes) (i : ℕ) (s : St
   pub alone : MayStandAlone s
   pub stored : HasBytesOf bytes.messages bytes.keys i s
 
--- the entry of this number has the digest of the message
+-- The entry of this number has the digest of the message.
 abbrev pub HasDigest : (ℕ → ℕ → List ℕ → ℕ) → BaseBytes → ℕ → Stored → Type 0
 HasDigest keyed bytes i s = digest_at bytes.keys i ≡ digest_by keyed bytes.mark (digested (message_in Second s))
 
--- a message that was read under this number has the digest of its entry
+-- A message that was read under this number has the digest of its entry.
 abbrev pub IsVouched : (ℕ → ℕ → List ℕ → ℕ) → FolderSnapshot → ℕ → Type 0
 IsVouched keyed seen i = (bytes : BaseBytes) (s : Stored) → IsThere seen bytes i s → HasDigest keyed bytes i s
 
--- none that was read under this number has it
+-- None that was read under this number has it.
 abbrev pub HasNone : (ℕ → ℕ → List ℕ → ℕ) → FolderSnapshot → ℕ → Type 0
 HasNone keyed seen i = (bytes : BaseBytes) (s : Stored) → IsThere seen bytes i s → HasDigest keyed bytes i s → ⊥

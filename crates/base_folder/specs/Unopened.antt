@@ -1,4 +1,4 @@
--- What is opened of a base folder.
+-- A base folder after it was opened.
 use Rattle.std.specs.Prelude.{◌<◌, ◌^◌, ℕ, List}
 use Rattle.base_file.specs.Base.{Base}
 use Rattle.disk_io.specs.Disk.{DiskState}

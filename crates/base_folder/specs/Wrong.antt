@@ -1,4 +1,4 @@
--- What is wrong with a folder that is no base folder, or is cut short.
+-- The faults of a folder that is no base folder, or is cut short.
 use Rattle.std.specs.Prelude.{◌≡◌, ◌≤◌, ◌<◌, ◌⊎◌, ℕ, ◌+◌, ◌/◌, ◌%◌, ◌==◌, ◌&&◌, ◌||◌, not, nat_lt, Bool, true, false, List, length, take, None}
 use Rattle.disk_io.specs.Disk.{Files, IsIn, bytes_in}
 use Rattle.base_log.specs.Names.{keys_of, log_of, messages_of}
@@ -8,44 +8,44 @@ use Rattle.base_log.specs.declared.log.End.{End}
 use Rattle.base_log.specs.declared.log.CommitRecord.{CommitRecord}
 use Rattle.base_store.specs.Keys.{place_behind}
 
--- No base folder has a log of this size whose records end so, whatever a crash left: its files have no digit, its keys are
--- not sixteen bytes a message, the cursor is behind the last one, or there is more than a closed gate and a record behind.
+-- No base folder has a log of this size with this end of its records, whatever a crash left. Its files have no digit, its keys are not
+-- sixteen bytes a message, or the cursor is after the last one. Or more than a closed gate and a record follow.
 abbrev pub is_no_log : ℕ → End → Bool
 is_no_log size end =
     nat_lt 9 end.told.number || (not (end.told.keys % 16 == 0) || (nat_lt (end.told.keys / 16) end.told.cursor || nat_lt (end.gate + 51) size))
 
--- it is such a log, or has no record, and the folder has files that no base folder has
+-- It is such a log, or has no record, and the folder has files that no base folder has.
 abbrev pub is_foreign : Bool → ℕ → End → Bool
 is_foreign strange size end = is_no_log size end || (strange && (end.gate == 0))
 
--- this is the log of no base folder
+-- This is the log of no base folder.
 pub record IsNoLog (strange : Bool) (log : List ℕ) : Type 0 where
   pub end : End
   pub reads : ReadsAll log end
   pub foreign : is_foreign strange (length log) end ≡ true
 
--- the folder is none: its log is that of none, or is gone while other files have bytes
+-- The folder is none: its log is that of none, or is gone while other files have bytes.
 abbrev pub IsNoFolder : Bool → List ℕ → Files → Type 0
 IsNoFolder strange path files = IsNoLog strange (bytes_in (files (log_of path))) ⊎ IsLost path files
 
--- the folder with this log is a base folder, whose records end so
+-- The folder with this log is a base folder, and its records have this end.
 pub record IsFolderLog (strange : Bool) (log : List ℕ) (end : End) : Type 0 where
   pub reads : ReadsAll log end
   pub own : is_foreign strange (length log) end ≡ false
 
--- and the last of its records tells this
+-- And this is the last of its records.
 pub record IsToldBy (strange : Bool) (bytes : List ℕ) (told : CommitRecord) : Type 0 where
   pub end : End
   pub log : IsFolderLog strange bytes end
   pub is : end.told ≡ told
 
--- so many messages, from the front, end within the bytes that are there, of all that the log tells, and the next one does not
+-- So many messages, from the front, end within the existing bytes, of all that the log counts. The next one does not.
 pub record AreWhole (keys : List ℕ) (all there n : ℕ) : Type 0 where
   pub whole : (i : ℕ) (messages : List ℕ) → length messages ≡ all → i < n → place_behind messages keys i ≤ there
   pub next : (messages : List ℕ) → length messages ≡ all → n < length keys / 16 → there < place_behind messages keys n
 
--- The folder's own log or one of its files is cut short, so that they stand for no base. So many messages are whole, of those that
--- the log tells.
+-- The folder's own log or one of its files is cut short, so that they hold no base. So many messages are whole, of those that the log
+-- counts.
 pub record IsCutShort (strange : Bool) (path : List ℕ) (files : Files) (n : ℕ) : Type 0 where
   pub end : End
   pub log : IsFolderLog strange (bytes_in (files (log_of path))) end

@@ -181,7 +181,7 @@ fn fill_opened<D: Disk, H: Digest, S: BuildHasher>(
     ensures committed { Honestly (D.state disk.new) (HoldsFront H.keyed (held_by (D.state disk.old) folder.old) base.now.messages 0 0
         → OnOk result (HoldsBase H.keyed (committed_by (D.state disk.new) folder.new) base.now)) }
 
-    // A crash at any time leaves what was committed before, or all of the base.
+    // A crash at any time leaves the base that was committed before, or all of the new one.
     ensures any_moment { Honestly (D.state disk.new) ((first : model.Base) → HoldsBase H.keyed (committed_by (D.state disk.old) folder.old) first
         → HoldsFront H.keyed (held_by (D.state disk.old) folder.old) base.now.messages 0 0
         → LeavesOnly (D.state disk.old) (D.state disk.new) (StandsForOneOf H.keyed (path_of folder.old) (D.state disk.old) first base.now)) }

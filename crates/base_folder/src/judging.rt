@@ -1,4 +1,4 @@
-//! The contents of a base folder's log, and what is wrong with the folder.
+//! The contents of a base folder's log, and the faults of a folder.
 ghost use Rattle.std.specs.Prelude.{◌≡◌, ◌≤◌, ◌<◌, ◌/◌, ◌+◌, length, take, drop, IfErr, IfOk, OnOk};
 ghost use Rattle.disk_io.specs.Disk.{Honestly, bytes_in};
 ghost use Rattle.disk_io.specs.Runs.{ChangesNothing, HasCause};
@@ -47,7 +47,7 @@ pub(crate) fn part_of<D: Disk>(
     read_part(alloc, disk, path, from, end)
 }
 
-// Whether no base folder has a log of this size whose records end so.
+// Whether no base folder has a log of this size with this end of its records.
 fn is_no_log(size: usize, end: End) -> bool
     requires { end.gate ≤ size }
     ensures { result ≡ is_no_log size end }
@@ -132,7 +132,7 @@ pub(crate) fn judge_by<D: Disk>(
     }
 }
 
-/// The log of a folder whose files hold its base.
+/// The log of a folder that holds a base.
 pub(crate) fn judged<D: Disk>(
     alloc: Global,
     disk: &mut D,

@@ -1,10 +1,10 @@
-//! A base folder for the commands: judged, opened and claimed as they need it, read whole as the base file of the
-//! same messages, and filled with the messages of another base. Its faults are reported like those of a base file.
+//! A base folder for the commands: judged, opened and claimed as they need it, read whole as the base file of the same
+//! messages, and filled with the messages of another base. Its faults are reported like those of a base file.
 //!
-//! Modules in reading order: `open_error` (why it is not read or opened), `judging` (the contents of the log, and what is
-//! wrong with the folder), `opening` (to be changed), `owning` (its owner), `snapshot` (read without a change),
-//! `reading` (one of its messages), `as_file` (the base file of the same messages), `filling` (with the messages of
-//! another base) and `laws`.
+//! Begin with `opening` (a folder to be changed) and `snapshot` (a folder read without a change). `judging` has the
+//! contents of the log and the faults of a folder, `owning` its owner, and `open_error` the errors. `reading` returns
+//! one of its messages, and `as_file` the base file of the same messages. `filling` adds the messages of another base.
+//! `laws` has what holds of the definitions.
 #![tactic(auto)]
 
 mod as_file;

@@ -1,4 +1,4 @@
-//! One message of what was read of a base folder.
+//! One message of a base folder that was read.
 ghost use Rattle.std.specs.Prelude.{◌≡◌, ◌<◌, ◌/◌, ◌↔◌, [], ◌∷◌, length, IfOk, IsTrue, OnOk};
 ghost use Rattle.echo_filed.specs.Filed.{Filed};
 ghost use Rattle.echo_filed.specs.Stored.{Stored, message_in};
@@ -16,8 +16,8 @@ use echo_filed::Key;
 use std::alloc::{AllocError, Global};
 
 impl FolderSnapshot {
-    /// The message of this number, alone in a base of its own. It is `Damaged` if none was read there, or its digest
-    /// differs from that of its entry.
+    /// A base with just the message of this number. It is `Damaged` if none was read there, or its digest differs from
+    /// that of its entry.
     pub fn message_at<H: Digest>(&self, alloc: Global, i: usize) -> Result<Alone, StoreError>
         requires { i < length self.now.keys.items / 16 }
         ensures message { (bytes : BaseBytes) (s : Stored) → IsThere self.now bytes i s → HasDigest H.keyed bytes i s

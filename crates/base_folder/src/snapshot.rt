@@ -61,8 +61,8 @@ impl FolderSnapshot {
 /// number `first` on. If others change it during that, it is read again. `strange` says that the folder has foreign
 /// files.
 ///
-/// It is `Wrong` if it is no base folder (F1), or its log or a file is cut short (F2), and `Raced` if each try met a
-/// change.
+/// The error is `Wrong` if it is no base folder (F1), or its log or a file is cut short (F2). It is `Raced` if each try
+/// met a change.
 pub fn read_snapshot<D: Disk>(
     alloc: Global,
     disk: &mut D,
@@ -214,7 +214,7 @@ fn place_among(keys: &[u8], first: u64, all: usize) -> usize
     }
 }
 
-// The messages from this number on, and their keys, as far as the log counts them.
+// The messages from this number on, and their keys, up to the lengths that the log has.
 fn files_of<D: Disk>(
     alloc: Global,
     disk: &mut D,

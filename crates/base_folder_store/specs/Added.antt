@@ -9,7 +9,7 @@ use Rattle.base_log.specs.Standing.{BaseBytes, and_keys, and_messages}
 use Rattle.base_store.specs.Keys.{MayStandAlone, entry}
 use Rattle.base_folder_store.specs.declared.folder.Folder.{Folder}
 
--- the bytes are this message, as a base file may have it alone
+-- The bytes are this message, as a base file may have it alone.
 pub record IsStoredAlone (m : Filed) (bytes : List ℕ) : Type 0 where
   pub s : Stored
   pub size : IsStored Second s
@@ -17,19 +17,19 @@ pub record IsStoredAlone (m : Filed) (bytes : List ℕ) : Type 0 where
   pub is : message_in Second s ≡ m
   pub same : bytes ≡ stored_bytes Second s
 
--- the bytes of one message more, with its entry
+-- The bytes of one message more, with its entry.
 abbrev pub with_stored : BaseBytes → List ℕ → ℕ → BaseBytes
 with_stored base bytes digest = and_keys (and_messages base bytes) (entry (length base.messages) digest)
 
--- where a message begins that is put behind those that are written and those that wait
+-- Where a message begins that is put behind those that are written and those that wait.
 abbrev pub next_place : Folder → ℕ
 next_place folder = folder.told.messages + length folder.waiting.messages.items
 
--- eight bytes do not count its messages, its keys, or its log with one record more
+-- Eight bytes do not count its messages, its keys, or its log with one record more.
 abbrev pub IsFull : Folder → Type 0
 IsFull folder = ((2 ^ 64 ≤ next_place folder) ⊎ (2 ^ 64 ≤ folder.told.keys + length folder.waiting.keys.items)) ⊎ (2 ^ 64 ≤ folder.end.gate + 51)
 
--- one message more waits to be written, with its entry
+-- One message more waits to be written, with its entry.
 pub record OneMoreWaits (old new : Folder) (bytes : List ℕ) (digest : ℕ) : Type 0 where
   pub names : new.names ≡ old.names
   pub end : new.end ≡ old.end
@@ -39,6 +39,6 @@ pub record OneMoreWaits (old new : Folder) (bytes : List ℕ) (digest : ℕ) : T
   pub entries : new.waiting.keys.items ≡ old.waiting.keys.items ++ entry (next_place old) digest
   pub fits : next_place old + length bytes < 2 ^ 64
 
--- all but the two files of that number is as it was
+-- All but the two files of that number is as it was.
 abbrev pub SameBesideBoth : List ℕ → ℕ → Files → Files → Type 0
 SameBesideBoth path number old new = (m : List ℕ) → m ≢ messages_of path number → m ≢ keys_of path number → new m ≡ old m

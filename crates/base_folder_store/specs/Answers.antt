@@ -9,22 +9,22 @@ use Rattle.base_store.specs.Keys.{MayStandAlone, digest_at}
 use Rattle.base_store.specs.declared.store_error.StoreError.{StoreError}
 use Rattle.base_store.specs.declared.store_error.StoreError.TheVariants as error
 
--- the value is so, or the device failed or memory was refused: nothing is damaged
+-- The value is so, or the device failed or memory was refused: nothing is damaged.
 abbrev pub Answers : {T : Type 0} → (T → Type 0) → Result T StoreError → Type 0
 Answers P (Ok value) = P value
 Answers P (Err error.Damaged) = ⊥
 Answers P (Err _) = Unit {0}
 
--- a failure of the device is answered only where its count of failures rose
+-- A failure of the device is answered only where its count of failures rose.
 pub record HasReadCause {T : Type 0} (before now : ℕ) (result : Result T StoreError) : Type 0 where
   pub later : before ≤ now
   pub failed : IsErrOf result error.Device → Failed before now
 
--- the message of this number, alone in a base of its own
+-- A base with just the message of this number.
 abbrev pub IsAloneOf : List Filed → ℕ → Base → Type 0
 IsAloneOf messages place alone = (d : Filed) → alone.messages ≡ slice_index_or messages place d ∷ []
 
--- the bytes are those of the message of this number, as it is stored
+-- The bytes are those of the message of this number, as it is stored.
 pub record IsStoredOf (messages : List Filed) (place : ℕ) (bytes : List ℕ) : Type 0 where
   pub s : Stored
   pub size : IsStored Second s
@@ -32,6 +32,6 @@ pub record IsStoredOf (messages : List Filed) (place : ℕ) (bytes : List ℕ) :
   pub is : (d : Filed) → slice_index_or messages place d ≡ message_in Second s
   pub same : bytes ≡ stored_bytes Second s
 
--- each message that passes the test has this digest in its entry
+-- Each message that passes the test has this digest in its entry.
 abbrev pub HaveDigest : (Filed → Bool) → ℕ → List Filed → List ℕ → Type 0
 HaveDigest test digest messages keys = (i : ℕ) (d : Filed) → i < length messages → test (slice_index_or messages i d) ≡ true → digest_at keys i ≡ digest

@@ -16,17 +16,17 @@ pub record HoldsBase (keyed : ℕ → ℕ → List ℕ → ℕ) (bytes : BaseByt
   pub files : FolderStandsFor (digest_by keyed bytes.mark) base.messages base.cursor bytes.messages bytes.keys
   pub cursor : bytes.cursor ≡ base.cursor
 
--- the files of the folder stand for this base, whatever a crash made of them
+-- The files of the folder hold this base, whatever a crash made of them.
 pub record StandsForBase (keyed : ℕ → ℕ → List ℕ → ℕ) (path : List ℕ) (base : Base) (c : Files) : Type 0 where
   pub bytes : BaseBytes
   pub stands : StandsFor path bytes c
   pub holds : HoldsBase keyed bytes base
 
--- and nothing outside the folder has changed
+-- And nothing outside the folder has changed.
 pub record StandsForBaseAlone (keyed : ℕ → ℕ → List ℕ → ℕ) (path : List ℕ) (old : DiskState) (base : Base) (c : Files) : Type 0 where
   pub outside : SameOutside path old c
   pub stands : StandsForBase keyed path base c
 
--- or it is what a crash might have left before
+-- Or it is what a crash might have left before.
 abbrev pub StandsForBaseOrWasLeft : (ℕ → ℕ → List ℕ → ℕ) → List ℕ → DiskState → Base → Files → Type 0
 StandsForBaseOrWasLeft keyed path old base c = StandsForBaseAlone keyed path old base c ⊎ old.may_leave c

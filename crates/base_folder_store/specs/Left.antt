@@ -9,34 +9,34 @@ use Rattle.base_store.specs.Store.{purged}
 use Rattle.base_folder_store.specs.Opened.{committed_by, path_of}
 use Rattle.base_folder_store.specs.declared.folder.Folder.{Folder}
 
--- a message that was scanned becomes its stub, another stays
+-- A message that was scanned becomes its stub, another stays.
 abbrev pub left_if : Bool → Filed → Filed
 left_if true m = stub_of m
 left_if false m = m
 
--- the first messages of a base as a purge leaves them, under no cursor yet
+-- The first messages of a base as a purge leaves them, under no cursor yet.
 abbrev pub first_left : Base → ℕ → Base
 first_left base count = record { messages = take count (purged base).messages; cursor = 0 }
 
--- how many of the first messages a purge changes
+-- How many of the first messages a purge changes.
 abbrev pub changed_in : Base → ℕ → ℕ
 changed_in base count = count_by (λ m. not (is_stub m)) (take count (take base.cursor base.messages))
 
--- one folder with its committed files and, under another number, with those that are made in their place
+-- One folder with its committed files and, under another number, with those that are made in their place.
 pub record IsBesideIn (folder next : Folder) : Type 0 where
   pub path : path_of next ≡ path_of folder
   pub end : next.end ≡ folder.end
   pub number : next.told.number ≢ folder.end.told.number
   pub mark : next.told.mark ≡ folder.end.told.mark
 
--- the messages that were committed are there to be read
+-- The messages that were committed are there to be read.
 pub record IsReadable (disk : DiskState) (folder : Folder) : Type 0 where
   pub names : AreNames folder.names folder.end.told.number
   pub there : IsSome (disk.seen (messages_of (path_of folder) folder.end.told.number))
   pub long : folder.end.told.messages ≤ length (bytes_in (disk.seen (messages_of (path_of folder) folder.end.told.number)))
   pub keys : folder.keys.items ≡ (committed_by disk folder).keys
 
--- the files of that number are there no more
+-- The files of that number are there no more.
 pub record AreGone (disk : DiskState) (path : List ℕ) (number : ℕ) : Type 0 where
   pub messages : disk.seen (messages_of path number) ≡ None
   pub keys : disk.seen (keys_of path number) ≡ None

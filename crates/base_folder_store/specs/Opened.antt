@@ -7,33 +7,33 @@ use Rattle.base_log.specs.Standing.{BaseBytes, and_keys, and_messages, base_at}
 use Rattle.base_folder_store.specs.declared.folder.Folder.{Folder}
 use Rattle.base_folder_store.specs.declared.waiting.Waiting.{Waiting}
 
--- its path
+-- Its path.
 abbrev pub path_of : Folder → List ℕ
 path_of folder = folder_of folder.names
 
--- with the messages and the keys that wait to be written behind them
+-- With the messages and the keys that wait to be written behind them.
 abbrev pub and_waiting : BaseBytes → Waiting → BaseBytes
 and_waiting base waiting = and_keys (and_messages base waiting.messages.items) waiting.keys.items
 
--- what it holds, with what is not committed yet
+-- The bytes that it holds, with those not yet committed.
 abbrev pub held_by : DiskState → Folder → BaseBytes
 held_by disk folder = and_waiting (base_at disk (path_of folder) folder.told) folder.waiting
 
--- nothing waits to be written
+-- Nothing waits to be written.
 pub record IsWritten (folder : Folder) : Type 0 where
   pub messages : folder.waiting.messages.items ≡ []
   pub keys : folder.waiting.keys.items ≡ []
 
--- it has the paths of its files
+-- It has the paths of its files.
 abbrev pub IsNamed : Folder → Type 0
 IsNamed folder = AreNames folder.names folder.told.number
 
--- the files are as it knows them
+-- The files are as it knows them.
 pub record IsOpen (disk : DiskState) (folder : Folder) : Type 0 where
   pub names : IsNamed folder
   pub staged : IsStaged disk (path_of folder) folder.end folder.told
   pub keys : folder.keys.items ≡ (held_by disk folder).keys
 
--- what was committed last
+-- The bytes that were committed last.
 abbrev pub committed_by : DiskState → Folder → BaseBytes
 committed_by disk folder = base_at disk (path_of folder) folder.end.told

@@ -1,18 +1,18 @@
--- Whose a base folder is.
+-- The owner of a base folder.
 use Rattle.std.specs.Prelude.{◌≡◌, ℕ, nat_eq, length, if◌then◌else◌, Option, Some, None}
 use Rattle.base_log.specs.declared.log.FolderIdentity.{FolderIdentity}
 use Rattle.base_folder_store.specs.declared.folder.Folder.{Folder}
 
--- none where nobody has claimed it
+-- None if no system has claimed it.
 abbrev pub owner_of : FolderIdentity → Option ℕ
 owner_of mark = if nat_eq mark.owner 0 then None else Some mark.owner
 
--- nobody has claimed it, and no digest was taken by its key
+-- No system has claimed it, and no digest was taken by its key.
 pub record IsUnclaimed (folder : Folder) : Type 0 where
   pub owner : folder.told.mark.owner ≡ 0
   pub keys : length folder.keys.items ≡ 0
 
--- the folder with this mark, which the next commit tells
+-- the folder with this mark, which the next commit records
 abbrev pub with_mark : Folder → FolderIdentity → Folder
 with_mark folder mark = record folder { told = record folder.told { mark = mark } }
 

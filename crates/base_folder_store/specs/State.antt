@@ -10,12 +10,12 @@ use Rattle.base_folder_store.specs.Held.{HoldsBase, StandsForBase}
 use Rattle.base_folder_store.specs.Opened.{IsNamed, IsOpen, committed_by, held_by, path_of}
 use Rattle.base_folder_store.specs.declared.folder.Folder.{Folder}
 
--- the message of a base that has it alone
+-- The message of a base that has it alone.
 abbrev pub only_message : Option Base → Option Filed
 only_message None = None
 only_message (Some alone) = slice_get alone.messages 0
 
--- it has the paths of its files, and where the disk was honest these are as it knows them
+-- It has the paths of its files, and where the disk was honest these are as it knows them.
 pub record IsUsable (disk : DiskState) (folder : Folder) : Type 0 where
   pub named : IsNamed folder
   pub opened : Honestly disk (IsOpen disk folder)
@@ -35,11 +35,11 @@ state_of disk keyed folder alone = record {
   shown = λ honest usable base is. record { bytes = committed_by disk folder; stands = (usable.opened honest).staged.shown; holds = is };
 }
 
--- where the disk was honest, an index is one of the folder's keys
+-- Where the disk was honest, an index is one of the folder's keys.
 abbrev pub IsIndexed : DiskState → Folder → Index → Type 0
 IsIndexed disk folder index = Honestly disk (IsIndexOf folder.keys.items index)
 
--- a store to which calls may be made only where this is so too
+-- A store to which calls may be made only where this is so too.
 abbrev pub where_so : StoreState → Type 0 → StoreState
 where_so s so = record {
   disk = s.disk;

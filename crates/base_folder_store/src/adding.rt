@@ -142,7 +142,7 @@ impl Folder {
         ensures number { self.new.told.number ≡ self.old.told.number }
         ensures beside { SameBesideBoth (path_of self.old) self.old.told.number (D.state disk.old).seen (D.state disk.new).seen }
 
-        // A crash at any time leaves what was committed, and nothing outside the folder has changed.
+        // A crash at any time leaves the committed base, and nothing outside the folder has changed.
         ensures any_moment { Honestly (D.state disk.new) (LeavesOnly (D.state disk.old) (D.state disk.new)
             (StandsAlone (path_of self.old) (D.state disk.old) (committed_by (D.state disk.old) self.old))) }
         ensures outside { KeepsOutside (path_of self.old) (D.state disk.old) (D.state disk.new) }
@@ -178,7 +178,7 @@ impl Folder {
         ensures settled { Honestly (D.state disk.new) (OnOk result (IsAtRest (D.state disk.new) (path_of self.new) self.new.end)) }
         ensures told { OnOk result (self.new.end.told ≡ self.new.told) }
 
-        // A crash at any time leaves what was committed before, or what was held.
+        // A crash at any time leaves the base that was committed before, or the one held.
         ensures any_moment { Honestly (D.state disk.new) (LeavesOnly (D.state disk.old) (D.state disk.new)
             (IsBeforeOrAfter (path_of self.old) (D.state disk.old) (committed_by (D.state disk.old) self.old) (held_by (D.state disk.old) self.old))) }
         ensures outside { KeepsOutside (path_of self.old) (D.state disk.old) (D.state disk.new) }
@@ -209,7 +209,7 @@ impl Folder {
         ensures settled { Honestly (D.state disk.new) (OnOk result (IsAtRest (D.state disk.new) (path_of self.new) self.new.end)) }
         ensures told { OnOk result (self.new.end.told ≡ self.new.told) }
 
-        // A crash at any time leaves what was committed before, or what was held.
+        // A crash at any time leaves the base that was committed before, or the one held.
         ensures any_moment { Honestly (D.state disk.new) (LeavesOnly (D.state disk.old) (D.state disk.new)
             (IsBeforeOrAfter (path_of self.old) (D.state disk.old) (committed_by (D.state disk.old) self.old) (held_by (D.state disk.old) self.old))) }
         ensures outside { KeepsOutside (path_of self.old) (D.state disk.old) (D.state disk.new) }
@@ -264,7 +264,7 @@ impl Folder {
         ensures gone { Honestly (D.state disk.new) (OnOk result (self.old.end.told.number < 10 → self.old.end.told.number ≢ self.new.end.told.number
             → AreGone (D.state disk.new) (path_of self.old) self.old.end.told.number)) }
 
-        // A crash at any time leaves what was committed before, or what was held.
+        // A crash at any time leaves the base that was committed before, or the one held.
         ensures any_moment { Honestly (D.state disk.new) (LeavesOnly (D.state disk.old) (D.state disk.new)
             (IsBeforeOrAfter (path_of self.old) (D.state disk.old) (committed_by (D.state disk.old) self.old) (held_by (D.state disk.old) self.old))) }
         ensures outside { KeepsOutside (path_of self.old) (D.state disk.old) (D.state disk.new) }

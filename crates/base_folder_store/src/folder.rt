@@ -1,4 +1,4 @@
-//! An open base folder: what is known of its files, and a message read by its number.
+//! An open base folder: the facts known of its files, and a message read by its number.
 ghost use Rattle.std.specs.Prelude.{◌≡◌, ◌≤◌, ◌<◌, ◌+◌, ◌^◌, ◌/◌, ◌++◌, ℕ, List, length, IfOk, IsErrOf, IsSome, drop, take};
 ghost use Rattle.disk_io.specs.Disk.{Honestly, bytes_in};
 ghost use Rattle.disk_io.specs.Runs.{ChangesNothing, HasCause, LeavesOnly};
@@ -22,7 +22,7 @@ use std::alloc::Global;
 /// How many bytes of the keys belong to one message.
 pub(crate) const ENTRY: usize = 16;
 
-/// What is known of the files of a base folder: the end of its log, the record that a commit would write, the keys,
+/// The facts known of the files of a base folder: the end of its log, the record that a commit would write, the keys,
 /// and the messages that wait to be written.
 #[derive(Drop)]
 pub struct Folder {
@@ -118,8 +118,8 @@ pub(crate) fn message_at<D: Disk>(
 }
 
 impl Folder {
-    /// Opens the base folder whose files hold its base, with its log as it was read. Missing files are made. A path
-    /// ends in a slash, or is empty. What is wrong with a message is reported when it is read.
+    /// Opens a base folder that holds a base, with its log as it was read. Missing files are made. A path ends in a
+    /// slash, or is empty. A faulty message is reported when it is read.
     pub fn open<D: Disk>(
         alloc: Global,
         disk: &mut D,

@@ -16,7 +16,7 @@ const AREA: &[u8] = b"AREA:";
 
 const MSGID: &[u8] = b"\x01MSGID:";
 
-// The bytes after a string, whose length precedes it.
+// The bytes after a string. Its length precedes it.
 fn behind_string(bytes: &[u8]) -> Option<&[u8]>
     ensures { (string rest : List ℕ) → bytes.now ≡ after_length string ++ rest → IfSome result (λ found. found.now ≡ rest) }
 {

@@ -1,9 +1,9 @@
-//! A base folder, of which a command reads and writes only what it handles.
+//! A base folder as a store: a command reads and writes only what it handles.
 //!
-//! Modules in reading order: `alone` (one message by itself, read and made), `front` (its first lines), `sought`
-//! (which message is sought), `waiting` (not written yet), `folder` (opened, a message read by its number), `finding`
-//! (looked up by digests), `owning` (its owner), `adding` (added to and committed), `leaving` (what a purge leaves of
-//! a message), `purging`, `folder_store` (all of this as a store) and `laws` (what holds of the definitions).
+//! Begin with `folder` (it is opened, a message is read by its number) and `folder_store` (all of this as a store).
+//! `alone` reads and makes one message by itself, and `front` its first lines. `sought` and `finding` look messages up
+//! by digests. `waiting` holds what is not written yet, and `adding` adds and commits. `owning` has the folder's owner.
+//! `leaving` and `purging` replace a base by the rest that a purge leaves. `laws` has what holds of the definitions.
 #![tactic(auto)]
 
 mod adding;

@@ -155,7 +155,7 @@ impl Folder {
             → IfOk result (λ count. count ≡ count_by (λ m. not (is_stub m)) (take base.cursor base.messages))) }
         ensures committed { Honestly (D.state disk.new) (OnOk result (committed_by (D.state disk.new) self.new ≡ held_by (D.state disk.old) self.old)) }
 
-        // A crash at any time leaves what was committed before, or what was held.
+        // A crash at any time leaves the base that was committed before, or the one held.
         ensures any_moment { Honestly (D.state disk.new) (LeavesOnly (D.state disk.old) (D.state disk.new)
             (IsBeforeOrAfter (path_of self.old) (D.state disk.old) (committed_by (D.state disk.old) self.old) (held_by (D.state disk.old) self.old))) }
         ensures outside { KeepsOutside (path_of self.old) (D.state disk.old) (D.state disk.new) }

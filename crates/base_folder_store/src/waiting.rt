@@ -1,4 +1,4 @@
-//! What was staged and is not written yet.
+//! Messages that are staged and not written yet.
 ghost use Rattle.std.specs.Prelude.{◌≡◌, ◌++◌, [], OnOk};
 
 use std::alloc::{AllocError, Global};

@@ -8,15 +8,15 @@ use Rattle.std.specs.List.Sorted.{IsStrictlySortedBy}
 use Rattle.echo_links.specs.Links.{LinkFile}
 use Rattle.echo_net.specs.Faults.{IsCarried}
 
--- the order of tags: by the first byte that differs; a tag that another begins with stands before it
+-- The order of tags: by the first byte that differs; the beginning of a tag comes before the tag.
 abbrev pub tag_order : List ℕ → List ℕ → Ordering
 tag_order = slice_cmp nat_cmp
 
--- just the tags of which some file has an area, ascending, each once
+-- Just the tags of which some file has an area, ascending, each once.
 pub record AreAllTags (files : List LinkFile) (tags : List (List ℕ)) : Type 0 where
   pub ascending : IsStrictlySortedBy tag_order tags
   pub members : (tag : List ℕ) → Contains tags tag ↔ IsCarried files tag
 
--- whether the tag is one of these keys
+-- Whether the tag is one of these keys.
 abbrev pub has_tag : {K : Type 0} → (K → List ℕ) → List K → List ℕ → Bool
 has_tag bytes keys tag = list_any (λ k. is_eq (tag_order tag (bytes k))) keys

@@ -12,63 +12,63 @@ use Rattle.cmd_status.specs.declared.fault.Fault.{Fault}
 use Rattle.cmd_status.specs.Ended.{Answers}
 use Rattle.cmd_status.specs.Inputs.{AreLinkFiles}
 
--- the systems whose files list the address in the area, in order of the files
+-- The systems that list the address in the area, in order of the files.
 abbrev pub listing : List LinkFile → List ℕ → Address → List Address
 listing files tag a = map (λ file. file.system) (filter (λ file. is_link file tag a) files)
 
--- a link, behind those before it
+-- A link, behind those before it.
 abbrev pub link_word : Address → List ℕ
 link_word link = codes " " ++ address_text link
 
--- a link file of this system, with the area and these links
+-- A link file of this system, with the area and these links.
 abbrev pub assumed_text : List ℕ → Address → List Address → List ℕ
 assumed_text tag a links =
     codes "SYSTEM " ++ (address_text a ++ (codes "\nAREA " ++ (tag ++ (flat_map link_word links ++ codes "\n"))))
 
--- the link file of an assumed system: its links are just those who list it, ascending, each once
+-- The link file of an assumed system: its links are just those who list it, ascending, each once.
 pub record IsAssumed (files : List LinkFile) (tag : List ℕ) (a : Address) (text : List ℕ) : Type 0 where
   pub links : List Address
   pub ascending : IsStrictlySortedBy address_order links
   pub members : (b : Address) → Contains links b ↔ Contains (listing files tag a) b
   pub whole : text ≡ assumed_text tag a links
 
--- one for each of the systems, in order
+-- One for each of the systems, in order.
 abbrev pub AreEachAssumed : List LinkFile → List ℕ → List Address → List (List ℕ) → Type 0
 AreEachAssumed files tag [] [] = Unit {0}
 AreEachAssumed files tag (a ∷ assumed) (text ∷ texts) = IsAssumed files tag a text × AreEachAssumed files tag assumed texts
 AreEachAssumed files tag _ _ = ⊥
 
--- the link files of the assumed systems; none where no file has the area
+-- The link files of the assumed systems; none where no file has the area.
 pub record AreAssumed (files : List LinkFile) (tag : List ℕ) (assumed : List Address) (texts : List (List ℕ)) : Type 0 where
   pub carried : IsCarried files tag → AreEachAssumed files tag assumed texts
   pub nowhere : (¬ IsCarried files tag) → texts ≡ []
 
--- one for each of the systems was put behind other files
+-- One for each of the systems was put behind other files.
 pub record AddsEach (files : List LinkFile) (tag : List ℕ) (assumed : List Address) (old new : List (List ℕ)) : Type 0 where
   pub texts : List (List ℕ)
   pub are : AreEachAssumed files tag assumed texts
   pub whole : new ≡ old ++ texts
 
--- those of the assumed systems were
+-- Those of the assumed systems were.
 pub record AddsAssumed (files : List LinkFile) (tag : List ℕ) (assumed : List Address) (old new : List (List ℕ)) : Type 0 where
   pub texts : List (List ℕ)
   pub are : AreAssumed files tag assumed texts
   pub whole : new ≡ old ++ texts
 
--- the inputs are link files, and those of the assumed systems were put behind them
+-- The inputs are link files, and those of the assumed systems were put behind them.
 pub record Assumes (tag : List ℕ) (assumed : List Address) (old new : List (List ℕ)) : Type 0 where
   pub files : List LinkFile
   pub are_files : AreLinkFiles old files
   pub adds : AddsAssumed files tag assumed old new
 
--- the line of an assumed system
+-- The line of an assumed system.
 abbrev pub assumed_line : Address → List ℕ
 assumed_line a = codes "assumed " ++ (address_text a ++ codes "\n")
 
--- the same behind what begins a note in another format
+-- The same behind what begins a note in another format.
 abbrev pub assumed_note : List ℕ → Address → List ℕ
 assumed_note begin a = begin ++ assumed_line a
 
--- what is answered where these lines are to be printed
+-- The right result if these lines are to be printed.
 abbrev pub PrintsAssumed : List ℕ → List Address → Output → Output → Result (Unit {0}) Fault → Type 0
 PrintsAssumed begin assumed old new answer = Answers (λ lines done. lines ≡ flat_map (assumed_note begin) assumed) (λ fault. ⊥) old new answer

@@ -18,19 +18,19 @@ use Rattle.cmd_status.specs.Ended.{Answers}
 use Rattle.cmd_status.specs.Inputs.{AreLinkFiles, IsFirstFaultGiven, IsNodelistGiven}
 use Rattle.cmd_print.specs.Checked.{CheckShown}
 
--- 1 for a no
+-- 1 for a no.
 abbrev pub verdict_status : Verdict → Status
 verdict_status (Yes systems links) = Good
 verdict_status (No fault) = Differs
 
--- the verdict on an area: yes exactly where it is tidy, with its numbers of carriers and of linked pairs; a no
--- names the first thing that is wrong
+-- The verdict on an area: yes exactly where it is tidy, with its numbers of carriers and of linked pairs; a no
+-- names the first thing that is wrong.
 pub record IsCheckVerdict (files : List LinkFile) (tag : List ℕ) (verdict : Verdict) : Type 0 where
   pub tidy : IsYes verdict ↔ Tidy files tag
   pub counted : IfYes verdict (λ systems links. (systems ≡ carrier_count files tag) × (links ≡ linked_pairs files tag))
   pub first : IfNo verdict (IsFirstFault files tag)
 
--- every run on these files is orderly in the area
+-- Every run on these files is orderly in the area.
 abbrev pub RunsAreOrderly : List LinkFile → List ℕ → Type 0
 RunsAreOrderly files tag = (events : List RunEvent) → Orderly (run_of files events) tag
 
@@ -47,7 +47,7 @@ pub record IsChecked (nodelist : Option (List ℕ)) (tag : List ℕ) (inputs : L
   pub tidy : (status ≡ Good) ↔ Tidy files (upper tag)
   pub orderly : status ≡ Good → RunsAreOrderly files (upper tag)
 
--- what is answered where an area is to be checked
+-- the right result if an area is to be checked
 abbrev pub CheckAnswers : Option (List ℕ) → List ℕ → List (List ℕ) → Option Fault → Output → Output → Result Status Fault → Type 0
 CheckAnswers nodelist tag inputs stopped old new answer =
     Answers (λ lines status. IsChecked nodelist tag inputs lines status × (stopped ≡ None)) (IsFirstFaultGiven nodelist inputs stopped) old new answer

@@ -15,7 +15,7 @@ use Rattle.cmd_print.specs.Checked.{CheckShown}
 use Rattle.cmd_check.specs.AreaTags.{AreAllTags}
 use Rattle.cmd_check.specs.Checking.{IsCheckVerdict, RunsAreOrderly}
 
--- the lines of `check` on an area of these files, and whether the verdict is yes; then every run is orderly in it
+-- The lines of `check` on an area of these files, and whether the verdict is yes; then every run is orderly in it.
 pub record IsAreaChecked (files : List LinkFile) (list : Option (List Line)) (tag : List ℕ) (good : Bool) (lines : List ℕ) : Type 0 where
   pub verdict : Verdict
   pub is_verdict : IsCheckVerdict files tag verdict
@@ -23,7 +23,7 @@ pub record IsAreaChecked (files : List LinkFile) (list : Option (List Line)) (ta
   pub is_good : IsTrue good ↔ IsYes verdict
   pub orderly : IsTrue good → RunsAreOrderly files tag
 
--- lines of one kind and then of another, and whether both say yes
+-- Lines of one kind and then of another, and whether both say yes.
 pub record AreJoined (First Rest : Bool → List ℕ → Type 0) (good : Bool) (lines : List ℕ) : Type 0 where
   pub first_good : Bool
   pub rest_good : Bool
@@ -34,12 +34,12 @@ pub record AreJoined (First Rest : Bool → List ℕ → Type 0) (good : Bool) (
   pub both : good ≡ (first_good && rest_good)
   pub whole : lines ≡ first_lines ++ rest_lines
 
--- the lines of `check` on each of these areas, one after another, and whether each verdict is yes
+-- The lines of `check` on each of these areas, one after another, and whether each verdict is yes.
 abbrev pub AreAreasChecked : List LinkFile → Option (List Line) → List (List ℕ) → Bool → List ℕ → Type 0
 AreAreasChecked files list [] good lines = (good ≡ true) × (lines ≡ [])
 AreAreasChecked files list (tag ∷ tags) good lines = AreJoined (IsAreaChecked files list tag) (AreAreasChecked files list tags) good lines
 
--- 1 where one verdict is a no
+-- 1 where one verdict is a no.
 abbrev pub verdicts_status : Bool → Status
 verdicts_status good = if good then Good else Differs
 
@@ -57,7 +57,7 @@ pub record IsAllChecked (nodelist : Option (List ℕ)) (inputs : List (List ℕ)
   pub tidy : (status ≡ Good) ↔ ((tag : List ℕ) → IsCarried files tag → Tidy files tag)
   pub orderly : status ≡ Good → (tag : List ℕ) → IsCarried files tag → RunsAreOrderly files tag
 
--- what is answered where all areas are to be checked
+-- the right result if all areas are to be checked
 abbrev pub CheckAllAnswers : Option (List ℕ) → List (List ℕ) → Option Fault → Output → Output → Result Status Fault → Type 0
 CheckAllAnswers nodelist inputs stopped old new answer =
     Answers (λ lines status. IsAllChecked nodelist inputs lines status × (stopped ≡ None)) (IsFirstFaultGiven nodelist inputs stopped) old new answer

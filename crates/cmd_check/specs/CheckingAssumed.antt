@@ -12,7 +12,7 @@ use Rattle.cmd_status.specs.Inputs.{AreLinkFiles, IsFirstFaultGiven, IsLinkFault
 use Rattle.cmd_check.specs.Assuming.{AreAssumed, assumed_line}
 use Rattle.cmd_check.specs.Checking.{IsChecked, RunsAreOrderly}
 
--- the lines of `check` on these files, and behind them a line for each assumed system
+-- The lines of `check` on these files, and behind them a line for each assumed system.
 pub record IsCheckedWith (nodelist : Option (List ℕ)) (tag : List ℕ) (inputs : List (List ℕ)) (assumed : List Address) (lines : List ℕ) (status : Status) : Type 0 where
   pub front : List ℕ
   pub checked : IsChecked nodelist tag inputs front status
@@ -26,7 +26,7 @@ pub record IsCheckedAssuming (nodelist : Option (List ℕ)) (tag : List ℕ) (in
   pub are_assumed : AreAssumed files (upper tag) assumed texts
   pub checked : IsCheckedWith nodelist tag (inputs ++ texts) assumed lines status
 
--- what a 0 promises: with the files of the assumed systems the area is tidy, and every run is orderly in it
+-- What a 0 promises: with the files of the assumed systems the area is tidy, and every run is orderly in it.
 pub record IsPromisedAssuming (files : List LinkFile) (tag : List ℕ) (assumed : List Address) : Type 0 where
   pub texts : List (List ℕ)
   pub are_assumed : AreAssumed files tag assumed texts
@@ -35,13 +35,13 @@ pub record IsPromisedAssuming (files : List LinkFile) (tag : List ℕ) (assumed 
   pub tidy : Tidy (files ++ others) tag
   pub orderly : RunsAreOrderly (files ++ others) tag
 
--- further link files were read, behind others
+-- Further link files were read, behind others.
 pub record ReadsMore (texts : List (List ℕ)) (old new : List LinkFile) : Type 0 where
   pub files : List LinkFile
   pub are : AreLinkFiles texts files
   pub whole : new ≡ old ++ files
 
--- the file of an assumed system has the fault
+-- The file of an assumed system has the fault.
 pub record IsAssumedFault (tag : List ℕ) (inputs : List (List ℕ)) (assumed : List Address) (fault : Fault) : Type 0 where
   pub files : List LinkFile
   pub are_files : AreLinkFiles inputs files
@@ -49,12 +49,12 @@ pub record IsAssumedFault (tag : List ℕ) (inputs : List (List ℕ)) (assumed :
   pub are_assumed : AreAssumed files (upper tag) assumed texts
   pub fault_is : IsLinkFault texts fault
 
--- what is answered where an area is to be checked, with some systems assumed
+-- The right result if an area is to be checked, with some systems assumed.
 abbrev pub CheckAssumingAnswers : Option (List ℕ) → List ℕ → List (List ℕ) → List Address → Option Fault → Output → Output → Result Status Fault → Type 0
 CheckAssumingAnswers nodelist tag inputs assumed stopped old new answer =
     Answers (λ lines status. IsCheckedAssuming nodelist tag inputs assumed lines status × (stopped ≡ None))
     (λ fault. IsFirstFaultGiven nodelist inputs stopped fault ⊎ IsAssumedFault tag inputs assumed fault) old new answer
 
--- what is answered where the lines of `check` and of assumed systems are to be printed
+-- The right result if the lines of `check` and of assumed systems are to be printed.
 abbrev pub PrintsChecked : Option (List ℕ) → List ℕ → List (List ℕ) → List Address → Output → Output → Result Status Fault → Type 0
 PrintsChecked nodelist tag inputs assumed old new answer = Answers (IsCheckedWith nodelist tag inputs assumed) (λ fault. ⊥) old new answer

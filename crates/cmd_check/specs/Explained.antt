@@ -1,4 +1,4 @@
--- What is found where an area is to be shown going wrong.
+-- The run that is found if an area is to be shown going wrong.
 use Rattle.std.specs.Prelude.{ℕ, List, Option, IfSome}
 use Rattle.echo_links.specs.Links.{LinkFile}
 use Rattle.echo_net.specs.declared.verdict.Verdict.{Verdict}

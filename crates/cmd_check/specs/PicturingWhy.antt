@@ -38,7 +38,7 @@ abbrev pub AreCrossings : List (List ℕ) → List ℕ → Verdict → List Cros
 AreCrossings inputs tag verdict crossings =
     (found : Option Shown) × IsFoundFirst (files_of inputs) tag verdict found × (crossings ≡ found_crossings (files_of inputs) tag found)
 
--- what is answered where an area is to be drawn going wrong
+-- the right result if an area is to be drawn going wrong
 abbrev pub PictureWhyAnswers : List ℕ → List (List ℕ) → Option Fault → Output → Output → Result Status Fault → Type 0
 PictureWhyAnswers tag inputs stopped old new answer =
     Answers (λ lines status. IsPicturedWhy tag inputs lines status × (stopped ≡ None)) (IsFirstFaultGiven None inputs stopped) old new answer

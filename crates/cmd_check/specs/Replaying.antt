@@ -16,7 +16,7 @@ use Rattle.cmd_status.specs.Ended.{Answers}
 use Rattle.cmd_status.specs.Inputs.{AreLinkFiles, IsLinkFault}
 use Rattle.cmd_check.specs.Replayed.{replay_lines}
 
--- The script has no fault and neither have the link files; these lines are of the run of its events on them.
+-- The script has no fault and neither have the link files. These are the lines for the run of its events on them.
 pub record IsReplayed (script : List ℕ) (inputs : List (List ℕ)) (lines : List ℕ) (status : Status) : Type 0 where
   pub events : List Event
   pub are_events : ScriptOf script (Ok events)
@@ -25,28 +25,28 @@ pub record IsReplayed (script : List ℕ) (inputs : List (List ℕ)) (lines : Li
   pub printed : lines ≡ replay_lines files (run_of files (map run_event events))
   pub status_is : status ≡ Good
 
--- the first line of the script that is of another form
+-- The first line of the script that has another form.
 abbrev pub IsScriptFault : List ℕ → Fault → Type 0
 IsScriptFault script fault = (line : ℕ) × (fault ≡ ScriptLine line) × ScriptOf script (Err (Line line))
 
--- the first fault of a script and link files, in this order, and of the reading of files that stopped after them
+-- The first fault of a script and link files, in this order, and of the reading of files that stopped after them.
 abbrev pub IsFirstFaultReplayed : List ℕ → List (List ℕ) → Option Fault → Fault → Type 0
 IsFirstFaultReplayed script inputs stopped fault =
     IsScriptFault script fault
     ⊎ (((events : List Event) × ScriptOf script (Ok events) × IsLinkFault inputs fault)
     ⊎ ((events : List Event) × (files : List LinkFile) × ScriptOf script (Ok events) × AreLinkFiles inputs files × (stopped ≡ Some fault)))
 
--- the lines are those of each run of so many systems that the net shows
+-- The lines are those of each run of so many systems that the net shows.
 abbrev pub AreWorldLines : ℕ → WorldState → List ℕ → Type 0
 AreWorldLines systems world lines =
     (run : Run) → IsWorldOf world run → length run.systems ≡ systems → lines ≡ replay_lines (map (λ (s : System). s.file) run.systems) run
 
--- what is answered where a net is to be printed
+-- The right result if a net is to be printed.
 abbrev pub PrintsWorld : ℕ → WorldState → Output → Output → Result Status Fault → Type 0
 PrintsWorld systems world old new answer =
     Answers (λ lines status. AreWorldLines systems world lines × (status ≡ Good)) (λ fault. ⊥) old new answer
 
--- what is answered where a script is to be replayed
+-- The right result if a script is to be replayed.
 abbrev pub ReplayAnswers : List ℕ → List (List ℕ) → Option Fault → Output → Output → Result Status Fault → Type 0
 ReplayAnswers script inputs stopped old new answer =
     Answers (λ lines status. IsReplayed script inputs lines status × (stopped ≡ None)) (IsFirstFaultReplayed script inputs stopped) old new answer

@@ -16,16 +16,16 @@ use Rattle.model_plan.specs.declared.plan.Move.TheVariants.{Deliver, Scan}
 use Rattle.model_why.specs.declared.shown.Shown.{Shown}
 use Rattle.cmd_print.specs.Checked.{verdict_line}
 
--- the line of the posting: its serial is 1, and its body is empty
+-- The line of the posting: its serial is 1, and its body is empty.
 abbrev pub post_line : ℕ → List ℕ → List ℕ
 post_line poster tag = codes "POST " ++ (decimal poster ++ (codes " " ++ (tag ++ codes " 00000001\n")))
 
--- the line of a move
+-- The line of a move.
 abbrev pub move_line : Move → List ℕ
 move_line (Scan system) = codes "SCAN " ++ (decimal system ++ codes "\n")
 move_line (Deliver packet) = codes "DELIVER " ++ (decimal packet ++ codes "\n")
 
--- the line of the harm that the message of this id does, as a note
+-- The line of the harm that the message of this id does, as a note.
 abbrev pub harm_line : List ℕ → Harm → List ℕ
 harm_line id (SentAgain a times) =
     codes "; " ++ (address_text a ++ (codes " is sent " ++ (id ++ (codes " " ++ (decimal times ++ codes " times\n")))))
@@ -33,51 +33,51 @@ harm_line id (SentOwn a) = codes "; " ++ (address_text a ++ (codes " is sent its
 harm_line id (NeverGets a) = codes "; " ++ (address_text a ++ (codes " never gets " ++ (id ++ codes "\n")))
 harm_line id NeverSettles = codes "; " ++ (id ++ codes " never comes to rest\n")
 
--- the lines of the run: the posting, the moves and the harm
+-- The lines of the run: the posting, the moves and the harm.
 abbrev pub shown_lines : List ℕ → Shown → List ℕ
 shown_lines tag shown = post_line shown.poster tag ++ (flat_map move_line shown.moves ++ harm_line shown.id shown.harm)
 
--- the lines after that of the verdict
+-- The lines after that of the verdict.
 abbrev pub found_lines : List ℕ → Verdict → Option Shown → List ℕ
 found_lines tag (Yes systems links) found = []
 found_lines tag (No fault) None = codes "; no harm found\n"
 found_lines tag (No fault) (Some shown) = shown_lines tag shown
 
--- the system that a move names
+-- The system that a move names.
 abbrev pub scanning : Move → List ℕ
 scanning (Scan system) = system ∷ []
 scanning (Deliver packet) = []
 
--- the systems that the script names, in its order
+-- The systems that the script names, in its order.
 abbrev pub named_in : Verdict → Option Shown → List ℕ
 named_in (Yes systems links) found = []
 named_in (No fault) None = []
 named_in (No fault) (Some shown) = shown.poster ∷ flat_map scanning shown.moves
 
--- the same, ascending, each once
+-- The same, ascending, each once.
 pub record AreNamed (verdict : Verdict) (found : Option Shown) (systems : List ℕ) : Type 0 where
   pub ascending : IsStrictlySortedBy nat_cmp systems
   pub members : (system : ℕ) → Contains systems system ↔ Contains (named_in verdict found) system
 
--- the path of a file, behind the address; none of a file that has no path
+-- The path of a file, after the address; empty for a file without a path.
 abbrev pub path_text : Option (List ℕ) → List ℕ
 path_text None = []
 path_text (Some path) = codes " " ++ printed_word path
 
--- the line that says which system has a number, and in which file, as a note
+-- The line that says which system has a number, and in which file, as a note.
 abbrev pub named_line : ℕ → Address → Option (List ℕ) → List ℕ
 named_line system address path = codes "; " ++ (decimal system ++ (codes " is " ++ (address_text address ++ (path_text path ++ codes "\n"))))
 
--- the same of a file; none of a number without a file
+-- The same of a file; empty for a number without a file.
 abbrev pub who_of : ℕ → Option LinkFile → Option (List ℕ) → List ℕ
 who_of system None path = []
 who_of system (Some file) path = named_line system file.system path
 
--- the same by the link files and their paths
+-- The same by the link files and their paths.
 abbrev pub who_line : List LinkFile → List (List ℕ) → ℕ → List ℕ
 who_line files paths system = who_of system (slice_get files system) (slice_get paths system)
 
--- all lines: that of the verdict, as a note, then those of the systems that the script names, and then the run
+-- All lines: that of the verdict, as a note, then those of the systems that the script names, and then the run.
 pub record AreWhyLines (files : List LinkFile) (paths : List (List ℕ)) (tag : List ℕ) (verdict : Verdict) (found : Option Shown) (lines : List ℕ) : Type 0 where
   pub systems : List ℕ
   pub are_named : AreNamed verdict found systems

@@ -18,10 +18,10 @@ use echo_net::Verdict;
 use echo_nodelist::Nodelist;
 use std::alloc::{AllocError, Global};
 
-/// `check [--nodelist LIST] TAG LINKS...`: prints whether the area of the tag, its letters made upper
-/// case, is in order on the net of these link files, and then which of its systems the nodelist does
-/// not hold. Of a faulty file nothing is printed; the first fault is answered, that of the nodelist
-/// before those of link files. `stopped` is why no further file was read, and comes last.
+/// `check [--nodelist LIST] TAG LINKS...`: prints whether the area of the tag, its letters made upper case, is in order
+/// on the net of these link files. Then it prints which of its systems the nodelist lacks. Of a faulty file nothing is
+/// printed. The first fault is returned, that of the nodelist before those of link files. `stopped` is why no further
+/// file was read, and comes last.
 pub fn check<'a, W: Sink>(
     alloc: Global,
     nodelist: Option<&[u8]>,

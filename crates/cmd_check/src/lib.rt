@@ -1,17 +1,17 @@
 //! The commands of `echonet` that judge an area of a net or try one out, as functions over bytes in and a sink out, for
-//! standard output. Each answers its status or a fault, and leaves no file.
+//! standard output. Each returns its status or a fault, and writes no file.
 //!
-//! The contract for the program: where a command ends well it wrote just its lines, and a 0 of `check` tells of every
-//! run on these link files; it refuses an input just where that has the fault; and standard output failed where the
-//! answer says so, and only there.
+//! The contract for the program: a command that ends well wrote just its lines, and a 0 of `check` holds for every run
+//! on these link files. A command refuses an input just if that has the fault. Standard output failed just if the
+//! result says so.
 //!
-//! Which lines are printed of a verdict or a drawing stands in the crate `cmd_print`, how a command ends in `cmd_status`.
+//! The crate `cmd_print` has the lines of a verdict or a drawing, and `cmd_status` how a command ends.
 //!
-//! Modules in reading order: `checking` (`check`: is an area in order), `area_tags` (which areas there are),
-//! `checking_all` (`check --all`: is each of them), `assuming` and `checking_assumed` (`check --assume`: is it, with
-//! systems that sent no file), `picturing` (`picture`: an area as a graph), `reasoning`, `why_text` and `who_text` (`why`:
-//! a run that goes wrong, its lines, and who is who in it), `picturing_why` (`picture --why`: the same, drawn),
-//! `replaying` and `replay_text` (`replay`: what becomes of a net, and its lines).
+//! Begin with `checking` (`check`: is an area in order). `area_tags` (which areas there are) and `checking_all` are for
+//! `check --all`. `assuming` and `checking_assumed` are for `check --assume`, with systems that sent no file.
+//! `picturing` (`picture`) draws an area as a graph. `reasoning`, `why_text` and `who_text` (`why`) print a run that
+//! goes wrong, and who is who in it. `picturing_why` (`picture --why`) draws such a run. `replaying` and `replay_text`
+//! (`replay`) print what becomes of a net.
 #![tactic(auto)]
 
 mod area_tags;

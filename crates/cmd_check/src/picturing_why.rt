@@ -15,11 +15,10 @@ use model_why::{crossings, explain};
 use std::alloc::{AllocError, Global};
 use std::hash::RandomState;
 
-/// `picture --why TAG LINKS...`: prints the graph that `picture` prints, with the run that `why` finds shown on
-/// it: a link by which the message comes to the system that the harm names has as its label the numbers of the
-/// events that send it, of which the posting is the first. It has the status that `check` has. Of a faulty file
-/// nothing is printed; the first fault is answered. `stopped` is why no further file was read, and comes last.
-/// Look-ups go by the hasher.
+/// `picture --why TAG LINKS...`: prints the graph that `picture` prints, with the run that `why` finds shown on it. A
+/// link by which the message reaches the system of the harm is labelled with the numbers of the events that send it.
+/// The posting is the first of these. The status is that of `check`. Of a faulty file nothing is printed; the first
+/// fault is returned. `stopped` is why no further file was read, and comes last. Look-ups go by the hasher.
 pub fn picture_why<'a, W: Sink>(
     alloc: Global,
     tag: &[u8],

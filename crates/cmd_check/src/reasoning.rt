@@ -16,13 +16,12 @@ use model_why::{Shown, explain};
 use std::alloc::Global;
 use std::hash::RandomState;
 
-/// `why TAG LINKS...`: prints what `check` finds of the area of the tag, its letters made upper case, as a
-/// note, and then, where that is no and one is found, the events of a run on the net of these link files that
-/// goes wrong, as a script for `replay`, and what goes wrong. Before the events a note for each system that they
-/// name has its address and the path of its file; a file behind the last path has none. By V3, V5, V7 and V8 one is found that breaks the
-/// promise, and by V4 one of any kind where no file has the address. It has the status that `check` has. Of a
-/// faulty file nothing is printed; the first fault is answered. `stopped` is why no further file was read, and
-/// comes last. Look-ups go by the hasher.
+/// `why TAG LINKS...`: prints the verdict of `check` on the area of the tag, its letters made upper case, as a note. If
+/// that is no and a run is found, it prints the events of a run on these link files that goes wrong, as a script for
+/// `replay`, and the harm. Before the events a note for each system in them has its address and the path of its file; a
+/// file after the last path has none. By V3, V5, V7 and V8 a run is found that breaks the promise, and by V4 one of any
+/// kind if no file has the address. The status is that of `check`. Of a faulty file nothing is printed; the first fault
+/// is returned. `stopped` is why no further file was read, and comes last. Look-ups go by the hasher.
 pub fn why<'a, W: Sink>(
     alloc: Global,
     tag: &[u8],
@@ -60,7 +59,7 @@ fn why_read<'a, W: Sink>(
     print_why(alloc, links, paths, tag, &verdict, found.as_ref(), out)
 }
 
-// Prints the verdict and what is shown beside it. The status is that of the verdict.
+// Prints the verdict and the run that was found. The status is that of the verdict.
 fn print_why<'a, W: Sink>(
     alloc: Global,
     links: &[LinkFile],

@@ -16,11 +16,11 @@ use model_run::Event;
 use std::alloc::Global;
 use std::hash::RandomState;
 
-/// `replay SCRIPT LINKS...`: prints what each system of the net of these link files has filed in each of
-/// its areas, and what waits there, after the events of the script; then how many packets were made and
-/// not delivered, and whether the net has settled. Of a faulty input nothing is printed; the first fault
-/// is answered, that of the script before those of link files. `stopped` is why no further file was
-/// read, and comes last. Look-ups go by the hasher, and `told` hears of each event once it happened.
+/// `replay SCRIPT LINKS...`: prints how many messages each system of the net has filed in each of its areas, and how
+/// many wait there, after the events of the script. Then it prints how many packets were made and not delivered, and
+/// whether the net has settled. Of a faulty input nothing is printed. The first fault is returned, that of the script
+/// before those of link files. `stopped` is why no further file was read, and comes last. Look-ups go by the hasher,
+/// and `told` receives each event once it happened.
 pub fn replay<'a, T: ReplayProgress, W: Sink>(
     alloc: Global,
     script: &[u8],

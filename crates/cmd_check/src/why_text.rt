@@ -18,8 +18,8 @@ use model_why::{Harm, Shown};
 use std::alloc::{AllocError, Global};
 use std::io::Write;
 
-/// Adds the verdict on the area with this tag, as a note, and, where that is no, who is who in the run that was
-/// found, its events and its harm.
+/// Adds the verdict on the area with this tag, as a note. If that is no, it adds who is who in the run that was found,
+/// its events and its harm.
 pub(crate) fn push_why(
     alloc: Global,
     lines: &mut Vec<u8>,

@@ -11,93 +11,93 @@ use Rattle.echo_export.specs.Label.{without_zeros}
 use Rattle.cmd_print.specs.declared.list_form.ListForm.{ListForm}
 use Rattle.cmd_print.specs.declared.list_form.ListForm.TheVariants.{Short, Whole}
 
--- where a message came from: it was posted here, or this system sent it
+-- Where a message came from: it was posted here, or this system sent it.
 abbrev pub origin_text : Option Address → List ℕ
 origin_text None = codes " posted"
 origin_text (Some a) = codes " from " ++ address_text a
 
--- whether nothing is left of a message's text but its id
+-- Whether nothing is left of a message's text but its id.
 abbrev pub is_purged : Filed → Bool
 is_purged m = is_some (msgid_of m.echo.kept) && is_stub m
 
--- how a message's first line ends: whether it waits for a scan, or was scanned and has nothing but its id
+-- How a message's first line ends: whether it waits for a scan, or was scanned and has nothing but its id.
 abbrev pub mark_text : Bool → Bool → List ℕ
 mark_text true short = codes " waiting\n"
 mark_text false true = codes " purged\n"
 mark_text false false = codes "\n"
 
--- the first line of the message of this number
+-- The first line of the message of this number.
 abbrev pub head_text : ℕ → ℕ → Filed → List ℕ
 head_text cursor i m =
     codes "message " ++ (decimal i ++ (codes " area " ++ (m.echo.tag ++ (origin_text m.sender ++ mark_text (nat_le cursor i) (is_purged m)))))
 
--- the lines of its DateTime, names and subject
+-- The lines of its DateTime, names and subject.
 abbrev pub fields_text : Filed → List ℕ
 fields_text m =
     escaped_line (codes "date") m.date
     ++ (escaped_line (codes "to") m.to_name ++ (escaped_line (codes "from") m.from_name ++ escaped_line (codes "subject") m.subject))
 
--- a line for each kept line, and how many entries SEEN-BY and PATH have
+-- A line for each kept line, and how many entries SEEN-BY and PATH have.
 abbrev pub echo_text : EchoText → List ℕ
 echo_text e =
     flat_map (λ line. escaped_line (codes "line") line) e.kept
     ++ (codes "seen " ++ (decimal (length e.seen) ++ (codes " path " ++ (decimal (length e.path) ++ codes "\n"))))
 
--- the lines of the message of this number
+-- The lines of the message of this number.
 abbrev pub message_text : ℕ → ℕ → Filed → List ℕ
 message_text cursor i m = head_text cursor i m ++ (fields_text m ++ echo_text m.echo)
 
--- a part of a line, and the bar behind it
+-- A part of a line, and the bar behind it.
 abbrev pub short_part : List ℕ → List ℕ
 short_part part = part ++ codes " | "
 
--- DateTime, names and subject in one line
+-- DateTime, names and subject in one line.
 abbrev pub short_fields : Filed → List ℕ
 short_fields m = short_part (without_zeros m.date) ++ (short_part m.from_name ++ (short_part m.to_name ++ short_part m.subject))
 
--- how such a line ends: whether the message waits for a scan, or was scanned and has nothing but its id
+-- How such a line ends: whether the message waits for a scan, or was scanned and has nothing but its id.
 abbrev pub short_mark : Bool → Bool → List ℕ
 short_mark true short = codes " | waiting"
 short_mark false true = codes " | purged"
 short_mark false false = []
 
--- what the line has behind the number
+-- What the line has behind the number.
 abbrev pub short_parts : ℕ → ℕ → Filed → List ℕ
 short_parts cursor i m = short_fields m ++ (m.echo.tag ++ short_mark (nat_le cursor i) (is_purged m))
 
--- the one line of the message of this number
+-- The one line of the message of this number.
 abbrev pub short_text : ℕ → ℕ → Filed → List ℕ
 short_text cursor i m = escaped_line (decimal i) (short_parts cursor i m)
 
--- the message of this number in a form
+-- The message of this number in a form.
 abbrev pub listed_text : ListForm → ℕ → ℕ → Filed → List ℕ
 listed_text Whole cursor i m = message_text cursor i m
 listed_text Short cursor i m = short_text cursor i m
 
--- whether this is the tag that is asked for, if one is
+-- Whether this is the tag that is asked for, if one is.
 abbrev pub is_of_area : Option (List ℕ) → List ℕ → Bool
 is_of_area None tag = true
 is_of_area (Some area) tag = bytes_eq tag area
 
--- whether the message of this number is asked for
+-- Whether the message of this number is asked for.
 abbrev pub is_asked : Option (List ℕ) → ℕ → ℕ → Filed → Bool
 is_asked area first i m = nat_le first i && is_of_area area m.echo.tag
 
--- what is printed of the message of this number, if there is one
+-- The printed text of the message of this number, if there is one.
 abbrev pub asked_text : ListForm → Option (List ℕ) → ℕ → ℕ → ℕ → Option Filed → List ℕ
 asked_text form area first cursor i None = []
 asked_text form area first cursor i (Some m) = if is_asked area first i m then listed_text form cursor i m else []
 
--- the lines of the messages asked for among the first so many of a base
+-- The lines of the messages asked for among the first so many of a base.
 abbrev pub messages_text : ListForm → Option (List ℕ) → ℕ → List Filed → ℕ → ℕ → List ℕ
 messages_text form area first base cursor count =
     flat_map (λ i. asked_text form area first cursor i (slice_get base i)) (range_with_len 0 count)
 
--- how many messages the base has, and how many of them wait
+-- How many messages the base has, and how many of them wait.
 abbrev pub total_text : ℕ → ℕ → List ℕ
 total_text messages waiting = codes "end " ++ (decimal messages ++ (codes " messages, " ++ (decimal waiting ++ codes " waiting\n")))
 
--- all lines of a base
+-- All lines of a base.
 abbrev pub base_text : ListForm → Option (List ℕ) → ℕ → List Filed → ℕ → List ℕ
 base_text form area first base cursor =
     messages_text form area first base cursor (length base) ++ total_text (length base) (length base - cursor)

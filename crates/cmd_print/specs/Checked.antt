@@ -15,41 +15,41 @@ use Rattle.echo_net.specs.declared.verdict.Verdict.TheVariants.{Yes, No}
 use Rattle.echo_net.specs.Absent.{IsAbsent}
 use Rattle.echo_net.specs.Printed.{fault_text}
 
--- an area in order, with how many systems and links it has; the tag is printed as a word is
+-- An area in order, with how many systems and links it has; the tag is printed as a word is.
 abbrev pub yes_text : List ℕ → ℕ → ℕ → List ℕ
 yes_text tag systems links =
     codes "yes " ++ (printed_word tag ++ (codes " " ++ (decimal systems ++ (codes " systems " ++ (decimal links ++ codes " links")))))
 
--- a verdict
+-- A verdict.
 abbrev pub verdict_text : List ℕ → Verdict → List ℕ
 verdict_text tag (Yes systems links) = yes_text tag systems links
 verdict_text tag (No fault) = codes "no " ++ (printed_word tag ++ (codes " " ++ fault_text fault))
 
--- its line
+-- Its line.
 abbrev pub verdict_line : List ℕ → Verdict → List ℕ
 verdict_line tag verdict = verdict_text tag verdict ++ codes "\n"
 
--- the word for why a nodelist does not hold a system
+-- The word for why a nodelist does not hold a system.
 abbrev pub absence_word : Absence → List ℕ
 absence_word Missing = codes "unlisted "
 absence_word Down = codes "down "
 
--- the line of a system that a nodelist does not hold
+-- The line of a system that a nodelist does not hold.
 abbrev pub absence_line : Address × Absence → List ℕ
 absence_line (a, why) = absence_word why ++ (address_text a ++ codes "\n")
 
--- just the carriers that the nodelist does not hold, ascending, with why
+-- Just the carriers that the nodelist does not hold, ascending, with why.
 pub record AreAbsent (files : List LinkFile) (tag : List ℕ) (list : List Line) (absent : List (Address × Absence)) : Type 0 where
   pub ascending : AllPairs (λ (one later : Address × Absence). address_before one.0 later.0 ≡ true) absent
   pub members : (a : Address) (why : Absence) → Contains absent (a, why) ↔ (Carries files tag a × IsAbsent list a why)
 
--- their lines; none where no nodelist was given
+-- Their lines; none where no nodelist was given.
 abbrev pub AbsencesShown : List LinkFile → List ℕ → Option (List Line) → List ℕ → Type 0
 AbsencesShown files tag None lines = lines ≡ []
 AbsencesShown files tag (Some list) lines =
     (absent : List (Address × Absence)) × AreAbsent files tag list absent × (lines ≡ flat_map absence_line absent)
 
--- the line of the verdict, and then those of the systems that the nodelist does not hold
+-- The line of the verdict, and then those of the systems that the nodelist does not hold.
 pub record CheckShown (files : List LinkFile) (tag : List ℕ) (list : Option (List Line)) (verdict : Verdict) (lines : List ℕ) : Type 0 where
   pub absent : List ℕ
   pub shown : AbsencesShown files tag list absent

@@ -15,72 +15,72 @@ use Rattle.echo_net.specs.declared.drawing.Sides.TheVariants.{Both, First, Secon
 use Rattle.echo_net.specs.declared.verdict.Verdict.{Verdict}
 use Rattle.cmd_print.specs.Checked.{verdict_text}
 
--- a byte between double quotes: these and the backslash after a backslash
+-- A byte between double quotes: these and the backslash after a backslash.
 abbrev pub quoted_byte : ℕ → List ℕ
 quoted_byte b = if b == 34 || b == 92 then 92 ∷ b ∷ [] else b ∷ []
 
--- bytes in double quotes
+-- Bytes in double quotes.
 abbrev pub quoted : List ℕ → List ℕ
 quoted bytes = codes "\"" ++ (flat_map quoted_byte bytes ++ codes "\"")
 
--- an address that is no carrier is dotted
+-- An address that is no carrier is dotted.
 abbrev pub carrier_marks : Bool → List ℕ
 carrier_marks true = []
 carrier_marks false = codes " [style=dotted]"
 
--- a system that the verdict names is red, one on the loop that it names red and thick
+-- A system that the verdict names is red, one on the loop that it names red and thick.
 abbrev pub system_marks : Mark → List ℕ
 system_marks Plain = []
 system_marks Named = codes " [color=red]"
 system_marks OnLoop = codes " [color=red, penwidth=3]"
 
--- the line of a system
+-- The line of a system.
 abbrev pub system_line : DrawnSystem → List ℕ
 system_line s =
     codes "\"" ++ (address_text s.system ++ (codes "\"" ++ (carrier_marks s.carries ++ (system_marks s.mark ++ codes ";\n"))))
 
--- a link that one side lists is red and dashed, with an arrow from this side
+-- A link that one side lists is red and dashed, with an arrow from this side.
 abbrev pub side_marks : Sides → List ℕ
 side_marks Both = []
 side_marks First = codes " [color=red, style=dashed, dir=forward]"
 side_marks Second = codes " [color=red, style=dashed, dir=back]"
 
--- a link of the loop is red and thick
+-- A link of the loop is red and thick.
 abbrev pub loop_marks : Bool → List ℕ
 loop_marks true = codes " [color=red, penwidth=3]"
 loop_marks false = []
 
--- the two ends of a link
+-- The two ends of a link.
 abbrev pub ends_text : DrawnLink → List ℕ
 ends_text l = codes "\"" ++ (address_text l.one ++ (codes "\" -- \"" ++ (address_text l.other ++ codes "\"")))
 
--- whether a message crosses this link, either way
+-- Whether a message crosses this link, either way.
 abbrev pub is_at : DrawnLink → Crossing → Bool
 is_at l c = (same_address c.from l.one && same_address c.to l.other) || (same_address c.from l.other && same_address c.to l.one)
 
--- the steps at which messages cross the link
+-- The steps at which messages cross the link.
 abbrev pub steps_at : DrawnLink → List Crossing → List ℕ
 steps_at l crossings = map (λ c. c.step) (filter (is_at l) crossings)
 
--- a step after another
+-- A step after another.
 abbrev pub later_step : ℕ → List ℕ
 later_step n = codes "," ++ decimal n
 
--- the steps are the label
+-- The steps are the label.
 abbrev pub steps_label : List ℕ → List ℕ
 steps_label [] = []
 steps_label (n ∷ later) = codes " [label=\"" ++ (decimal n ++ (flat_map later_step later ++ codes "\"]"))
 
--- the line of a link
+-- The line of a link.
 abbrev pub link_line : List Crossing → DrawnLink → List ℕ
 link_line crossings l =
     ends_text l ++ (side_marks l.sides ++ (loop_marks l.on_loop ++ (steps_label (steps_at l crossings) ++ codes ";\n")))
 
--- the lines before the systems: the tag is the name of the graph, the verdict its label
+-- The lines before the systems: the tag is the name of the graph, the verdict its label.
 abbrev pub head_lines : List ℕ → Verdict → List ℕ
 head_lines tag verdict = codes "graph " ++ (quoted (printed_word tag) ++ (codes " {\nlabel=" ++ (quoted (verdict_text tag verdict) ++ codes ";\n")))
 
--- all lines, of a drawing whose links these messages cross
+-- All lines of a drawing, with the messages that cross its links.
 abbrev pub picture_lines : List ℕ → Verdict → Drawing → List Crossing → List ℕ
 picture_lines tag verdict drawing crossings =
     head_lines tag verdict ++ (flat_map system_line drawing.systems ++ (flat_map (link_line crossings) drawing.links ++ codes "}\n"))

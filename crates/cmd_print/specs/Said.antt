@@ -6,44 +6,44 @@ use Rattle.echo_text.specs.Echo.{EchoOf, EchoText, msgid_of, origin_of, reply_of
 use Rattle.echo_text.specs.Refusal.{text_refusal}
 use Rattle.echo_charset.specs.Escaped.{escaped_line}
 
--- the line of the tag, which is printed as it stands
+-- The line of the tag, which is printed unchanged.
 abbrev pub area_line : List ℕ → List ℕ
 area_line tag = codes "area " ++ (tag ++ codes "\n")
 
--- the line of what was found, and none where nothing was
+-- The line of a part that was found, or no line if it was not.
 abbrev pub found_line : List ℕ → Option (List ℕ) → List ℕ
 found_line word None = []
 found_line word (Some bytes) = escaped_line word bytes
 
--- the line of how many entries SEEN-BY and PATH have, and how many of their tokens are none
+-- The line of how many entries SEEN-BY and PATH have, and how many of their tokens are none.
 abbrev pub counts_line : ℕ → ℕ → ℕ → List ℕ
 counts_line seen path dropped =
     codes "seen " ++ (decimal seen ++ (codes " path " ++ (decimal path ++ (codes " dropped " ++ (decimal dropped ++ codes "\n")))))
 
--- the lines of the id, the id replied to, the tear and the origin line
+-- The lines of the id, the id replied to, the tear and the origin line.
 abbrev pub found_lines : List (List ℕ) → List ℕ
 found_lines kept =
     found_line (codes "msgid") (msgid_of kept) ++ (found_line (codes "reply") (reply_of kept)
     ++ (found_line (codes "tear") (tear_of kept) ++ found_line (codes "origin") (origin_of kept)))
 
--- the lines of what an echomail text says
+-- The lines of what an echomail text says.
 abbrev pub echo_lines : EchoText → ℕ → List ℕ
 echo_lines e dropped = area_line e.tag ++ (found_lines e.kept ++ counts_line (length e.seen) (length e.path) dropped)
 
--- the lines are those of what the text says
+-- The lines are those of what the text says.
 pub record IsEchoShown (text lines : List ℕ) : Type 0 where
   pub echo : EchoText
   pub dropped : ℕ
   pub said : EchoOf text echo dropped
   pub whole : lines ≡ echo_lines echo dropped
 
--- the lines of a text to which this text_refusal applies, if any
+-- The lines of a text to which this text_refusal applies, if any.
 abbrev pub LinesFor : Option TextFault → List ℕ → List ℕ → Type 0
 LinesFor None text lines = IsEchoShown text lines
 LinesFor (Some NotEcho) text lines = lines ≡ codes "not echomail\n"
 LinesFor (Some BadTag) text lines = lines ≡ codes "bad tag\n"
 LinesFor (Some _) text lines = ⊥
 
--- the lines of a text: of what it says as echomail, or why it is none
+-- The lines of a text: of what it says as echomail, or why it is none.
 abbrev pub TextShown : List ℕ → List ℕ → Type 0
 TextShown text lines = LinesFor (text_refusal text) text lines

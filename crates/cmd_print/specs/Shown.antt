@@ -10,94 +10,94 @@ use Rattle.echo_charset.specs.Escaped.{escaped_line}
 use Rattle.echo_text.specs.Lines as text_lines
 use Rattle.cmd_print.specs.Said.{TextShown}
 
--- a number in decimal, with leading zeros where it has fewer digits than asked for
+-- A number in decimal, with leading zeros where it has fewer digits than asked for.
 unfoldable pub zero_padded : ℕ → ℕ → List ℕ
 zero_padded digits n = replicate (digits - length (decimal n)) 48 ++ decimal n
 
--- the day of the header, its month counted from 1
+-- The day of the header, its month counted from 1.
 abbrev pub date : Header → List ℕ
 date h = zero_padded 4 h.year ++ (codes "-" ++ (zero_padded 2 (h.month + 1) ++ (codes "-" ++ zero_padded 2 h.day)))
 
--- the time of day of the header
+-- The time of day of the header.
 abbrev pub time : Header → List ℕ
 time h = zero_padded 2 h.hour ++ (codes ":" ++ (zero_padded 2 h.minute ++ (codes ":" ++ zero_padded 2 h.second)))
 
--- the end of the first line: the product and the serial number of its release
+-- The end of the first line: the product and the serial number of its release.
 abbrev pub product : Header → List ℕ
 product h = codes " product " ++ (decimal h.prod_code ++ (codes " serial " ++ (decimal h.serial_no ++ codes "\n")))
 
--- the systems that the header names
+-- The systems that the header names.
 abbrev pub named_sender : Header → Address
 named_sender h = record { zone = h.orig_zone; net = h.orig_net; node = h.orig_node }
 
 abbrev pub named_receiver : Header → Address
 named_receiver h = record { zone = h.dest_zone; net = h.dest_net; node = h.dest_node }
 
--- from which system to which
+-- From which system to which.
 abbrev pub named_systems : Header → List ℕ
 named_systems h = codes "packet " ++ (address_text (named_sender h) ++ (codes " to " ++ address_text (named_receiver h)))
 
--- the line of the two systems, the moment and the product
+-- The line of the two systems, the moment and the product.
 abbrev pub packet_line : Header → List ℕ
 packet_line h = named_systems h ++ (codes " at " ++ (date h ++ (codes " " ++ (time h ++ product h))))
 
--- the three lines of a header
+-- The three lines of a header.
 abbrev pub header_lines : Header → List ℕ
 header_lines h =
     packet_line h ++ (codes "password " ++ (encode_lower h.password ++ (codes "\nfill " ++ (encode_lower h.fill ++ codes "\n"))))
 
--- net/node
+-- net/node.
 abbrev pub net_node : ℕ → ℕ → List ℕ
 net_node net node = decimal net ++ (codes "/" ++ decimal node)
 
--- from which system to which a message goes
+-- From which system to which a message goes.
 abbrev pub route : Message → List ℕ
 route m = net_node m.orig_net m.orig_node ++ (codes " to " ++ net_node m.dest_net m.dest_node)
 
--- a message's number and the place where it begins
+-- A message's number and the place where it begins.
 abbrev pub message_number : ℕ → ℕ → List ℕ
 message_number number place = codes "message " ++ (decimal number ++ (codes " at " ++ (decimal place ++ codes ": ")))
 
--- a message's attribute word and its cost
+-- A message's attribute word and its cost.
 abbrev pub costing : Message → List ℕ
 costing m = codes " attribute " ++ (decimal m.attribute ++ (codes " cost " ++ (decimal m.cost ++ codes "\n")))
 
--- the line of a message's number, the place where it begins, its systems and numbers
+-- The line of a message's number, the place where it begins, its systems and numbers.
 abbrev pub message_line : ℕ → ℕ → Message → List ℕ
 message_line number place m = message_number number place ++ (route m ++ costing m)
 
--- the line of the length of a text
+-- The line of the length of a text.
 abbrev pub text_line : ℕ → List ℕ
 text_line n = codes "text " ++ (decimal n ++ codes " bytes\n")
 
--- the lines of a message, but for those of what its text says
+-- The lines of a message without those of its text.
 abbrev pub message_lines : ℕ → ℕ → Message → List ℕ
 message_lines number place m =
     message_line number place m ++ (escaped_line (codes "date") m.date ++ (escaped_line (codes "to") m.to_name
     ++ (escaped_line (codes "from") m.from_name ++ (escaped_line (codes "subject") m.subject ++ text_line (length m.text)))))
 
--- a line for each line of a text, if they are asked for
+-- A line for each line of a text, if they are asked for.
 abbrev pub whole_text : Bool → List ℕ → List ℕ
 whole_text full text = if full then flat_map (λ line. escaped_line (codes "line") line) (text_lines.lines text) else []
 
--- the lines of a message, those of its text among them if they are asked for, and of what that says
+-- The lines of a message, those of its text among them if they are asked for, and of what that says.
 pub record MessageShown (full : Bool) (number place : ℕ) (m : Message) (lines : List ℕ) : Type 0 where
   pub said : List ℕ
   pub text : TextShown m.text said
   pub whole : lines ≡ message_lines number place m ++ (whole_text full m.text ++ said)
 
--- the lines of messages, of which the first has this number and begins at this place
+-- The lines of messages, of which the first has this number and begins at this place.
 abbrev pub MessagesShown : Bool → ℕ → ℕ → List Message → List ℕ → Type 0
 MessagesShown full number place [] lines = lines ≡ []
 MessagesShown full number place (m ∷ ms) lines =
     (first : List ℕ) × (later : List ℕ) × MessageShown full number place m first
     × MessagesShown full (number + 1) (place + length (message_bytes m)) ms later × (lines ≡ first ++ later)
 
--- the line after the last message
+-- The line after the last message.
 abbrev pub end_line : ℕ → ℕ → List ℕ
 end_line messages bytes = codes "end " ++ (decimal messages ++ (codes " messages, " ++ (decimal bytes ++ codes " bytes\n")))
 
--- the lines for a packet of n bytes: its messages begin after the 58 bytes of the header
+-- The lines for a packet of n bytes: its messages begin after the 58 bytes of the header.
 pub record Shown (full : Bool) (h : Header) (ms : List Message) (n : ℕ) (lines : List ℕ) : Type 0 where
   pub of_messages : List ℕ
   pub each : MessagesShown full 1 58 ms of_messages

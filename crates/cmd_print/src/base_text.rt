@@ -12,9 +12,8 @@ use echo_text::{Echo, Lines, split_line};
 use std::alloc::AllocError;
 use std::io::Write;
 
-/// Adds the lines of the message with this index in its base: its head, which says that it waits where the
-/// index is not below `cursor`, DateTime, names and subject, its kept lines, and how many entries SEEN-BY
-/// and PATH have.
+/// Adds the lines of the message with this index in its base: its head, DateTime, names and subject, its kept lines,
+/// and how many entries SEEN-BY and PATH have. The head says that the message waits if the index is not below `cursor`.
 pub(crate) fn push_message(
     lines: &mut Vec<u8>,
     cursor: usize,

@@ -1,13 +1,13 @@
 //! What the commands of `echonet` print, as lines that are added to a text.
 //!
-//! The contract for the layers above: a call that ends well added just the lines that the definitions in
-//! specs/ give for the value, behind what stood in the text. One that lacked memory may have added a part of
-//! them. Nothing is written here, and no function knows of faults or of a status: that is with the commands.
+//! The contract for the layers above: a call that ends well added just the lines that the definitions in specs/ give
+//! for the value, at the end of the text. A call that lacked memory may have added a part of them. Nothing is written
+//! here, and no function knows of faults or of a status: the commands do that.
 //!
-//! Modules in reading order: `show_text` and `said` (a packet, and what a text says), `nodelist_text` (a
-//! nodelist), `verdict_text` (a verdict, and the systems that a nodelist does not hold), `picture_text` (an area
-//! as a graph), `base_text` and `list_form` (the messages of a base). What the commands print that change a base is with
-//! these, what became of a net with `replay`, and a run that goes wrong with `why`.
+//! Begin with `show_text` and `said` (a packet, and the parts of a text). `nodelist_text` prints a nodelist, and
+//! `verdict_text` a verdict, and the systems that a nodelist lacks. `picture_text` prints an area as a graph, and
+//! `base_text` and `list_form` the messages of a base. The crates of the commands that change a base, of `replay` and
+//! of `why` have their lines.
 #![tactic(auto)]
 
 mod base_text;

@@ -7,8 +7,8 @@ use echo_text::EchoView;
 use std::alloc::AllocError;
 use std::io::Write;
 
-/// Adds the lines of what an echomail text says, of whose SEEN-BY and PATH lines so many tokens are no
-/// entries: its tag, ids, tear and origin line, and the numbers of entries.
+/// Adds the lines of an echomail text: its tag, ids, tear and origin line, and the numbers of entries. So many tokens
+/// of its SEEN-BY and PATH lines are no entries.
 pub fn push_echo(lines: &mut Vec<u8>, echo: &EchoView, dropped: usize) -> Result<(), AllocError>
     ensures { OnOk result (lines.new.items ≡ lines.old.items ++ echo_lines echo.now dropped) }
 {
@@ -38,7 +38,7 @@ fn push_found_lines(lines: &mut Vec<u8>, echo: &EchoView) -> Result<(), AllocErr
     Ok(())
 }
 
-// Adds the line of what was found, if anything was.
+// Adds the line of a part that was found, if it was.
 fn push_found(lines: &mut Vec<u8>, word: &[u8], found: Option<&[u8]>) -> Result<(), AllocError>
     ensures { OnOk result (lines.new.items ≡ lines.old.items ++ found_line word.now (option_copied found.entry)) }
 {

@@ -12,8 +12,8 @@ use disk_io::Sink;
 use echo_export::Form;
 use std::collections::hash_map::RandomState;
 
-/// `list [--short | --areas] [--area TAG] [--from I] BASE`: the number is judged first, then the base, of a folder what
-/// is asked for. A seed for the hasher that cannot be had is a failed read.
+/// `list [--short | --areas] [--area TAG] [--from I] BASE`: it judges the number first, then the base. Of a folder it
+/// reads only the messages asked for. A missing seed for the hasher is a failed read.
 pub fn run_list<'a, W: Sink>(
     rt: &HostRuntime,
     words: &ListWords<'a>,

@@ -1,10 +1,11 @@
-//! `export --jam`: messages of a base added to the four files of a JAM base. The file of headers is locked from before
-//! anything is read until the last write, so that two runs at once add each message once.
+//! `export --jam`: messages of a base added to the four files of a JAM base. The file of headers is locked from the
+//! first read until the last write, so that two runs at once add each message once.
 //!
-//! What is added is written in this order, each flushed before the next: texts, headers, index, and then the counts and
-//! what earlier headers name as replies. A reader sees just what the index names. So wherever a run is stopped, there
-//! stands a base with the first of its messages, and what is left behind the last of them is seen by nobody; only the
-//! number of active messages may be too small, until the next run, and earlier headers may not name the last replies.
+//! The new bytes are written in this order, each flushed before the next: texts, headers and index. Then come the
+//! counts and the replies that earlier headers name. A reader sees just the messages of the index. So a run that is
+//! stopped anywhere leaves a base with the first of its messages, and no reader sees the bytes after the last of them.
+//! Only the number of active messages may be too small until the next run, and earlier headers may not name the last
+//! replies.
 
 use crate::locked::{begun_again, locked_headers};
 use crate::named::{bytes_of, jam_fault, open_file, open_or_make, write_at};
@@ -42,8 +43,8 @@ struct JamFiles {
     text: Vec<u8>,
 }
 
-/// `export --jam PATH --area TAG [--from I] BASE`: the number is judged first, then that the base can be read, then the
-/// JAM base, which is locked before the base is read, and what the base holds last.
+/// `export --jam PATH --area TAG [--from I] BASE`: it judges the number first, then whether the base can be read, then
+/// the JAM base, and last the messages of the base. The JAM base is locked before the base is read.
 pub fn run_export_jam<W: Sink, E: Sink>(
     rt: &HostRuntime,
     words: &ExportWords<'_>,
@@ -166,8 +167,8 @@ fn last_text(
     Ok(text)
 }
 
-// Writes what is added. Where nothing is, the count of active messages is right and the index ends with no entry of
-// zeros, no byte changes.
+// Writes the new bytes. No byte changes if there are none, the count of active messages is right, and the index ends
+// without an entry of zeros.
 fn write_jam(rt: &HostRuntime, files: &JamFiles, exported: &JamExport) -> io::Result<()> {
     let standing = files.standing;
     let added = exported.adding.messages.len();

@@ -2,13 +2,13 @@
 //! `replay`, each on the files that its words name. `export --msg` and `export --jam` write files for readers, and
 //! `resend` a packet.
 //!
-//! They are proved to be safe and to end, and no more. What they print and write is promised by the crates that they call.
+//! They are proved to be safe and to end, and no more. The crates that they call promise what they print and write.
 //!
-//! Modules in reading order: `printing` (what files hold: `show`, `nodelist`), `judging` (`links`, which goes on if a
-//! file cannot be used), `nets` (`check`, `why`, `picture`, `replay`), `files` (a base file that is read while a terminal
-//! shows how far that is), `listing` (`list` and `export` of a folder) and `bases` (`list`, `export`). For `export --msg`
-//! and `--jam`: `making` (new files), `stored` (a file for each message), `named` (files of a JAM base, no links),
-//! `locked` (a JAM base is begun, and locked) and `jam`. Then `resending`.
+//! Begin with `printing` (the content of files: `show`, `nodelist`). `judging` has `links`, which goes on if a file
+//! cannot be used, and `nets` has `check`, `why`, `picture` and `replay`. `files` reads a base file while a terminal
+//! shows the progress. `bases` and `listing` have `list` and `export`, for a base file and for a folder. For `export
+//! --msg` and `--jam`: `making` (new files), `stored` (a file for each message), `named` (files of a JAM base, no
+//! links), `locked` (a JAM base is begun, and locked) and `jam`. `resending` has `resend`.
 #![tactic(auto)]
 
 mod bases;

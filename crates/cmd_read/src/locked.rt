@@ -16,8 +16,8 @@ const HEADERS_KNOWN_BY: usize = 4;
 /// How long the fixed header is.
 const FIXED: usize = 1024;
 
-/// The headers of the JAM base with this path, open and locked. Where there are none it is begun, once the base whose
-/// messages it is to have can be read.
+/// The headers of the JAM base with this path, open and locked. If it does not exist, it is begun, after the base with
+/// its messages is found to be readable.
 pub(crate) fn locked_headers<'a>(
     rt: &HostRuntime,
     path: &'a str,
@@ -65,8 +65,8 @@ fn begin_alone<'a>(
     begun
 }
 
-// Begins a JAM base. The file of headers comes last and at once, when the names of the others are on the disk, since by
-// it readers know that a base is there.
+// Begins a JAM base. The file of headers comes last and in one step, when the names of the others are on the disk.
+// Readers know by it that there is a base.
 fn begin_jam<'a>(
     rt: &HostRuntime,
     path: &'a str,
@@ -84,8 +84,7 @@ fn begin_jam<'a>(
     make_file(rt, making).map_err(|fault| output_fault(fault, path))
 }
 
-// Makes the files beside that of the headers, where they are not there, and flushes their folder. Of a base that is
-// new the index has no bytes.
+// Makes the other files, if they are missing, and flushes their folder. The index of a new base has no bytes.
 fn make_others<'a>(rt: &HostRuntime, path: &'a str, is_new: bool) -> Result<(), Fault<'a>> {
     let index = open_or_make(rt, path, ".jdx").map_err(|error| jam_fault(&error, path))?;
     match index.metadata() {

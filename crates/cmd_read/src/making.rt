@@ -8,8 +8,8 @@ use std::io::ErrorKind;
 use std::os::unix::fs::MetadataExt;
 use std::{fs, io};
 
-/// A file that is to be made: its path, that of the file beside it, its bytes, and how many of these show that a file of
-/// another user is one of its kind.
+/// A file to make: its path, its staging path and its bytes. The first `known_by` bytes show whether a file of another
+/// user is of its kind.
 #[derive(Clone, Copy)]
 pub(crate) struct Making<'a> {
     pub(crate) path: &'a str,
@@ -18,9 +18,9 @@ pub(crate) struct Making<'a> {
     pub(crate) known_by: usize,
 }
 
-/// Makes a file. The bytes go to the file beside it, are flushed to the disk, and get the name at once. The disk has the name
-/// then, so that of files that are made in turn a power cut leaves the first ones. That something has the path already is a
-/// fault, and that stays.
+/// Makes a file. The bytes go to the staging file, are flushed to the disk, and get the name in one step. Then the name
+/// is on the disk, so after a power cut the first ones of several files are there. An existing file at the path is a
+/// fault, and stays.
 pub(crate) fn make_file(rt: &HostRuntime, making: Making<'_>) -> Result<(), OutputFault> {
     clear(rt, making)?;
     let file = OpenOptions::new()
@@ -75,7 +75,7 @@ fn write_flushed(file: File, bytes: &[u8]) -> Result<(), OutputFault> {
     Ok(())
 }
 
-// Gives the file beside it a name that nothing has, and flushes the folder.
+// Gives the staging file a free name, and flushes the folder.
 fn give_name(rt: &HostRuntime, making: Making<'_>) -> Result<(), OutputFault> {
     fs::hard_link(rt, making.beside, making.path)?;
     flush_folder(rt, folder_of(making.path))?;

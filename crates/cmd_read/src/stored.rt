@@ -1,5 +1,5 @@
 //! `export --msg`: messages of a base as files of a folder. The lock of the folder is held from before the base is read
-//! until the last file stands, so that two runs at once add each message once.
+//! until the last file is written. So two runs at once add each message once.
 
 use crate::making::{Making, make_file, remove_left};
 use base_file::BaseFault;
@@ -57,8 +57,7 @@ pub fn run_export_stored<W: Sink, E: Sink>(
     }
 }
 
-// The files that are to be made, and the folder under its lock. A seed for the hasher that cannot be had is a
-// failed read.
+// The files to make, and the folder under its lock. A missing seed for the hasher is a failed read.
 fn files_given<'a>(
     rt: &HostRuntime,
     words: &ExportWords<'a>,
@@ -97,8 +96,8 @@ fn last_stored<'a>(rt: &HostRuntime, folder: &'a str) -> Result<(u32, Option<Vec
     }
 }
 
-// The stored message of the greatest number in the folder. A name that is no UTF-8 is none of one. What stopped runs left
-// beside stored messages is removed.
+// The stored message of the greatest number in the folder. A name that is not UTF-8 has no number. Staging files that
+// stopped runs left are removed.
 fn last_name<'a>(rt: &HostRuntime, folder: &'a str) -> Result<Option<Last>, Fault<'a>> {
     let names = fs::read_dir(rt, folder).map_err(|error| folder_fault(&error, folder))?;
     let mut last: Option<Last> = None;
@@ -123,8 +122,8 @@ fn last_name<'a>(rt: &HostRuntime, folder: &'a str) -> Result<Option<Last>, Faul
     Ok(last)
 }
 
-// Writes each message to a new file in the folder, up to the first that cannot be written. The answer is how many stand, and
-// the status.
+// Writes each message to a new file in the folder, up to the first that cannot be written. Returns how many were
+// written, and the status.
 fn write_files<E: Sink>(
     rt: &HostRuntime,
     folder: &str,

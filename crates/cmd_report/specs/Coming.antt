@@ -3,7 +3,7 @@ use Rattle.std.specs.Prelude.{◌≡◌, ℕ, ◌⊎◌, List, [], ◌∷◌, Op
 use Rattle.cmd_status.specs.declared.fault.Fault.{Fault}
 use Rattle.cmd_status.specs.declared.fault.Fault.TheVariants.{OutOfMemory}
 
--- what is known of a packet file before it is opened: its bytes, or why it cannot be used, or neither
+-- The fact known of a packet file before it is opened: its bytes, or why it cannot be used, or neither.
 pub data Coming : Type 0 where
   Holds : (bytes : List ℕ) → Coming
   Fails : (why : Fault) → Coming

@@ -1,4 +1,4 @@
--- A posting whose serial is looked for.
+-- A posting that needs a serial.
 use Rattle.std.specs.Prelude.{◌≡◌, ℕ, ◌⊎◌, ◌+◌, ◌-◌, ◌%◌, ◌^◌, ◌<◌, Bool, true, false, List}
 use Rattle.std.specs.List.{list_any}
 use Rattle.echo_text.specs.Ids.{id_of}

@@ -11,7 +11,7 @@ use Rattle.echo_toss.specs.Messages.{HasTaken}
 use Rattle.echo_toss.specs.PacketSteps.{HasTossedNone, TossesSome}
 use Rattle.cmd_report.specs.Notes.{notes_of}
 
--- messages were read and tossed, and the notes on them follow the text
+-- Messages were read and tossed, and the notes on them follow the text.
 pub record NotesTaken (limits : Limits) (sender : Address) (old : SystemState) (before : Option (List ℕ)) (tally : Tally) (new : SystemState) (text noted : List ℕ) : Type 0 where
   pub messages : List Message
   pub left : Option (List ℕ)
@@ -20,12 +20,12 @@ pub record NotesTaken (limits : Limits) (sender : Address) (old : SystemState) (
   pub taken : HasTaken limits sender old before left messages given at tally new
   pub notes : noted ≡ text ++ notes_of old.file old.base sender 1 58 messages
 
--- the bytes begin with the header and the messages that were tossed, and the notes on these follow the text
+-- The bytes begin with the header and the messages that were tossed, and the notes on these follow the text.
 pub record NotesSome (limits : Limits) (old : SystemState) (before : Option (List ℕ)) (tally : Tally) (new : SystemState) (text noted : List ℕ) : Type 0 where
   pub some : TossesSome limits old before tally new
   pub notes : noted ≡ text ++ notes_of old.file old.base (sender_of old.file some.header) 1 58 some.messages
 
--- how many messages were tossed
+-- How many messages were tossed.
 abbrev pub tally_in : Result Tally TossFault → Tally
 tally_in (Ok tally) = tally
 tally_in (Err f) = f.tally

@@ -14,7 +14,7 @@ use Rattle.model_steps.specs.declared.outcome.Outcome.{Outcome}
 use Rattle.model_steps.specs.declared.outcome.Outcome.TheVariants.{BadTag, Filed, Known, NoArea, NotEcho, NotLinked}
 use Rattle.model_steps.specs.Tossing.{toss_outcome, tossing}
 
--- the word of an outcome
+-- The word of an outcome.
 abbrev pub outcome_word : Outcome → List ℕ
 outcome_word NotEcho = codes "notecho"
 outcome_word BadTag = codes "badtag"
@@ -23,16 +23,16 @@ outcome_word NotLinked = codes "notlinked"
 outcome_word Known = codes "known"
 outcome_word Filed = codes "filed"
 
--- the end of a line with the id, or without one
+-- The end of a line with the id, or without one.
 abbrev pub id_said : Option (List ℕ) → List ℕ
 id_said (Some id) = escaped_line (codes " msgid") id
 id_said None = codes "\n"
 
--- the area, and the end of the line
+-- The area, and the end of the line.
 abbrev pub area_said : EchoText → List ℕ
 area_said e = codes " area " ++ (e.tag ++ id_said (msgid_of e.kept))
 
--- the same for a text, if it is echomail
+-- The same for a text, if it is echomail.
 abbrev pub said_unless : Option TextFault → EchoText → List ℕ
 said_unless None e = area_said e
 said_unless (Some refused) e = codes "\n"
@@ -40,18 +40,18 @@ said_unless (Some refused) e = codes "\n"
 abbrev pub text_said : List ℕ → List ℕ
 text_said text = said_unless (text_refusal text) (echo_of text)
 
--- the line of a message: its number, its place, its outcome, its area and its id
+-- The line of a message: its number, its place, its outcome, its area and its id.
 abbrev pub note_line : ℕ → ℕ → Outcome → Message → List ℕ
 note_line number place outcome m =
     codes "message " ++ (decimal number ++ (codes " at " ++ (decimal place ++ (codes " " ++ (outcome_word outcome ++ text_said m.text)))))
 
--- a message that was filed has none
+-- A message that was filed has none.
 abbrev pub note_of : ℕ → ℕ → Outcome → Message → List ℕ
 note_of number place Filed m = []
 note_of number place other m = note_line number place other m
 
--- the notes on messages of one sender that are tossed in order; the first has this number and begins after this many
--- bytes
+-- The notes on messages of one sender that are tossed in order; the first has this number and begins after this many
+-- bytes.
 abbrev pub notes_of : LinkFile → List FiledMessage → Address → ℕ → ℕ → List Message → List ℕ
 notes_of file base sender number start [] = []
 notes_of file base sender number start (m ∷ later) =

@@ -6,20 +6,20 @@ use Rattle.model_steps.specs.Posting.{post_refusal}
 use Rattle.model_steps.specs.SystemState.{SystemState}
 use Rattle.cmd_report.specs.declared.posting.NewMessage.{NewMessage}
 
--- what a byte of the body becomes in the draft: 0A becomes 0D, and nothing after a 0D
+-- What a byte of the body becomes in the draft: 0A becomes 0D, and nothing after a 0D.
 abbrev pub draft_byte : ℕ → ℕ → List ℕ
 draft_byte before byte = if byte == 10 then (if before == 13 then [] else 13 ∷ []) else byte ∷ []
 
--- the same of the bytes after one
+-- The same of the bytes after one.
 abbrev pub draft_after : ℕ → List ℕ → List ℕ
 draft_after before [] = []
 draft_after before (byte ∷ later) = draft_byte before byte ++ draft_after byte later
 
--- the body of the draft: lines that end in 0A or 0D 0A end in 0D
+-- The body of the draft: lines that end in 0A or 0D 0A end in 0D.
 abbrev pub draft_body : List ℕ → List ℕ
 draft_body body = draft_after 0 body
 
--- the draft of the words and the body
+-- The draft of the words and the body.
 abbrev pub draft_given : NewMessage → List ℕ → Draft
 draft_given words body = record {
   to_name = words.to_name.now;
@@ -29,6 +29,6 @@ draft_given words body = record {
   body = draft_body body;
 }
 
--- no refusal applies, or this is the first that does
+-- No refusal applies, or this is the first that does.
 abbrev pub refusal_given : SystemState → NewMessage → List ℕ → Option PostFault
 refusal_given system words body = post_refusal system.file system.base words.tag.now (draft_given words body) words.serial words.stamp

@@ -20,7 +20,7 @@ is_answer subject =
 abbrev pub room_behind : ℕ
 room_behind = max_subject - 4
 
--- the subject of an answer: `Re: ` stands before it once, and what there is no room for is left out
+-- the subject of an answer: it begins with `Re: ` once, and the part without room is left out
 abbrev pub answered : List ℕ → List ℕ
 answered subject = if is_answer subject then subject else codes "Re: " ++ take room_behind subject
 

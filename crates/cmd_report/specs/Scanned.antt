@@ -7,17 +7,17 @@ use Rattle.model_steps.specs.Scanning.{scanned}
 use Rattle.model_steps.specs.PacketFiles.{PacketFile}
 use Rattle.cmd_report.specs.Lines.{named_receiver, sent_line}
 
--- `zone.net.node.N.pkt`, for the system that the packet is for and the number of messages scanned before
+-- `zone.net.node.N.pkt`, for the system that the packet is for and the number of messages scanned before.
 abbrev pub packet_name : Address → ℕ → List ℕ
 packet_name to before =
     decimal to.zone ++ (codes "." ++ (decimal to.net ++ (codes "." ++ (decimal to.node ++ (codes "." ++ (decimal before ++ codes ".pkt"))))))
 
--- `zone.net.node.rI.pkt`, for a packet that is made again, of messages from the number I on
+-- `zone.net.node.rI.pkt`, for a packet that is made again, of messages from the number I on.
 abbrev pub resent_name : Address → ℕ → List ℕ
 resent_name to first =
     decimal to.zone ++ (codes "." ++ (decimal to.net ++ (codes "." ++ (decimal to.node ++ (codes ".r" ++ (decimal first ++ codes ".pkt"))))))
 
--- a packet's file
+-- A packet's file.
 abbrev pub file_sent : ℕ → Packet → PacketFile
 file_sent before p = record { name = packet_name (named_receiver p.header) before; bytes = packet_bytes p.header p.messages }
 

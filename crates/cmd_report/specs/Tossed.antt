@@ -11,21 +11,21 @@ use Rattle.cmd_status.specs.Ended.{PassesAll}
 use Rattle.cmd_status.specs.Lines.{WritesFront}
 use Rattle.cmd_report.specs.TossedPacket.{TossRun}
 
--- a file was opened, and the packet at its front is tossed in this way
+-- A file was opened, and the packet at its front is tossed in this way.
 pub record TossesOpened {R : Type 0} (Tosses : TossRun → Device → Device → Option Fault → TossRun → Type 0) (device : R → Device) (file : Coming) (old : TossRun) (stopped : Option Fault) (new : TossRun) : Type 0 where
   pub reader : R
   pub left : R
   pub opened : Opens (λ r. (device r).contents) file (Ok reader)
   pub packet : Tosses old (device reader) (device left) stopped new
 
--- a file cannot be used, and the run is as before
+-- A file cannot be used, and the run is as before.
 pub record LeavesUnopened {R : Type 0} (device : R → Device) (file : Coming) (old : TossRun) (stopped : Option Fault) (new : TossRun) : Type 0 where
   pub fault : Fault
   pub is : stopped ≡ Some fault
   pub cannot : Opens (λ (r : R). (device r).contents) file (Err fault)
   pub same : new ≡ old
 
--- one packet file is tossed, or stops the run
+-- One packet file is tossed, or stops the run.
 abbrev pub TossesFileBy : {R : Type 0} → (TossRun → Device → Device → Option Fault → TossRun → Type 0) → (R → Device) → Coming → TossRun → Option Fault → TossRun → Type 0
 TossesFileBy Tosses device file old stopped new = TossesOpened Tosses device file old stopped new ⊎ LeavesUnopened device file old stopped new
 

@@ -13,13 +13,13 @@ use Rattle.cmd_status.specs.declared.fault.Fault.TheVariants.{NotForUs, OutOfMem
 use Rattle.cmd_report.specs.NotedPacket.{NotesPacket}
 use Rattle.cmd_report.specs.Lines.{tally_line}
 
--- a run of `toss`: what is taken of packets, the system as it is now, and the lines so far
+-- A run of `toss`: the limits of packets, the system as it is now, and the lines so far.
 pub record TossRun : Type 0 where
   pub limits : Limits
   pub system : SystemState
   pub lines : List ℕ
 
--- why a packet was not tossed whole, as it is reported
+-- Why a packet was not tossed whole, as it is reported.
 abbrev pub fault_of : TossCause → Fault
 fault_of (stop.NotForUs a) = NotForUs a
 fault_of stop.Memory = TossMemory
@@ -38,7 +38,7 @@ pub record HasTossedPacket (old : TossRun) (reader left : Device) (stopped : Opt
   pub device : CountsToss answer reader.failures left.failures
   pub line : ReportsPacket old.lines new.lines answer stopped
 
--- there was no memory for the line of a packet: none of the packet was read, and the run is as before
+-- There was no memory for the line of a packet. Nothing of the packet was read, and the run is as before.
 abbrev pub HasNoLine : TossRun → Device → Device → Option Fault → TossRun → Type 0
 HasNoLine old reader left stopped new =
     (stopped ≡ Some OutOfMemory) × (new ≡ old) × (left.contents ≡ reader.contents) × (left.failures ≡ reader.failures)
@@ -48,7 +48,7 @@ abbrev pub TossesPacket : TossRun → Device → Device → Option Fault → Tos
 TossesPacket old reader left stopped new =
     HasNoLine old reader left stopped new ⊎ HasTossedPacket old reader left stopped new
 
--- The packet at the front of a reader's bytes is tossed: before its line stand the notes on its messages that were not filed.
+-- The packet at the front of a reader's bytes is tossed. The notes on its messages that were not filed come before its line.
 pub record HasNotedPacket (old : TossRun) (reader left : Device) (stopped : Option Fault) (new : TossRun) : Type 0 where
   pub answer : Result Tally TossFault
   pub same : new.limits ≡ old.limits

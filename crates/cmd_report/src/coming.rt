@@ -10,7 +10,7 @@ pub trait PacketFiles<'a> {
     /// What reads a file that was opened.
     type Reader: Source + Drop;
 
-    // What is known of each file that is still to come.
+    // The facts known of each file not yet opened.
     ghost coming: { Self → List Coming };
 
     /// Opens the next file: none where no more is to come, and a fault where it cannot be used. It

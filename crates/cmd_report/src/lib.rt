@@ -1,13 +1,13 @@
-//! What the commands that change a base share, wherever that is kept: the words that they are given, what they
-//! print, and the files of packets.
+//! The parts shared by the commands that change a base, of every kind: their words, the lines that they print, and the
+//! files of packets.
 //!
-//! The contract for the commands: a draft of the words that they are given, the words that a message gives to an answer,
-//! the file and the line of each packet, and just the lines of what was done. A packet is tossed as `toss_packet_in`
-//! does it; just the lines of its messages that were not filed are appended to a text, in order.
+//! The contract for the commands: a draft of the words of a posting, the words that a message gives to an answer, the
+//! file and the line of each packet, and just the lines of what was done. A packet is tossed as `toss_packet_in` does
+//! it. Just the lines of its messages that were not filed are appended to a text, in order.
 //!
-//! Modules in reading order: `lines` (what is printed of what was done), `posting`, `replying`, `scanning`, `note` (the line
-//! of a message that is not filed), `storing` (a packet, tossed into a store), `coming` (packet files that are opened one
-//! after the other) and `tossing`.
+//! Begin with `lines` (the printed lines). `posting`, `replying`, `scanning` and `tossing` belong to one command each.
+//! `note` is the line of a message that is not filed, `storing` tosses a packet into a store, and `coming` opens packet
+//! files one after the other.
 #![tactic(auto)]
 
 mod coming;

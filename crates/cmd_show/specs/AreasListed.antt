@@ -17,15 +17,15 @@ use Rattle.cmd_status.specs.Devices.{Output}
 use Rattle.cmd_status.specs.Ended.{Answers}
 use Rattle.cmd_status.specs.Inputs.{IsBaseFault, IsBaseGiven}
 
--- whether a message is of the area
+-- Whether a message belongs to the area.
 abbrev pub is_in : List ℕ → Filed → Bool
 is_in tag m = bytes_eq tag m.echo.tag
 
--- whether it is, and nothing is left of its text but its id
+-- Whether it is, and nothing is left of its text but its id.
 abbrev pub is_purged_in : List ℕ → Filed → Bool
 is_purged_in tag m = is_in tag m && is_purged m
 
--- how many messages of an area a base has, how many of them wait for a scan, and how many were scanned and purged
+-- How many messages of an area a base has, how many of them wait for a scan, and how many were scanned and purged.
 abbrev pub area_counts : List Filed → ℕ → List ℕ → AreaCounts
 area_counts base cursor tag = record {
   messages = count_by (is_in tag) base;
@@ -33,18 +33,18 @@ area_counts base cursor tag = record {
   purged = count_by (is_purged_in tag) (take cursor base);
 }
 
--- the line of an area
+-- The line of an area.
 abbrev pub area_line : List ℕ → AreaCounts → List ℕ
 area_line tag c =
     codes "area " ++ (tag ++ (codes " messages " ++ (decimal c.messages
     ++ (codes " waiting " ++ (decimal c.waiting ++ (codes " purged " ++ (decimal c.purged ++ codes "\n")))))))
 
--- just the tags that messages have, ascending by the first byte that differs, each once
+-- Just the tags that messages have, ascending by the first byte that differs, each once.
 pub record AreTagsOf (base : List Filed) (tags : List (List ℕ)) : Type 0 where
   pub ascending : IsStrictlySortedBy (slice_cmp nat_cmp) tags
   pub members : (tag : List ℕ) → list_any (bytes_eq tag) tags ≡ list_any (is_in tag) base
 
--- the lines of these areas
+-- The lines of these areas.
 abbrev pub areas_text : List Filed → ℕ → List (List ℕ) → List ℕ
 areas_text base cursor tags = flat_map (λ tag. area_line tag (area_counts base cursor tag)) tags
 
@@ -58,43 +58,43 @@ pub record AreAreasListed (base : List ℕ) (lines : List ℕ) (status : Status)
   pub printed : lines ≡ areas_text messages cursor tags ++ total_text (length messages) (length messages - cursor)
   pub status_is : status ≡ Good
 
--- what is answered where the areas of a base are to be listed
+-- The right result if the areas of a base are to be listed.
 abbrev pub ListAreasAnswers : List ℕ → Output → Output → Result Status Fault → Type 0
 ListAreasAnswers base old new answer = Answers (AreAreasListed base) (IsBaseFault (Some base)) old new answer
 
--- no message was counted
+-- No message was counted.
 abbrev pub no_counts : AreaCounts
 no_counts = record { messages = 0; waiting = 0; purged = 0 }
 
--- one message more was counted
+-- One message more was counted.
 abbrev pub counted_more : AreaCounts → State → AreaCounts
 counted_more c Scanned = record { messages = c.messages + 1; waiting = c.waiting; purged = c.purged }
 counted_more c Waiting = record { messages = c.messages + 1; waiting = c.waiting + 1; purged = c.purged }
 counted_more c Purged = record { messages = c.messages + 1; waiting = c.waiting; purged = c.purged + 1 }
 
--- no count is above this number
+-- No count is above this number.
 pub record AreWithin (most : ℕ) (c : AreaCounts) : Type 0 where
   pub messages : c.messages ≤ most
   pub waiting : c.waiting ≤ most
   pub purged : c.purged ≤ most
 
 module _ {K : Type 0} (bytes : K → List ℕ) where
-  -- the counts that an ordered map has for a tag
+  -- The counts that an ordered map has for a tag.
   abbrev pub found_counts : List (K × AreaCounts) → List ℕ → Option AreaCounts
   found_counts entries tag = lookup (λ k. is_eq (slice_cmp nat_cmp tag (bytes k))) entries
 
   abbrev pub counts_of : List (K × AreaCounts) → List ℕ → AreaCounts
   counts_of entries tag = unwrap_or (found_counts entries tag) no_counts
 
-  -- the map has the counts of just the areas of these messages
+  -- The map has the counts of just the areas of these messages.
   pub record HaveCounts (entries : List (K × AreaCounts)) (base : List Filed) (cursor : ℕ) : Type 0 where
     pub counts : (tag : List ℕ) → counts_of entries tag ≡ area_counts base cursor tag
     pub there : (tag : List ℕ) → is_some (found_counts entries tag) ≡ list_any (is_in tag) base
 
-  -- its keys ascend
+  -- Its keys ascend.
   abbrev pub Ascend : List (K × AreaCounts) → Type 0
   Ascend entries = IsStrictlySortedBy (λ x y. slice_cmp nat_cmp (bytes x) (bytes y)) (keys_of entries)
 
-  -- a line for each entry, and the last line of the base
+  -- A line for each entry, and the last line of the base.
   abbrev pub counts_text : List (K × AreaCounts) → ℕ → ℕ → List ℕ
   counts_text entries messages waiting = flat_map (λ e. area_line (bytes e.0) e.1) entries ++ total_text messages waiting

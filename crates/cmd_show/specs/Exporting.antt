@@ -12,45 +12,45 @@ use Rattle.cmd_status.specs.Devices.{Output}
 use Rattle.cmd_status.specs.Ended.{AnswersInPieces}
 use Rattle.cmd_status.specs.Inputs.{IsBaseFault, IsBaseGiven}
 
--- what has become of a message, by whether it waits for a scan and whether nothing is left of its text but its id
+-- The state of a message, by whether it waits for a scan and whether only the id of its text is left.
 abbrev pub state_by : Bool → Bool → State
 state_by true short = Waiting
 state_by false true = Purged
 state_by false false = Scanned
 
--- what has become of the message of this number
+-- The state of the message of this number.
 abbrev pub state_of : ℕ → ℕ → Filed → State
 state_of cursor i m = state_by (nat_le cursor i) (is_purged m)
 
--- whether messages of this state are exported: purged ones only where they are asked for
+-- Whether messages of this state are exported: purged ones only where they are asked for.
 abbrev pub is_exported : Bool → State → Bool
 is_exported purged Scanned = true
 is_exported purged Waiting = true
 is_exported purged Purged = purged
 
--- whether the message of this number is asked for
+-- Whether the message of this number is asked for.
 abbrev pub is_sought : Option (List ℕ) → ℕ → Bool → ℕ → ℕ → Filed → Bool
 is_sought area first purged cursor i m = is_asked area first i m && is_exported purged (state_of cursor i m)
 
--- what is printed of the message of this number, if there is one
+-- The printed text of the message of this number, if there is one.
 abbrev pub sought_text : Form → Option (List ℕ) → ℕ → Bool → ℕ → ℕ → Option Filed → List ℕ
 sought_text form area first purged cursor i None = []
 sought_text form area first purged cursor i (Some m) =
     if is_sought area first purged cursor i m then message_text form i (state_of cursor i m) m else []
 
--- how many U+FFFD are counted in it
+-- How many U+FFFD are counted in it.
 abbrev pub sought_count : Form → Option (List ℕ) → ℕ → Bool → ℕ → ℕ → Option Filed → ℕ
 sought_count form area first purged cursor i None = 0
 sought_count form area first purged cursor i (Some m) =
     if is_sought area first purged cursor i m then message_lost form i (state_of cursor i m) m else 0
 
--- what is printed of the first so many messages
+-- The printed text of the first so many messages.
 abbrev pub sought_texts : Form → Option (List ℕ) → ℕ → Bool → ℕ → List Filed → ℕ → List ℕ
 sought_texts form area first purged cursor base zero = []
 sought_texts form area first purged cursor base (suc n) =
     sought_texts form area first purged cursor base n ++ sought_text form area first purged cursor n (slice_get base n)
 
--- how many U+FFFD are counted, message by message
+-- How many U+FFFD are counted, message by message.
 abbrev pub sought_lost : Form → Option (List ℕ) → ℕ → Bool → ℕ → List Filed → ℕ → ℕ
 sought_lost form area first purged cursor base zero = 0
 sought_lost form area first purged cursor base (suc n) =
@@ -65,11 +65,11 @@ pub record IsBaseExported (form : Form) (area : Option (List ℕ)) (first : ℕ)
   pub printed : lines ≡ sought_texts form (option_map upper area) first purged cursor messages (length messages)
   pub counted : count ≡ sought_lost form (option_map upper area) first purged cursor messages (length messages)
 
--- what is answered where a base is to be exported
+-- the right result if a base is to be exported
 abbrev pub ExportAnswers : Form → Option (List ℕ) → ℕ → Bool → List ℕ → Output → Output → Result ℕ Fault → Type 0
 ExportAnswers form area first purged base old new answer =
     AnswersInPieces (IsBaseExported form area first purged base) (IsBaseFault (Some base)) old new answer
 
--- the line on standard error that tells how many U+FFFD were printed
+-- the line on standard error that reports how many U+FFFD were printed
 abbrev pub lost_line : ℕ → List ℕ
 lost_line count = if count == 0 then [] else codes "echonet: " ++ (decimal count ++ codes " characters replaced by U+FFFD\n")

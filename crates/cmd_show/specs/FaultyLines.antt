@@ -9,36 +9,36 @@ use Rattle.echo_links.specs.Links.{same_address}
 use Rattle.echo_links.specs.LinkLines.{after_first_of, file_fault, file_lines, first_of, is_control_byte, is_system_line, line_fault, links_in, name_in, words}
 use Rattle.cmd_show.specs.declared.faulty.FaultyLine.{FaultyLine}
 
--- the first word that has a control byte
+-- The first word that has a control byte.
 abbrev pub word_with_control : List (List ℕ) → List ℕ
 word_with_control [] = []
 word_with_control (word ∷ more) = if list_any is_control_byte word then word else word_with_control more
 
--- the word that is no keyword, or that has a control byte
+-- The word that is no keyword, or that has a control byte.
 abbrev pub unknown_word : List ℕ → List ℕ
 unknown_word line = if list_any is_control_byte line then word_with_control (tokens line) else first_of (words line)
 
--- of the words after SYSTEM: the first if it is no address, else the second; nothing where there is no such word
+-- Of the words after SYSTEM: the first if it is no address, else the second; nothing where there is no such word.
 abbrev pub not_one_address : List (List ℕ) → List ℕ
 not_one_address [] = []
 not_one_address (word ∷ more) = if is_err (outcome word) then word else first_of more
 
--- the first that is no address
+-- The first that is no address.
 abbrev pub no_address : List (List ℕ) → List ℕ
 no_address [] = []
 no_address (word ∷ more) = if is_err (outcome word) then word else no_address more
 
--- the first address that repeats one of those before it
+-- The first address that repeats one of those before it.
 abbrev pub link_again : List (List ℕ) → List (List ℕ) → List ℕ
 link_again before [] = []
 link_again before (word ∷ more) =
     if list_any (same_address (address_in word)) (map address_in before) then word else link_again (word ∷ before) more
 
--- the address that is wrong in a line
+-- The address that is wrong in a line.
 abbrev pub wrong_address : List ℕ → List ℕ
 wrong_address line = if is_system_line line then not_one_address (after_first_of (words line)) else no_address (links_in line)
 
--- the word that is wrong in a line with this fault
+-- The word that is wrong in a line with this fault.
 abbrev pub wrong_word : LinkFault → List ℕ → List ℕ
 wrong_word (fault.UnknownWord number) line = unknown_word line
 wrong_word (fault.BadAddress number) line = wrong_address line
@@ -50,16 +50,16 @@ wrong_word (fault.BadTag number) line = first_of (after_first_of (words line))
 wrong_word (fault.NameTooLong number) line = name_in line
 wrong_word fault.Memory line = []
 
--- a line with this fault
+-- A line with this fault.
 abbrev pub faulty_line : LinkFault → List ℕ → FaultyLine
 faulty_line fault line = record { fault = fault; word = wrong_word fault line }
 
--- the good lines before the next one, where this line is faulty or good
+-- The good lines before the next one, where this line is faulty or good.
 abbrev pub good_with : Option LinkFault → List ℕ → List (List ℕ) → List (List ℕ)
 good_with None line earlier = line ∷ earlier
 good_with (Some fault) line earlier = earlier
 
--- a faulty line, and those after it; or those alone
+-- A faulty line, and those after it; or those alone.
 abbrev pub told_with : Option LinkFault → List ℕ → List FaultyLine → List FaultyLine
 told_with None line later = later
 told_with (Some fault) line later = faulty_line fault line ∷ later
@@ -71,20 +71,20 @@ faulty_among earlier number [] = []
 faulty_among earlier number (line ∷ later) =
     told_with (line_fault earlier number line) line (faulty_among (good_with (line_fault earlier number line) line earlier) (number + 1) later)
 
--- the faulty lines of a link file
+-- The faulty lines of a link file.
 unfoldable pub faulty_lines : List ℕ → List FaultyLine
 faulty_lines bytes = faulty_among [] 1 (file_lines bytes)
 
--- whether it is all that is wrong that no line has the own address
+-- Whether it is all that is wrong that no line has the own address.
 abbrev pub is_homeless : LinkFault → Bool
 is_homeless (fault.NoSystem number) = true
 is_homeless _ = false
 
--- the reported lines of a file with this fault: only that no line has the own address, or each faulty line
+-- The reported lines of a file with this fault: only that no line has the own address, or each faulty line.
 abbrev pub reported_lines : List ℕ → Option LinkFault → List FaultyLine
 reported_lines bytes None = []
 reported_lines bytes (Some why) = if is_homeless why then record { fault = why; word = [] } ∷ [] else faulty_lines bytes
 
--- all that is wrong with a link file
+-- All that is wrong with a link file.
 unfoldable pub faults_of : List ℕ → List FaultyLine
 faults_of bytes = reported_lines bytes (file_fault bytes)

@@ -18,7 +18,7 @@ is_good_file file = is_none (file_fault file.bytes)
 abbrev pub links_status : Bool → Status
 links_status good = if good then Good else Refused
 
--- what is answered where link files are judged one by one; no file is refused for another, and none stops the run
+-- the right result if link files are judged one by one; no file is refused for another, and no file stops the run
 abbrev pub LinksAnswers : Bool → List NamedFile → Output → Output → Result Status Fault → Type 0
 LinksAnswers areas files old new answer =
     Answers (λ lines status. (lines ≡ files_text areas files) × (status ≡ links_status (list_all is_good_file files))) (λ fault. ⊥) old new answer

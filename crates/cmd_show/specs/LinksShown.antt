@@ -12,30 +12,30 @@ use Rattle.cmd_show.specs.declared.faulty.FaultyLine.{FaultyLine}
 use Rattle.cmd_show.specs.FaultyLines.{faults_of}
 use Rattle.cmd_show.specs.declared.linking.NamedFile.{NamedFile}
 
--- how many links an area has
+-- How many links an area has.
 abbrev pub area_links : LinkFile → Area → ℕ
 area_links file area = length (links_of file area.tag)
 
--- how many links its areas have together
+-- How many links its areas have together.
 abbrev pub all_links : LinkFile → ℕ
 all_links file = sum (map (area_links file) file.areas)
 
--- the line of a file with this path, which is printed as a word is, with how many areas and links it has
+-- The line of a file with this path, which is printed as a word is, with how many areas and links it has.
 abbrev pub good_line : List ℕ → LinkFile → List ℕ
 good_line path file =
     printed_word path
     ++ (codes ": " ++ (address_text file.system ++ (codes " " ++ (decimal (length file.areas) ++ (codes " areas " ++ (decimal (all_links file) ++ codes " links\n"))))))
 
--- the line of an area of it
+-- The line of an area of it.
 abbrev pub area_line : List ℕ → LinkFile → Area → List ℕ
 area_line path file area =
     printed_word path ++ (codes ": area " ++ (area.tag ++ (codes " " ++ (decimal (area_links file area) ++ codes " links\n"))))
 
--- the lines of all areas, where they are asked for
+-- The lines of all areas, where they are asked for.
 abbrev pub areas_text : Bool → List ℕ → LinkFile → List ℕ
 areas_text areas path file = if areas then flat_map (area_line path file) file.areas else []
 
--- the code and the name of a fault
+-- The code and the name of a fault.
 abbrev pub fault_code : LinkFault → List ℕ
 fault_code (fault.UnknownWord number) = codes "L1 UnknownWord"
 fault_code (fault.BadAddress number) = codes "L2 BadAddress"
@@ -47,7 +47,7 @@ fault_code (fault.BadTag number) = codes "L7 BadTag"
 fault_code (fault.NameTooLong number) = codes "L8 NameTooLong"
 fault_code fault.Memory = codes "L9 Memory"
 
--- the number of its line
+-- The number of its line.
 abbrev pub fault_number : LinkFault → ℕ
 fault_number (fault.UnknownWord number) = number
 fault_number (fault.BadAddress number) = number
@@ -59,16 +59,16 @@ fault_number (fault.BadTag number) = number
 fault_number (fault.NameTooLong number) = number
 fault_number fault.Memory = 0
 
--- a word between single quotes
+-- A word between single quotes.
 abbrev pub in_quotes : List ℕ → List ℕ
 in_quotes word = codes "'" ++ (word ++ codes "'")
 
--- the line of a faulty line: path, number, code and name, and the word that is wrong in it, escaped
+-- The line of a faulty line: path, number, code and name, and the word that is wrong in it, escaped.
 abbrev pub faulty_text : List ℕ → FaultyLine → List ℕ
 faulty_text path line =
     printed_word path ++ (codes ":" ++ (decimal (fault_number line.fault) ++ (codes ": " ++ escaped_line (fault_code line.fault) (in_quotes line.word))))
 
--- the lines of a file with this path and these bytes
+-- The lines of a file with this path and these bytes.
 abbrev pub judged_text : Bool → List ℕ → List ℕ → Option LinkFault → List ℕ
 judged_text areas path bytes None = good_line path (file_of bytes) ++ areas_text areas path (file_of bytes)
 judged_text areas path bytes (Some why) = flat_map (faulty_text path) (faults_of bytes)
@@ -76,6 +76,6 @@ judged_text areas path bytes (Some why) = flat_map (faulty_text path) (faults_of
 abbrev pub file_text : Bool → NamedFile → List ℕ
 file_text areas file = judged_text areas file.path file.bytes (file_fault file.bytes)
 
--- the lines of all files
+-- The lines of all files.
 abbrev pub files_text : Bool → List NamedFile → List ℕ
 files_text areas files = flat_map (file_text areas) files

@@ -19,6 +19,6 @@ pub record IsBaseListed (form : ListForm) (area : Option (List ℕ)) (first : �
   pub printed : lines ≡ base_text form (option_map upper area) first messages cursor
   pub status_is : status ≡ Good
 
--- what is answered where a base is to be listed
+-- the right result if a base is to be listed
 abbrev pub ListAnswers : ListForm → Option (List ℕ) → ℕ → List ℕ → Output → Output → Result Status Fault → Type 0
 ListAnswers form area first base old new answer = AnswersInPieces (IsBaseListed form area first base) (IsBaseFault (Some base)) old new answer

@@ -15,24 +15,24 @@ use Rattle.cmd_status.specs.declared.status.Status.TheVariants.{Good, Differs}
 use Rattle.cmd_status.specs.Ended.{AnswersInPieces}
 use Rattle.cmd_print.specs.Listed.{Listed}
 
--- 1 where another checksum is stated than the computed one
+-- 1 where another checksum is stated than the computed one.
 abbrev pub crc_status : CrcLine → Status
 crc_status (Mismatch stated computed) = Differs
 crc_status _ = Good
 
--- the input is a nodelist, and this is what is printed of it; the status is that of its checksum
+-- The input is a nodelist with this printed text; the status is that of its checksum.
 pub record IsListed (find : Option Address) (input : List ℕ) (text : List ℕ) (status : Status) : Type 0 where
   pub lines : List Line
   pub is_nodelist : NodelistOf input lines
   pub printed : Listed find lines (crc_line_of input) text
   pub checked : status ≡ crc_status (crc_line_of input)
 
--- the first faulty line of the input has the fault
+-- The first faulty line of the input has the fault.
 pub record IsFaulty (input : List ℕ) (fault : Fault) : Type 0 where
   pub why : NodeFault
   pub is : fault ≡ Nodelist why
   pub of_lines : NodelistFaultOf input why
 
--- what is answered where a nodelist is to be printed
+-- The right result if a nodelist is to be printed.
 abbrev pub NodelistAnswers : Option Address → List ℕ → Output → Output → Result Status Fault → Type 0
 NodelistAnswers find input old new answer = AnswersInPieces (IsListed find input) (IsFaulty input) old new answer

@@ -1,4 +1,4 @@
--- What an input of `show` stands for, and what `show` answers.
+-- The bytes that an input of `show` encodes, and the result of `show`.
 use Rattle.std.specs.Prelude.{◌≡◌, ℕ, ◌⊎◌, ◌++◌, Bool, true, List, [], Option, Result, Ok, Err, IsErr, Vec, length, filter, ◌≤◌, take, not, false, ◌||◌, ◌==◌}
 use Rattle.std.specs.declared.alloc.Global.{Global}
 use Rattle.cmd_status.specs.Devices.{Output}
@@ -19,20 +19,20 @@ use Rattle.cmd_status.specs.Limits.{show_limits}
 use Rattle.cmd_print.specs.Shown.{MessageShown, MessagesShown, Shown, header_lines}
 use Rattle.cmd_show.specs.Written.{AddsLines, BeginsLines, BeginsMore, WritesLines}
 
--- a byte that lays out hexadecimal text: a blank, a tab or a part of a line end
+-- A byte that lays out hexadecimal text: a blank, a tab or a part of a line end.
 abbrev pub is_layout : ℕ → Bool
 is_layout b = b == 32 || b == 9 || b == 10 || b == 13
 
--- the digits of hexadecimal text
+-- The digits of hexadecimal text.
 abbrev pub hex_text : List ℕ → List ℕ
 hex_text input = filter (λ b. not (is_layout b)) input
 
--- the bytes that the input stands for: itself, or what its hexadecimal digits say
+-- The bytes that the input encodes: itself, or the bytes of its hexadecimal digits.
 abbrev pub Stands : Bool → List ℕ → List ℕ → Type 0
 Stands false input bytes = bytes ≡ input
 Stands true input bytes = decode_of (hex_text input) ≡ Ok bytes
 
--- all lines of the packet at the front of the bytes
+-- All lines of the packet at the front of the bytes.
 pub record AllShown (full : Bool) (bytes lines : List ℕ) : Type 0 where
   pub header : Header
   pub messages : List Message
@@ -41,11 +41,11 @@ pub record AllShown (full : Bool) (bytes lines : List ℕ) : Type 0 where
   pub packet : PacketOf show_limits header messages (take size bytes)
   pub shown : Shown full header messages size lines
 
--- the packet at the front of what the input stands for is printed, and nothing else
+-- The packet at the front of these bytes is printed, and nothing else.
 abbrev pub IsShown : Bool → Bool → List ℕ → Option (List ℕ) → Option (List ℕ) → Type 0
 IsShown full hex input old new = (bytes : List ℕ) × Stands hex input bytes × WritesLines (AllShown full bytes) old new
 
--- the lines of the header at the front of the bytes, and of these messages behind it
+-- The lines of the header at the front of the bytes, and of these messages behind it.
 pub record FrontShown (full : Bool) (bytes : List ℕ) (messages : List Message) (lines : List ℕ) : Type 0 where
   pub header : Header
   pub rest : List ℕ
@@ -56,19 +56,19 @@ pub record FrontShown (full : Bool) (bytes : List ℕ) (messages : List Message)
   pub each : MessagesShown full 1 58 messages of_messages
   pub whole : lines ≡ header_lines header ++ of_messages
 
--- the first lines for the bytes: none, or those of the header and of the first messages behind it
+-- The first lines for the bytes: none, or those of the header and of the first messages behind it.
 abbrev pub FirstShown : Bool → List ℕ → List ℕ → Type 0
 FirstShown full bytes lines = (lines ≡ []) ⊎ ((messages : List Message) × FrontShown full bytes messages lines)
 
--- lines for the bytes: the first ones, or all
+-- Lines for the bytes: the first ones, or all.
 abbrev pub SomeShown : Bool → List ℕ → List ℕ → Type 0
 SomeShown full bytes lines = FirstShown full bytes lines ⊎ AllShown full bytes lines
 
--- what is printed before a fault: nothing where there is no header, else its lines and those of the messages
+-- The lines printed before a fault: no line without a header, otherwise those of the header and of the messages.
 abbrev pub ShownBefore : Bool → List ℕ → PacketFault → List Message → List ℕ → Type 0
 ShownBefore full bytes f messages lines = (FrontFault bytes f × (lines ≡ [])) ⊎ FrontShown full bytes messages lines
 
--- the bytes have the fault, and these are the lines of what comes before it
+-- The bytes have the fault, and these are the lines before it.
 pub record IsBroken (full : Bool) (bytes lines : List ℕ) (fault : Fault) : Type 0 where
   pub why : PacketFault
   pub is : fault ≡ Packet why
@@ -76,11 +76,11 @@ pub record IsBroken (full : Bool) (bytes lines : List ℕ) (fault : Fault) : Typ
   pub of_bytes : FaultOf bytes show_limits messages why
   pub shown : ShownBefore full bytes why messages lines
 
--- the lines before a fault of the bytes, or the first lines where there was no memory for more
+-- The lines before a fault of the bytes, or the first lines where there was no memory for more.
 abbrev pub IsCutShort : Bool → List ℕ → List ℕ → Fault → Type 0
 IsCutShort full bytes lines fault = (IsOutOfMemory fault × FirstShown full bytes lines) ⊎ IsBroken full bytes lines fault
 
--- the lines of a packet are on their way: `kept` are those kept back before, and `rest` after; where standard output failed none are
+-- The lines of a packet are on their way: `kept` are those kept back before, and `rest` after; where standard output failed none are.
 abbrev pub PacketPasses : Bool → List ℕ → List ℕ → List ℕ → Output → Output → Result Status Fault → Type 0
 PacketPasses full bytes kept rest old new (Ok status) =
     (status ≡ Good) × AddsLines (AllShown full bytes) kept rest old.contents new.contents × (new.failures ≡ old.failures)
@@ -96,29 +96,29 @@ MessagePasses full number place m kept rest old new (Err fault) =
     (IsOutOfMemory fault × (rest ≡ kept) × (new ≡ old))
     ⊎ (CannotPrint old.failures new.failures fault × (rest ≡ []) × BeginsMore (MessageShown full number place m) kept old.contents new.contents)
 
--- a packet is not printed whole: standard output failed after a beginning of its lines, or these are cut short
+-- A packet is not printed whole: standard output failed after a beginning of its lines, or these are cut short.
 abbrev pub PacketStops : Bool → List ℕ → Output → Output → Fault → Type 0
 PacketStops full bytes old new fault =
     (CannotPrint old.failures new.failures fault × BeginsLines (SomeShown full bytes) old.contents new.contents)
     ⊎ (WritesLines (λ lines. IsCutShort full bytes lines fault) old.contents new.contents × PassesAll old new)
 
--- what is answered where the bytes of a packet are to be printed
+-- The right result if the bytes of a packet are to be printed.
 abbrev pub PacketAnswers : Bool → List ℕ → Output → Output → Result Status Fault → Type 0
 PacketAnswers full bytes old new (Ok status) = (status ≡ Good) × WritesLines (AllShown full bytes) old.contents new.contents × PassesAll old new
 PacketAnswers full bytes old new (Err fault) = PacketStops full bytes old new fault
 
--- what is answered where hexadecimal text is to be decoded
+-- The right result if hexadecimal text is to be decoded.
 abbrev pub DecodeAnswers : List ℕ → Result (Vec ℕ Global) Fault → Type 0
 DecodeAnswers input (Ok bytes) = decode_of (hex_text input) ≡ Ok bytes.items
 DecodeAnswers input (Err fault) = (fault ≡ OutOfMemory) ⊎ ((fault ≡ BadHex) × IsErr (decode_of (hex_text input)))
 
--- the digits are refused
+-- The digits are refused.
 pub record IsBadHex (hex : Bool) (input : List ℕ) (fault : Fault) : Type 0 where
   pub is : fault ≡ BadHex
   pub asked : hex ≡ true
   pub undecoded : IsErr (decode_of (hex_text input))
 
--- what is answered where an input is to be shown; where its digits were not decoded nothing is printed
+-- The right result if an input is to be shown; if its digits were not decoded nothing is printed.
 abbrev pub ShowAnswers : Bool → Bool → List ℕ → Output → Output → Result Status Fault → Type 0
 ShowAnswers full hex input old new (Ok status) = (status ≡ Good) × IsShown full hex input old.contents new.contents × PassesAll old new
 ShowAnswers full hex input old new (Err fault) =

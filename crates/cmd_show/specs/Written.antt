@@ -3,25 +3,25 @@ use Rattle.std.specs.Prelude.{ℕ, List, ◌++◌, Option}
 use Rattle.std.specs.Io.KnownBytes.{Appends}
 use Rattle.cmd_status.specs.Lines.{PassesOn, WritesFront}
 
--- lines of this kind were written
+-- Lines of this kind were written.
 pub record WritesLines (AreLines : List ℕ → Type 0) (old new : Option (List ℕ)) : Type 0 where
   pub lines : List ℕ
   pub are : AreLines lines
   pub written : Appends old new lines
 
--- a beginning of lines of this kind was written
+-- A beginning of lines of this kind was written.
 pub record BeginsLines (AreLines : List ℕ → Type 0) (old new : Option (List ℕ)) : Type 0 where
   pub lines : List ℕ
   pub are : AreLines lines
   pub begun : WritesFront lines old new
 
--- lines of this kind were added to those kept back; the first bytes of all these were written, and the rest is kept back
+-- Lines of this kind were added to those kept back; the first bytes of all these were written, and the rest is held back.
 pub record AddsLines (AreLines : List ℕ → Type 0) (kept rest : List ℕ) (old new : Option (List ℕ)) : Type 0 where
   pub lines : List ℕ
   pub are : AreLines lines
   pub passed : PassesOn (kept ++ lines) rest old new
 
--- a beginning was written of the lines kept back and lines of this kind behind them
+-- A beginning was written of the lines kept back and lines of this kind behind them.
 pub record BeginsMore (AreLines : List ℕ → Type 0) (kept : List ℕ) (old new : Option (List ℕ)) : Type 0 where
   pub lines : List ℕ
   pub are : AreLines lines

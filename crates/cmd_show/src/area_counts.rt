@@ -31,9 +31,9 @@ pub struct AreaCounts {
     pub purged: u64,
 }
 
-/// `list --areas BASE`: prints of each area that a message has how many it has, how many of them wait and how many
-/// are purged, ascending by tag, and then of the base what `list` prints last. It goes once through the messages. Of a
-/// faulty base nothing is printed.
+/// `list --areas BASE`: prints for each area with messages how many it has, how many of them wait and how many are
+/// purged, ascending by tag. Then it prints what `list` prints last. It goes once through the messages. Of a faulty
+/// base nothing is printed.
 pub fn list_areas<'a, S: BuildHasher + Drop, W: Sink>(
     alloc: Global,
     base: &[u8],

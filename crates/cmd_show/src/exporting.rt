@@ -76,7 +76,7 @@ fn export_read<'a, S: BuildHasher, W: Sink>(
     Ok(count)
 }
 
-/// Tells on standard error how many U+FFFD were printed, and nothing where none was.
+/// Reports on standard error how many U+FFFD were printed, if any.
 pub fn tell_lost<E: Sink>(alloc: Global, count: u128, errors: &mut E)
     ensures { WritesFront (lost_line count) (E.contents errors.old) (E.contents errors.new) }
 {
@@ -86,7 +86,7 @@ pub fn tell_lost<E: Sink>(alloc: Global, count: u128, errors: &mut E)
     }
 }
 
-// Adds the line that tells it.
+// Adds the line that reports it.
 fn push_lost(line: &mut Vec<u8>, count: u128) -> Result<(), AllocError>
     ensures { OnOk result (line.new.items ≡ line.old.items ++ lost_line count) }
 {
@@ -171,7 +171,7 @@ fn is_exported(purged: bool, state: State) -> bool
     }
 }
 
-/// What has become of the message of this number.
+/// The state of the message of this number.
 pub(crate) fn state_of(cursor: usize, i: usize, message: &Filed) -> State
     ensures { result ≡ state_of cursor i message.now }
 {

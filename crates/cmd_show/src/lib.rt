@@ -1,19 +1,19 @@
-//! The commands of `echonet` that print what files hold, one by one, as functions over bytes in and a sink out,
-//! for standard output. Each answers its status or a fault, and leaves no file.
+//! The commands of `echonet` that print what files hold, one by one, as functions over bytes in and a sink out, for
+//! standard output. Each returns its status or a fault, and writes no file.
 //!
-//! The contract for the program: where a command ends well it wrote just its lines; it refuses an input just where
-//! that has the fault, after the lines of what came before it; and standard output failed where the answer says so, and
-//! only there. At every end what it wrote begins the lines of its input, and where it ends well nothing of them is held
-//! back. A link file is judged as one with just its parts, or as one with just its faulty lines.
+//! The contract for the program: a command that ends well wrote just its lines. It refuses an input just if that has
+//! the fault, after the lines of the parts before it. Standard output failed just if the result says so. At every end
+//! the written bytes begin the lines of the input, and at a good end no line is held back. The lines of a link file are
+//! those of just its parts, or of just its faulty lines.
 //!
-//! Which lines are printed for any other value stands in the crate `cmd_print`, how a command ends in `cmd_status`; here
-//! is what a command reads, which fault comes first, and what it writes of those lines.
+//! The crate `cmd_print` has the lines of every other value, and `cmd_status` how a command ends. This crate has what a
+//! command reads, which fault comes first, and which of those lines it writes.
 //!
-//! Modules in reading order, each named for its command: `showing` (a packet), `nodelists` (a nodelist), `linking` and
-//! `links_text` (`links`: link files one by one, and their lines), `listing` (the messages of a base),
-//! `folder_listing` (the same of a base folder, of which it reads only those that are asked for), `area_counts` and
-//! `folder_areas` (how many messages of each area a base file or a base folder has), `exporting` and
-//! `folder_exporting` (`export`: the same for other programs), and `laws` (what holds of the definitions).
+//! Begin with `showing` (a packet). Each module is named for its command. `nodelists` has `nodelist`. `linking` and
+//! `links_text` have `links`: link files one by one, and their lines. `listing` and `folder_listing` have `list`, for a
+//! base file and for a base folder. `area_counts` and `folder_areas` have `list --areas`, how many messages each area
+//! has. `exporting` and `folder_exporting` have `export`, for other programs. Of a base folder a command reads only the
+//! messages asked for. `laws` has what holds of the definitions.
 //!
 //! For the faults of a link file: `judged` (the whole file), `before` (each line, by the good lines before it), `words`
 //! (the faulty word), `tags` (the tags of earlier lines), `faulty` (a faulty line) and `link_laws` (the promise).

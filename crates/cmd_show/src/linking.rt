@@ -19,9 +19,9 @@ pub struct NamedFile {
     pub bytes: Items<u8>,
 }
 
-/// `links [--areas] LINKS...`: prints of each link file its system and how many areas and links it has, with
-/// `areas` of each of its areas how many links that has; or of a faulty one each faulty line. The status is
-/// that of refused input where a file has a fault.
+/// `links [--areas] LINKS...`: prints of each link file its system and how many areas and links it has. With `areas` it
+/// prints how many links each of its areas has. Of a faulty file it prints each faulty line. The status is that of
+/// refused input if a file has a fault.
 pub fn links<'a, W: Sink>(
     alloc: Global,
     areas: bool,

@@ -26,9 +26,9 @@ pub struct Asked {
     pub first: u64,
 }
 
-/// `list [--short] [--area TAG] [--from I] BASE`: prints the messages of a base in a form, those of the area where one
-/// is given, from the number `first` on, and how many the base has and how many of them wait. Of a faulty
-/// base nothing is printed.
+/// `list [--short] [--area TAG] [--from I] BASE`: prints the messages of a base in a form, from the number `first` on.
+/// With an area it prints those of the area. Then it prints how many the base has and how many of them wait. Of a
+/// faulty base nothing is printed.
 pub fn list<'a, S: BuildHasher + Drop, W: Sink>(
     alloc: Global,
     form: ListForm,
@@ -44,7 +44,7 @@ pub fn list<'a, S: BuildHasher + Drop, W: Sink>(
     list_read(alloc, form, area, first, &base, out)
 }
 
-// The same of a base that is read: what is owned has no exit but the end.
+// The same of a base that is read: owned values have no exit but the end.
 fn list_read<'a, S: BuildHasher, W: Sink>(
     alloc: Global,
     form: ListForm,

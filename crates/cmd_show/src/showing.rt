@@ -39,7 +39,7 @@ pub fn show<'a, W: Sink>(
     }
 }
 
-// The bytes that hexadecimal text stands for.
+// The bytes that hexadecimal text encodes.
 fn decode<'a>(alloc: Global, input: &[u8]) -> Result<Vec<u8>, Fault<'a>>
     ensures { DecodeAnswers input.now result }
 {
@@ -84,7 +84,7 @@ fn show_packet<'a, W: Sink>(
     show_opened(alloc, full, &mut reader, lines, out)
 }
 
-// The same of a packet whose header is read.
+// The same of a packet after its header is read.
 fn show_opened<'a, W: Sink>(
     alloc: Global,
     full: bool,
@@ -109,7 +109,7 @@ fn show_opened<'a, W: Sink>(
     Ok(Status::Good)
 }
 
-// Adds the lines of the header. They are made by themselves first, so that out of memory adds none of them.
+// Adds the lines of the header. They are made by themselves first, so that out of memory adds no line.
 fn add_header(alloc: Global, lines: &mut Vec<u8>, header: &Header) -> Result<(), AllocError>
     ensures lines { OnOk result (lines.new.items ≡ lines.old.items ++ header_lines header.now) }
     ensures kept { OnErr result (lines.new.items ≡ lines.old.items) }
@@ -131,7 +131,7 @@ fn add_end(alloc: Global, lines: &mut Vec<u8>, messages: u64, bytes: u64) -> Res
     Ok(())
 }
 
-// Prints the lines of a message, of which the last ones stay in `lines`; out of memory adds none of them.
+// Prints the lines of a message; the last ones stay in `lines`. Out of memory adds no line.
 fn pass_message<'a, W: Sink>(
     alloc: Global,
     full: bool,

@@ -1,4 +1,4 @@
--- How a command on a store ends: what it prints, what the store holds then, and what a crash meanwhile leaves.
+-- How a command on a store ends: what it prints, what the store holds then, and what a crash at any time leaves.
 use Rattle.std.specs.Prelude.{◌≡◌, ℕ, ◌⊎◌, Bool, true, false, List, Result, Ok, Err}
 use Rattle.base_file.specs.Base.{Base}
 use Rattle.disk_io.specs.Disk.{Files, Honestly}
@@ -22,62 +22,62 @@ AnswersAndCommits IsRight IsRefused old new (Ok right) = Answers IsRight IsRefus
 AnswersAndCommits IsRight IsRefused old new (Err (Met fault)) = Answers IsRight IsRefused old new (Err fault)
 AnswersAndCommits {A} IsRight IsRefused old new (Err (Store cause)) = (new ≡ old) ⊎ ((right : A) × IsDone IsRight old new right)
 
--- just these lines
+-- Just these lines.
 abbrev pub AreLines : {A : Type 0} → List ℕ → List ℕ → A → Type 0
 AreLines whole lines done = lines ≡ whole
 
--- nothing is refused
+-- Nothing is refused.
 abbrev pub RefusesNone : Fault → Type 0
 RefusesNone fault = ⊥
 
--- these lines are printed, but for standard output or the store
+-- These lines are printed, except if standard output or the store fails.
 abbrev pub PrintsAll : {A : Type 0} → List ℕ → Output → Output → Result A CommandError → Type 0
 PrintsAll lines old new result = AnswersAndCommits (AreLines lines) RefusesNone old new result
 
--- there was no memory or the store failed, and nothing was printed
+-- There was no memory or the store failed, and nothing was printed.
 abbrev pub StopsFirst : {A : Type 0} → Output → Output → Result A CommandError → Type 0
 StopsFirst old new (Ok right) = ⊥
 StopsFirst old new (Err (Met fault)) = IsOutOfMemory fault × (new ≡ old)
 StopsFirst old new (Err (Store cause)) = new ≡ old
 
--- where the store did not fail, nothing of it has changed
+-- Where the store did not fail, nothing of it has changed.
 abbrev pub LooksWhereMet : StoreState → StoreState → CommandError → Type 0
 LooksWhereMet old new (Met fault) = LooksOn old new
 LooksWhereMet old new (Store cause) = Unit {0}
 
--- the store goes on, and what was committed before is so still, or what was held is
+-- The store can be used, and its commit from before still holds, or what it held is committed.
 pub record GoesOnFromEither (old new : StoreState) : Type 0 where
   pub ready : new.is_ready
   pub committed : Honestly new.disk (KeepsOrCommits old new)
 
--- where the store did not fail, nothing was committed, and it goes on
+-- Where the store did not fail, nothing was committed, and it goes on.
 abbrev pub CommitsNoneWhereMet : StoreState → StoreState → CommandError → Type 0
 CommitsNoneWhereMet old new (Met fault) = CommitsNothing old new × GoesOn old new
 CommitsNoneWhereMet old new (Store cause) = Unit {0}
 
--- where the store did not fail, at most what it held before was committed, and it goes on
+-- Where the store did not fail, at most what it held before was committed, and it goes on.
 abbrev pub MayCommitWhereMet : StoreState → StoreState → CommandError → Type 0
 MayCommitWhereMet old new (Met fault) = MayCommit old new × GoesOnFromEither old new
 MayCommitWhereMet old new (Store cause) = Unit {0}
 
--- the one or the other, by whether the command may commit what was held before
+-- The one or the other, by whether the command may commit what the store held before.
 abbrev pub StaysWhereMet : Bool → StoreState → StoreState → CommandError → Type 0
 StaysWhereMet false old new why = CommitsNoneWhereMet old new why
 StaysWhereMet true old new why = MayCommitWhereMet old new why
 
--- the store holds a base that the command makes, and it is committed
+-- The store holds a base that the command makes, and it is committed.
 pub record HasCommitted (IsMade : Base → Type 0) (new : StoreState) : Type 0 where
   pub next : Base
   pub made : IsMade next
   pub keeps : new.keeps next
   pub committed : new.committed next
 
--- a crash left the base that was committed before, or one that the command makes, and nothing beside has changed
+-- A crash left the base that was committed before, or one that the command makes. Nothing else has changed.
 pub record StandsForMade (old : StoreState) (IsMade : Base → Type 0) (first : Base) (c : Files) : Type 0 where
   pub beside : SameBesideStore old c
   pub stands : old.stands first c ⊎ ((next : Base) × IsMade next × old.stands next c)
 
--- a crash at any moment of a command leaves the base that was committed before, or one that the command makes of what the store held
+-- A crash at any time during a command leaves the base that was committed before, or one that the command makes of the base held.
 pub record MayMake (Makes : Base → Base → Type 0) (old new : StoreState) : Type 0 where
   pub any_moment : Honestly new.disk ((first base : Base) → old.committed first → old.keeps base → LeavesOnly old.disk new.disk (StandsForMade old (Makes base) first))
   pub beside : KeepsBeside old new

@@ -15,42 +15,42 @@ use Rattle.echo_toss.specs.declared.step_error.PostStepError.TheVariants as post
 use Rattle.cmd_store.specs.declared.command_error.CommandError.{CommandError}
 use Rattle.cmd_store.specs.Posted.{Posts, PostsOn}
 
--- the serial with which words are posted: theirs, or the first from that on that is free
+-- The serial with which words are posted: theirs, or the first from that on that is free.
 abbrev pub IsSerial : Bool → LinkFile → List Filed → ℕ → ℕ → Type 0
 IsSerial false file base start serial = serial ≡ start
 IsSerial true file base start serial = IsFirstFree file base start serial
 
--- the message is filed with that serial, and the store holds it
+-- The message is filed with that serial, and the store holds it.
 pub record FiledAs (free : Bool) (file : LinkFile) (base : Base) (words : NewMessage) (draft : Draft) (serial : ℕ) (new : StoreState) : Type 0 where
   pub is : IsSerial free file base.messages words.serial serial
   pub allowed : post_refusal file base.messages words.tag.now draft serial words.stamp ≡ None
   pub keeps : new.keeps (with_message base (posted file words.tag.now draft serial words.stamp))
 
--- a message is filed with that serial, or it is refused with that one; or the store failed
+-- A message is filed with that serial, or it is refused with that one; or the store failed.
 abbrev pub FilesAs : Bool → LinkFile → Base → NewMessage → Draft → Result ℕ PostStepError → StoreState → Type 0
 FilesAs free file base words draft (Ok serial) new = FiledAs free file base words draft serial new
 FilesAs free file base words draft (Err (post.Refused why)) new =
     (serial : ℕ) × IsSerial free file base.messages words.serial serial × (post_refusal file base.messages words.tag.now draft serial words.stamp ≡ Some why)
 FilesAs free file base words draft (Err (post.Store cause)) new = Unit {0}
 
--- a message is posted as with the first serial, from that of the words on, that is free at a system
+-- A message is posted as with the first serial, from that of the words on, that is free at a system.
 pub record PostsFreeOn {A : Type 0} (words : NewMessage) (system : SystemState) (body : List ℕ) (old new : Output) (result : Result A CommandError) : Type 0 where
   pub serial : ℕ
   pub first : IsFirstFree system.file system.base words.serial serial
   pub posted : PostsOn (with_serial words serial) system body old new result
 
--- the posting with that serial makes this base of one
+-- The posting with that serial makes this base of one.
 pub record PostsFree (file : LinkFile) (words : NewMessage) (body : List ℕ) (base next : Base) : Type 0 where
   pub serial : ℕ
   pub first : IsFirstFree file base.messages words.serial serial
   pub made : Posts file (with_serial words serial) body base next
 
--- words are posted at a system with their serial, or with the first from that on that is free
+-- Words are posted at a system with their serial, or with the first from that on that is free.
 abbrev pub PostsAsOn : {A : Type 0} → Bool → NewMessage → SystemState → List ℕ → Output → Output → Result A CommandError → Type 0
 PostsAsOn false words system body old new result = PostsOn words system body old new result
 PostsAsOn true words system body old new result = PostsFreeOn words system body old new result
 
--- the same posting makes this base of one
+-- The same posting makes this base of one.
 abbrev pub PostsAs : Bool → LinkFile → NewMessage → List ℕ → Base → Base → Type 0
 PostsAs false file words body base next = Posts file words body base next
 PostsAs true file words body base next = PostsFree file words body base next

@@ -34,36 +34,36 @@ from_said mail spare = name_or (field mail (codes "From")) (option_copied spare.
 abbrev pub subject_said : Mail → MailDefaults → Option (List ℕ)
 subject_said mail spare = words_or (field mail (codes "Subject")) (option_copied spare.subject)
 
--- an id, where it is one
+-- An id, where it is one.
 abbrev pub true_id : Option (List ℕ) → Option (List ℕ)
 true_id None = None
 true_id (Some id) = if is_id id then Some id else None
 
--- the id that a field names, where it was made of one
+-- The id that a field names, where it was made of one.
 abbrev pub answered_id : Option (List ℕ) → Option (List ℕ)
 answered_id None = None
 answered_id (Some value) = true_id (exported_id value)
 
--- the id of the message that the mail answers, or else a word, or no bytes
+-- The id of the message that the mail answers, or else a word, or no bytes.
 abbrev pub reply_said : Mail → MailDefaults → List ℕ
 reply_said mail spare = unwrap_or (option_or (answered_id (field mail (codes "In-Reply-To"))) (option_copied spare.reply)) []
 
--- a text that there is, or its fault, in the bytes of a charset
+-- A text that there is, or its fault, in the bytes of a charset.
 abbrev pub IsBody : Charset → Result (List ℕ) MailFault → Result (List ℕ) LetterFault → Type 0
 IsBody charset (Ok text) answer = IsSaid charset text answer
 IsBody charset (Err why) answer = IsRefused (letter_fault why) answer
 
--- an area that is there, or the fault that there is none
+-- An area that was found, or the fault that there is none.
 abbrev pub IsArea : Option (List ℕ) → Result (List ℕ) LetterFault → Type 0
 IsArea None answer = IsRefused NoArea answer
 IsArea (Some tag) (Ok found) = found ≡ tag
 IsArea (Some tag) (Err fault) = fault ≡ Memory
 
--- whether names, subject or text have a byte above 7F
+-- Whether names, subject or text have a byte above 7F.
 abbrev pub are_wide : List ℕ → List ℕ → List ℕ → List ℕ → Bool
 are_wide to from subject said = is_wide to || (is_wide from || (is_wide subject || is_wide said))
 
--- the words and the body of a mail: the body is its text, behind the line of the charset where a byte is above 7F
+-- The words and the body of a mail: the body is its text, behind the line of the charset where a byte is above 7F.
 pub record IsLetter (charset : Charset) (spare : MailDefaults) (mail : Mail) (letter : Letter) : Type 0 where
   pub said : List ℕ
   pub tag : IsArea (area_said mail spare) (Ok letter.tag)
@@ -74,7 +74,7 @@ pub record IsLetter (charset : Charset) (spare : MailDefaults) (mail : Mail) (le
   pub text : IsBody charset (text_of mail) (Ok said)
   pub body : letter.body ≡ with_line charset (are_wide letter.to_name letter.from_name letter.subject said) said
 
--- the fault of one of these
+-- The fault of one of these.
 abbrev pub IsLetterFault : Charset → MailDefaults → Mail → LetterFault → Type 0
 IsLetterFault charset spare mail fault =
     (fault ≡ Memory)
@@ -84,12 +84,12 @@ IsLetterFault charset spare mail fault =
     ⊎ (IsWritten charset (subject_said mail spare) NoSubject (Err fault)
     ⊎ IsBody charset (text_of mail) (Err fault)))))
 
--- what is answered for a mail
+-- The right result for a mail.
 abbrev pub LetterOf : Charset → MailDefaults → Mail → Result Letter LetterFault → Type 0
 LetterOf charset spare mail (Ok letter) = IsLetter charset spare mail letter
 LetterOf charset spare mail (Err fault) = IsLetterFault charset spare mail fault
 
--- the same for what is read as one, or its fault
+-- The same for bytes that are read as a mail, or their fault.
 abbrev pub LetterAnswers : Charset → MailDefaults → Result Mail MailFault → Result Letter LetterFault → Type 0
 LetterAnswers charset spare (Ok mail) answer = LetterOf charset spare mail answer
 LetterAnswers charset spare (Err why) answer = IsRefused (letter_fault why) answer

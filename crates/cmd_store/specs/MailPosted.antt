@@ -15,18 +15,18 @@ use Rattle.cmd_store.specs.declared.mail_posting.PostMail.{PostMail}
 use Rattle.cmd_store.specs.Letter.{LetterAnswers}
 use Rattle.cmd_store.specs.Mailed.{IsPosting}
 
--- the letter of the mail is to be posted as it was asked, or the mail is refused
+-- The letter of the mail is to be posted as it was asked, or the mail is refused.
 abbrev pub ReadsMail : MailWords → List ℕ → Result PostMail LetterFault → Type 0
 ReadsMail asked bytes (Ok mail) = LetterAnswers asked.charset asked.spare (mail_in bytes) (Ok mail.letter) × (mail.asked ≡ asked)
 ReadsMail asked bytes (Err fault) = LetterAnswers asked.charset asked.spare (mail_in bytes) (Err fault)
 
--- what is answered where the letter is to be posted at a system
+-- The right result if the letter is to be posted at a system.
 pub record MailsOn {A : Type 0} (letter : Letter) (asked : MailWords) (system : SystemState) (old new : Output) (result : Result A CommandError) : Type 0 where
   pub words : NewMessage
   pub posting : IsPosting letter asked words
   pub posted : PostsAsOn asked.free words system letter.body old new result
 
--- the posting of the letter makes this base of one
+-- The posting of the letter makes this base of one.
 pub record Mails (file : LinkFile) (letter : Letter) (asked : MailWords) (base next : Base) : Type 0 where
   pub words : NewMessage
   pub posting : IsPosting letter asked words

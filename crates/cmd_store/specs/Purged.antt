@@ -8,18 +8,18 @@ use Rattle.base_store.specs.Store.{purged}
 use Rattle.cmd_store.specs.declared.command_error.CommandError.{CommandError}
 use Rattle.cmd_store.specs.Answered.{AnswersAndCommits, RefusesNone}
 
--- the purge of a base: the line of how many messages it changes
+-- The purge of a base: the line of how many messages it changes.
 abbrev pub IsPurgedAt : {A : Type 0} → Base → List ℕ → A → Type 0
 IsPurgedAt base lines done = lines ≡ purged_line (changed base.messages base.cursor)
 
--- what is answered where a base is to be purged
+-- The right result if a base is to be purged.
 abbrev pub PurgesOn : {A : Type 0} → Base → Output → Output → Result A CommandError → Type 0
 PurgesOn base old new result = AnswersAndCommits (IsPurgedAt base) RefusesNone old new result
 
--- the purge makes this base of one
+-- The purge makes this base of one.
 abbrev pub Purges : Base → Base → Type 0
 Purges base next = next ≡ purged base
 
--- what was held before a purge may be committed by it first
+-- A purge may first commit what the store held before.
 abbrev pub HoldsOrPurges : Base → Base → Type 0
 HoldsOrPurges base next = (next ≡ base) ⊎ Purges base next

@@ -16,7 +16,7 @@ use Rattle.cmd_store.specs.declared.command_error.CommandError.TheVariants.{Met,
 use Rattle.cmd_store.specs.Answered.{StopsFirst}
 pub use Rattle.cmd_store.specs.FreeSerial.{PostsAs, PostsAsOn}
 
--- the words that the message gives, which is found or not, or why there are none; or the store failed
+-- The words that the message gives, which is found or not, or why there are none; or the store failed.
 abbrev pub FindsOn : Option Filed → Result ReplyFields CommandError → Type 0
 FindsOn None (Err (Met fault)) = fault ≡ BadNumber
 FindsOn None other = ⊥
@@ -24,23 +24,23 @@ FindsOn (Some m) (Ok found) = IsFound m found
 FindsOn (Some m) (Err (Met fault)) = IsOutOfMemory fault
 FindsOn (Some m) (Err (Store cause)) = Unit {0}
 
--- the words of an answer are posted
+-- The words of an answer are posted.
 pub record PostsReplyOn {A : Type 0} (m : Filed) (answer : Answer) (system : SystemState) (body : List ℕ) (old new : Output) (result : Result A CommandError) : Type 0 where
   pub words : NewMessage
   pub of_message : IsReply m answer words
   pub posted : PostsAsOn answer.free words system body old new result
 
--- there is no such message, and nothing is printed
+-- There is no such message, and nothing is printed.
 abbrev pub HasNoneOn : {A : Type 0} → Output → Output → Result A CommandError → Type 0
 HasNoneOn old new (Err (Met fault)) = (fault ≡ BadNumber) × (new ≡ old)
 HasNoneOn old new other = ⊥
 
--- what becomes of an answer to the message that is found, or not
+-- What becomes of an answer to the message that is found, or not.
 abbrev pub RepliesOn : {A : Type 0} → Option Filed → Answer → SystemState → List ℕ → Output → Output → Result A CommandError → Type 0
 RepliesOn None answer system body old new result = HasNoneOn old new result
 RepliesOn (Some m) answer system body old new result = StopsFirst old new result ⊎ PostsReplyOn m answer system body old new result
 
--- the answer to the message of this number makes this base of one
+-- The answer to the message of this number makes this base of one.
 pub record Replies (file : LinkFile) (index : ℕ) (answer : Answer) (body : List ℕ) (base next : Base) : Type 0 where
   pub message : Filed
   pub found : slice_get base.messages index ≡ Some message

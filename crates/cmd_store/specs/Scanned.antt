@@ -14,16 +14,16 @@ use Rattle.model_steps.specs.SystemState.{SystemState}
 use Rattle.cmd_store.specs.declared.command_error.CommandError.{CommandError}
 use Rattle.cmd_store.specs.Answered.{AnswersOn}
 
--- the scan of a system: a line for each of its packets, and their files
+-- The scan of a system: a line for each of its packets, and their files.
 pub record IsScannedAt (stamp : Stamp) (system : SystemState) (lines : List ℕ) (files : List PacketFile) : Type 0 where
   pub moment : is_stamp stamp ≡ true
   pub printed : lines ≡ flat_map line_sent (scanned system.file system.base system.cursor stamp)
   pub packets : files ≡ map (file_sent system.cursor) (scanned system.file system.base system.cursor stamp)
 
--- a part of the stamp is out of its range
+-- A part of the stamp is out of its range.
 abbrev pub IsUnscannedAt : Stamp → Fault → Type 0
 IsUnscannedAt stamp fault = (fault ≡ Scan BadStamp) × (is_stamp stamp ≡ false)
 
--- what is answered where a system is to be scanned
+-- The right result if a system is to be scanned.
 abbrev pub ScansOn : Stamp → SystemState → Output → Output → Result (List PacketFile) CommandError → Type 0
 ScansOn stamp system old new result = AnswersOn (IsScannedAt stamp system) (IsUnscannedAt stamp) old new result

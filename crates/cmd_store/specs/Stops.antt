@@ -13,33 +13,33 @@ use Rattle.echo_toss.specs.declared.step_error.ScanStepError.TheVariants as scan
 use Rattle.cmd_store.specs.declared.command_error.CommandError.{CommandError}
 use Rattle.cmd_store.specs.declared.command_error.CommandError.TheVariants as stop
 
--- why a posting stopped a command
+-- Why a posting stopped a command.
 abbrev pub post_stop : PostStepError → CommandError
 post_stop (post.Refused why) = stop.Met (Post why)
 post_stop (post.Store cause) = stop.Store cause
 
--- why a scan stopped a command
+-- Why a scan stopped a command.
 abbrev pub scan_stop : ScanStepError → CommandError
 scan_stop scan.BadStamp = stop.Met (Scan scan_fault.BadStamp)
 scan_stop (scan.Store cause) = stop.Store cause
 
--- what the store answered
+-- What the store answered.
 abbrev pub store_answer : {A : Type 0} → Result A CommandError → Result (Unit {0}) StoreError
 store_answer (Ok done) = Ok tt
 store_answer (Err (stop.Met fault)) = Ok tt
 store_answer (Err (stop.Store cause)) = Err cause
 
--- the store failed
+-- The store failed.
 abbrev pub IsOfStore : CommandError → Type 0
 IsOfStore (stop.Met fault) = ⊥
 IsOfStore (stop.Store cause) = Unit {0}
 
--- what is at the path cannot be used
+-- The file at the path cannot be used.
 abbrev pub CannotUseAt : List ℕ → Fault → Type 0
 CannotUseAt path (CannotUse other) = other.now ≡ path
 CannotUseAt path _ = ⊥
 
--- what is reported of why a command stopped, where the store is at the path
+-- The fault that reports why a command stopped, with the store at the path.
 abbrev pub IsToldAs : List ℕ → CommandError → Fault → Type 0
 IsToldAs path (stop.Met fault) told = told ≡ fault
 IsToldAs path (stop.Store error.Memory) told = told ≡ OutOfMemory

@@ -23,7 +23,7 @@ use Rattle.cmd_report.specs.Lines.{tally_line}
 use Rattle.cmd_store.specs.declared.command_error.CommandError.{CommandError}
 use Rattle.cmd_store.specs.declared.command_error.CommandError.TheVariants.{Met, Store}
 
--- the packet files, of which so much is taken, are tossed at a system with this base, up to the first fault, and then it has the other
+-- The packet files, within these limits, are tossed at a system with this base, up to the first fault. Then it has the other base.
 pub record Tosses {R : Type 0} (noting : Bool) (limits : Limits) (device : R → Device) (file : LinkFile) (files : List Coming) (base next : Base) : Type 0 where
   pub stopped : Option Fault
   pub left : List Coming
@@ -44,18 +44,18 @@ EndsOn run stopped old new (Err (Met fault)) =
     (stopped ≡ None) × CannotPrint old.failures new.failures fault × WritesFront run.lines old.contents new.contents
 EndsOn run stopped old new (Err (Store cause)) = ((stopped ≡ Some TossMemory) × (new ≡ old)) ⊎ AreOut run stopped old new
 
--- how the lines of a run are printed
+-- How the lines of a run are printed.
 abbrev pub PrintsRun : TossRun → Option Fault → Output → Output → Result (Unit {0}) Fault → Type 0
 PrintsRun run stopped old new (Ok done) = AreOut run stopped old new
 PrintsRun run stopped old new (Err fault) =
     (stopped ≡ None) × CannotPrint old.failures new.failures fault × WritesFront run.lines old.contents new.contents
 
--- what stopped a run, as steps of a system tell it: that the store failed, as out of memory
+-- What stopped a run, as steps of a system tell it: that the store failed, as out of memory.
 abbrev pub stopped_in : Result (Option Fault) StoreError → Option Fault
 stopped_in (Ok stopped) = stopped
 stopped_in (Err cause) = Some TossMemory
 
--- the line of a packet is added, and why it was not tossed whole is answered; where the store failed no line is
+-- The line of a packet is added, and why it was not tossed whole is answered; where the store failed no line is.
 abbrev pub ReportsStop : List ℕ → List ℕ → Tally → TossStepError → Result (Option Fault) StoreError → Type 0
 ReportsStop old new tally (toss.Packet why) result = (result ≡ Ok (Some (fault_of why))) × (new ≡ old ++ tally_line tally)
 ReportsStop old new tally (toss.Store cause) result = result ≡ Err cause
@@ -64,7 +64,7 @@ abbrev pub ReportsIn : List ℕ → List ℕ → Result Tally StoppedToss → Re
 ReportsIn old new (Ok tally) result = (result ≡ Ok None) × (new ≡ old ++ tally_line tally)
 ReportsIn old new (Err stopped) result = ReportsStop old new stopped.tally stopped.stop result
 
--- a run at a system with this base
+-- A run at a system with this base.
 abbrev pub run_at : Limits → LinkFile → Base → List ℕ → TossRun
 run_at limits file base lines = record { limits = limits; system = state_in file base; lines = lines }
 
@@ -87,7 +87,7 @@ pub record TossesFiles {R : Type 0} (noting : Bool) (limits : Limits) (device : 
   pub added : OnOk result (run.lines ≡ more)
   pub keeps : OnOk result (new.keeps next)
 
--- the store holds this base, and it is committed
+-- The store holds this base, and it is committed.
 abbrev pub HoldsCommitted : StoreState → Base → Type 0
 HoldsCommitted s base = s.keeps base × s.committed base
 

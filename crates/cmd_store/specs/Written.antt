@@ -9,25 +9,25 @@ use Rattle.echo_mail.specs.Mailbox.{person_name}
 use Rattle.cmd_store.specs.declared.fault.LetterFault.{LetterFault}
 use Rattle.cmd_store.specs.declared.fault.LetterFault.TheVariants.{Memory, NotInCharset}
 
--- a fault is answered, unless memory was refused
+-- A fault is answered, unless memory was refused.
 abbrev pub IsRefused : {A : Type 0} → LetterFault → Result A LetterFault → Type 0
 IsRefused why (Ok found) = ⊥
 IsRefused why (Err fault) = (fault ≡ Memory) ⊎ (fault ≡ why)
 
--- bytes say the text in a charset, or the charset lacks a character of it, unless memory was refused
+-- Bytes say the text in a charset, or the charset lacks a character of it, unless memory was refused.
 abbrev pub IsSaid : Charset → List ℕ → Result (List ℕ) LetterFault → Type 0
 IsSaid charset text (Ok bytes) = decoded_text charset bytes ≡ text
 IsSaid charset text (Err fault) = (fault ≡ Memory) ⊎ ((fault ≡ NotInCharset) × Lacks charset text)
 
--- the same of a text that may be absent, which is a fault
+-- The same of a text that may be absent, which is a fault.
 abbrev pub IsWritten : Charset → Option (List ℕ) → LetterFault → Result (List ℕ) LetterFault → Type 0
 IsWritten charset None lack answer = IsRefused lack answer
 IsWritten charset (Some text) lack answer = IsSaid charset text answer
 
--- the name that a field says, or else a word
+-- The name that a field says, or else a word.
 abbrev pub name_or : Option (List ℕ) → Option (List ℕ) → Option (List ℕ)
 name_or value word = option_or (option_map person_name value) word
 
--- the words of a field, or else a word
+-- The words of a field, or else a word.
 abbrev pub words_or : Option (List ℕ) → Option (List ℕ) → Option (List ℕ)
 words_or value word = option_or (option_map decoded_words value) word

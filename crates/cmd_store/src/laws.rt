@@ -6,8 +6,8 @@ ghost use Rattle.echo_export.specs.HeaderText.{id_line};
 ghost use Rattle.echo_mail.specs.Head.{field_of};
 ghost use Rattle.cmd_store.specs.Letter.{answered_id};
 
-/// The id of an exported message comes back. Where the line `Message-ID` is the one that `export` writes of an id, and
-/// an answer has its value as `In-Reply-To`, the answer names that id, byte for byte.
+/// The id of an exported message comes back. Let the line `Message-ID` be the one that `export` writes of an id, and
+/// let an answer have its value as `In-Reply-To`. Then the answer names that id, byte for byte.
 pub fn exported_ids_are_answered()
     ensures { (line id : List ℕ) → IsBytes id → is_id id ≡ true → id_line (codes "Message-ID") (Some id) ≡ line ++ codes "\n" → answered_id (Some (field_of line).value) ≡ Some id }
 {}

@@ -25,7 +25,7 @@ pub struct MailDefaults<'a> {
     pub reply: Option<&'a str>,
 }
 
-/// The words of a posting, and its body, whose lines end in 0D.
+/// The words of a posting, and its body with lines that end in 0D.
 #[derive(Drop)]
 pub struct Letter {
     pub tag: Items<u8>,

@@ -1,18 +1,19 @@
-//! The commands that change a base, on any store of messages: `post`, `reply`, `scan`, `purge` and `toss`, and
-//! `post --mail` of a mail message (RFC 5322).
+//! The commands that change a base, on any store of messages: `post`, `reply`, `scan`, `purge` and `toss`, and `post
+//! --mail` of a mail message (RFC 5322).
 //!
-//! The contract for the program: each command prints just the lines, or answers just the fault, that the base of the store
-//! and the command's words give. Where it ends well the store holds and has committed the base that the command makes;
-//! where it met a fault it has committed at most what the store held before. A crash at any moment leaves the base that was
-//! committed before, or the one that the command makes. A failure of the store is answered as one. A mail posts the
-//! words that it says, in the bytes of a charset, and other words where it lacks one.
+//! The contract for the program: each command prints just the lines, or returns just the fault, that the base of the
+//! store and the command's words give. If it ends well, the store holds and has committed the base that the command
+//! makes. If it met a fault, it has committed at most what the store held before. A crash at any time leaves the base
+//! that was committed before, or the one that the command makes. A failure of the store is returned as one. A mail
+//! posts its words in the bytes of a charset, and other words if the charset lacks one.
 //!
 //! Each is a type that implements `StoreCommand`, except `scan`, which needs the disk for its packets.
 //!
-//! Modules in reading order: `command_error` (why a command stopped), `command` (what a command owes), `leaving` (lines are printed,
-//! and the store committed), `serials` (the serial of a posting), `posting`, `replying`, `scanning`, `purging` and `tossing`.
-//! For mail: `fault` (why a mail is not posted), `writing` (what a mail says, in a charset), `charset_line` (the line of
-//! that charset), `letter` (the words of a mail), `mailed` (the words of the posting), `mail_posting` (the command) and `laws`.
+//! Begin with `command` (what a command promises) and `command_error` (why a command stopped). Then `posting`,
+//! `replying`, `scanning`, `purging` and `tossing`, each one command. `leaving` prints lines and commits the store, and
+//! `serials` chooses the serial of a posting. For mail: `fault` (why a mail is not posted), `writing` (the words of a
+//! mail in a charset), `charset_line` (the line of that charset), `letter` (the words of a mail), `mailed` (the words
+//! of the posting) and `mail_posting` (the command). `laws` has what holds of exported ids.
 #![tactic(auto)]
 
 mod charset_line;

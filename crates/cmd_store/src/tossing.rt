@@ -78,7 +78,7 @@ impl<'a, P: PacketFiles<'a>> StoreCommand<'a> for Toss<'a, P> {
 }
 
 // `toss`: tosses the packet at the front of each file into the store, in order, prints a line for each, and commits.
-// The run ends at the fault of a packet or of its file. The fault is returned, and what was tossed before is
+// The run ends at the fault of a packet or of its file. The fault is returned, and the messages tossed before are
 // committed; later files are not opened. With `noting`, the line of a packet comes after a line for each of its
 // messages that was not filed (`toss --each`).
 fn toss_on<'a, T: Store, P: PacketFiles<'a>, W: Sink>(

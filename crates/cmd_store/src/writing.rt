@@ -24,7 +24,7 @@ pub(crate) fn name_in(
     }
 }
 
-/// The words of the value of a field, likewise.
+/// The words of the value of a field, in the same way.
 pub(crate) fn words_in(
     alloc: Global,
     charset: Charset,

@@ -16,26 +16,26 @@ use Rattle.cmd_report.specs.Posted.{draft_given}
 use Rattle.law_stations.specs.Commands.{Command, CommandEvent, Happen, Happens, Post, Purge, Scan, Toss}
 use Rattle.law_stations.specs.Nets.{Net, Paired, Station, first_net}
 
--- the messages and the cursor of a system
+-- The messages and the cursor of a system.
 abbrev pub base_of : System → Base
 base_of s = record { messages = s.base; cursor = s.cursor }
 
--- the link file and the base of a station are those of a system, and that is a base
+-- The link file and the base of a station are those of a system, and that is a base.
 pub record HasSystem (station : Station) (s : System) : Type 0 where
   pub links : LinksOf station.links (Ok s.file)
   pub base : station.base ≡ base_of s
   pub is_base : IsBase s.base s.cursor
 
--- nothing of these bytes is too long
+-- Nothing of these bytes is too long.
 abbrev pub limits_of : List ℕ → Limits
 limits_of bytes = record { text = length bytes; messages = length bytes }
 
--- the bytes are those of the packet, and its header names the zone of its receiver
+-- The bytes are those of the packet, and its header names the zone of its receiver.
 pub record IsPacketFile (bytes : List ℕ) (p : Packet) : Type 0 where
   pub packet : PacketOf (limits_of bytes) p.header p.messages bytes
   pub zone : p.header.dest_zone ≢ 0
 
--- the system filed the message, and it was posted there
+-- The system filed the message, and it was posted there.
 pub record HasPosting (m : Filed) (s : System) : Type 0 where
   pub filed : Among m s.history
   pub own : m.sender ≡ None
@@ -49,31 +49,31 @@ pub record Agrees (net : Net) (run : Run) : Type 0 where
   pub postings : (m : Filed) → Among m net.postings → (s : System) × Among s run.systems × HasPosting m s
   pub only_postings : (s : System) → Among s run.systems → (m : Filed) → HasPosting m s → Among m net.postings
 
--- the own address of a system
+-- The own address of a system.
 abbrev pub own_address : System → Address
 own_address s = s.file.system
 
 abbrev pub file_address : LinkFile → Address
 file_address file = file.system
 
--- the toss of one packet file: no event if it is refused, the delivery of the packet, or one that stops after its
--- first messages
+-- The toss of one packet file: no event if it is refused, the delivery of the packet, or one that stops after its
+-- first messages.
 abbrev pub IsTossOf : ℕ → List RunEvent → Type 0
 IsTossOf k events = (events ≡ []) ⊎ ((events ≡ Delivery k ∷ []) ⊎ ((messages : ℕ) × (events ≡ PartDelivery k messages ∷ [])))
 
--- and of some, in order
+-- And of some, in order.
 abbrev pub AreTossesOf : List ℕ → List RunEvent → Type 0
 AreTossesOf [] events = events ≡ []
 AreTossesOf (k ∷ later) events = (first : List RunEvent) × (rest : List RunEvent) × (events ≡ first ++ rest) × IsTossOf k first × AreTossesOf later rest
 
--- the events of a command without a fault: one posting, one scan, one purge, or the tosses of its packets
+-- The events of a command without a fault: one posting, one scan, one purge, or the tosses of its packets.
 abbrev pub AreEventsOf : Command → ℕ → List RunEvent → Type 0
 AreEventsOf (Post words body) i events = events ≡ Posting i words.tag.now (draft_given words body) words.serial words.stamp ∷ []
 AreEventsOf (Scan stamp) i events = events ≡ Scanning i stamp ∷ []
 AreEventsOf Purge i events = events ≡ Purging i ∷ []
 AreEventsOf (Toss indexes) i events = AreTossesOf indexes events
 
--- the events of several commands in order: those of the first, or none, and then those of the later ones
+-- The events of several commands in order: those of the first, or none, and then those of the later ones.
 abbrev pub AreEventsOfAll : List CommandEvent → List RunEvent → Type 0
 AreEventsOfAll [] events = events ≡ []
 AreEventsOfAll (command ∷ later) events =

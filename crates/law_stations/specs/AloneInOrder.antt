@@ -25,7 +25,7 @@ use Rattle.law_stations.specs.InOrder.{ReadsAs, StationSays}
 use Rattle.law_stations.specs.Nets.{Paired, Station}
 use Rattle.law_stations.specs.LoneStations.{HappenAlone, LoneCommand, LoneStation, PurgeAlone, TossesAny, held_in, lone_station_at_first}
 
--- the bytes begin with a packet
+-- The bytes begin with a packet.
 pub record HoldsPacket (bytes : List ℕ) (p : Packet) : Type 0 where
   pub limits : Limits
   pub front : List ℕ
@@ -33,7 +33,7 @@ pub record HoldsPacket (bytes : List ℕ) (p : Packet) : Type 0 where
   pub parts : bytes ≡ front ++ behind
   pub packet : PacketOf limits p.header p.messages front
 
--- the message is in the bytes after the header of a packet, and came from a link of its area
+-- The message is in the bytes after the header of a packet, and came from a link of its area.
 pub record CameIn (bytes : List ℕ) (file : LinkFile) (m : Filed) : Type 0 where
   pub limits : Limits
   pub header : Header
@@ -44,60 +44,60 @@ pub record CameIn (bytes : List ℕ) (file : LinkFile) (m : Filed) : Type 0 wher
   pub from : IsFromLink file (sender_of file header) packed
   pub is : m ≡ received (sender_of file header) packed
 
--- the message was posted, or came in an input file of `toss`
+-- The message was posted, or came in an input file of `toss`.
 abbrev pub HasCome : LoneStation → LinkFile → Filed → Type 0
 HasCome s file m = Among m s.net.postings ⊎ ((bytes : List ℕ) × Among bytes s.came × CameIn bytes file m)
 
--- the contents of the station: its link file, and the messages and the cursor of its base
+-- The contents of the station: its link file, and the messages and the cursor of its base.
 pub record LoneSays (s : LoneStation) (file : LinkFile) (messages : List Filed) (cursor : ℕ) : Type 0 where
   pub station : Station
   pub there : s.net.stations ≡ station ∷ []
   pub says : StationSays station file messages cursor
 
--- a scanned message is the stub of another, and `purge` was called
+-- A scanned message is the stub of another, and `purge` was called.
 pub record IsLeftAlone (commands : List LoneCommand) (scanned : List Filed) (m o : Filed) : Type 0 where
   pub purged : Among PurgeAlone commands
   pub scanned_before : Among m scanned
   pub stub : m ≡ stub_of o
 
--- the promise about the base and the packet files of the station after these commands
+-- The promise about the base and the packet files of the station after these commands.
 pub record IsInOrderAlone (commands : List LoneCommand) (s : LoneStation) : Type 0 where
-  -- each packet file is a packet, and the station's messages are a base
+  -- Each packet file is a packet, and the station's messages are a base.
   pub packets : (bytes : List ℕ) → Among bytes s.net.packets → (p : Packet) × ReadsAs bytes p
   pub base : (file : LinkFile) × (messages : List Filed) × (cursor : ℕ) × LoneSays s file messages cursor × IsBase messages cursor
-  -- it has each message at most once
+  -- It has each message at most once.
   pub filed_once : (file : LinkFile) (messages : List Filed) (cursor : ℕ) → LoneSays s file messages cursor → (key : Key) → count key messages ≤ 1
-  -- only messages that were posted or came from a link of their area, unchanged or as stubs
+  -- Only messages that were posted or came from a link of their area, unchanged or as stubs.
   pub only_come : (file : LinkFile) (messages : List Filed) (cursor : ℕ) → LoneSays s file messages cursor → (m : Filed) → Among m messages →
       (o : Filed) × HasCome s file o × ((m ≡ o) ⊎ IsLeftAlone commands (take cursor messages) m o)
-  -- and all of those: postings, and messages from a link of their area in a packet that was tossed whole
+  -- And all of those: postings, and messages from a link of their area in a packet that was tossed whole.
   pub all_posted : (file : LinkFile) (messages : List Filed) (cursor : ℕ) → LoneSays s file messages cursor →
       (posting : Filed) → Among posting s.net.postings → count (key_of posting) messages ≡ 1
   pub all_come : (file : LinkFile) (messages : List Filed) (cursor : ℕ) → LoneSays s file messages cursor →
       (bytes : List ℕ) → Among bytes s.whole → (p : Packet) → HoldsPacket bytes p → (packed : Message) → Among packed p.messages →
       IsFromLink file (sender_of file p.header) packed → count (key_of (received (sender_of file p.header) packed)) messages ≡ 1
-  -- over all packet files each address is sent each message at most once
+  -- Over all packet files each address is sent each message at most once.
   pub sent_once : (packets : List Packet) → Paired ReadsAs s.net.packets packets → (address : Address) (key : Key) → sent_count address key packets ≤ 1
-  -- none to an address that should not get it, and no waiting message
+  -- None to an address that should not get it, and no waiting message.
   pub never : (packets : List Packet) → Paired ReadsAs s.net.packets packets →
       (file : LinkFile) (messages : List Filed) (cursor : ℕ) → LoneSays s file messages cursor → (m : Filed) → Among m messages →
       (address : Address) → (¬ IsOwed file m address) → sent_count address (key_of m) packets ≡ 0
   pub waiting : (packets : List Packet) → Paired ReadsAs s.net.packets packets →
       (file : LinkFile) (messages : List Filed) (cursor : ℕ) → LoneSays s file messages cursor → (m : Filed) → Among m (drop cursor messages) →
       (address : Address) → sent_count address (key_of m) packets ≡ 0
-  -- and a scanned message that no purge reached, once to each address that should get it
+  -- And a scanned message that no purge reached, once to each address that should get it.
   pub owed : (packets : List Packet) → Paired ReadsAs s.net.packets packets →
       (file : LinkFile) (messages : List Filed) (cursor : ℕ) → LoneSays s file messages cursor → (m : Filed) → Among m (take cursor messages) →
       is_stub m ≡ false → (address : Address) → IsOwed file m address → sent_count address (key_of m) packets ≡ 1
-  -- each message in a packet file is echomail, and a copy of one that was posted or came, for an address that should
-  -- get it
+  -- Each message in a packet file is echomail, and a copy of one that was posted or came, for an address that should
+  -- get it.
   pub echomail : (packets : List Packet) → Paired ReadsAs s.net.packets packets → (p : Packet) → Among p packets →
       (packed : Message) → Among packed p.messages → text_refusal packed.text ≡ None
   pub copied_from : (packets : List Packet) → Paired ReadsAs s.net.packets packets →
       (file : LinkFile) (messages : List Filed) (cursor : ℕ) → LoneSays s file messages cursor → (p : Packet) → Among p packets →
       (copy : Filed) → Among copy (copies p) → (o : Filed) × HasCome s file o × IsSentCopy file o (destination p) copy × IsOwed file o (destination p)
 
--- any commands on one station, and any input files of `toss`, leave it in order
+-- Any commands on one station, and any input files of `toss`, leave it in order.
 abbrev pub AloneIsInOrder : Type 0
 AloneIsInOrder = (links : List ℕ) (file : LinkFile) → LinksOf links (Ok file)
     → (commands : List LoneCommand) (s : LoneStation) → HappenAlone commands (lone_station_at_first links) s → IsInOrderAlone commands s

@@ -8,20 +8,20 @@ use Rattle.law_stations.specs.LoneStations.{LoneCommand}
 use Rattle.law_stations.specs.OverCrashes.{HasNet}
 use Rattle.law_stations.specs.LoneDisks.{LoneDisks, MayHappenAllAlone, lone_disks_at_first, on_net}
 
--- the disks have a net of the station alone that is in order after these commands: its packets are those of the scans that
--- moved the cursor, each under its name or to be named
+-- The disks have a net of the station alone that is in order after these commands: its packets are those of the scans that
+-- moved the cursor, each under its name or to be named.
 pub record AloneHasOrder (commands : List LoneCommand) (s : LoneDisks) : Type 0 where
   pub net : Net
   pub has : HasNet s.disks net
   pub in_order : IsInOrderAlone commands (on_net s net)
 
--- any commands, whatever stops them, and any input files of `toss` leave it so
+-- Any commands, whatever stops them, and any input files of `toss` leave it so.
 abbrev pub AloneIsInOrderOverCrashes : Type 0
 AloneIsInOrderOverCrashes = (links : List ℕ) (file : LinkFile) → LinksOf links (Ok file)
     → (commands : List LoneCommand) (s : LoneDisks) → MayHappenAllAlone commands (lone_disks_at_first links) s → AloneHasOrder commands s
 
--- before and after later commands the disks have nets, and the later net keeps the contents of the earlier one; and
--- no packet file loses its name
+-- Before and after later commands the disks have nets, and the later net keeps the contents of the earlier one; and
+-- no packet file loses its name.
 pub record StaysOverCrashes (later : List LoneCommand) (s new : LoneDisks) : Type 0 where
   pub net : Net
   pub has : HasNet s.disks net
@@ -30,7 +30,7 @@ pub record StaysOverCrashes (later : List LoneCommand) (s new : LoneDisks) : Typ
   pub shows : ShowsStill later (on_net s net) (on_net new next)
   pub packets : (since : List (List ℕ)) × (new.disks.net.packets ≡ s.disks.net.packets ++ since)
 
--- whatever commands are run later, and whatever stops them
+-- Whatever commands are run later, and whatever stops them.
 abbrev pub AloneStaysOverCrashes : Type 0
 AloneStaysOverCrashes = (links : List ℕ) (file : LinkFile) → LinksOf links (Ok file)
     → (earlier later : List LoneCommand) (s new : LoneDisks) → MayHappenAllAlone earlier (lone_disks_at_first links) s → MayHappenAllAlone later s new

@@ -18,7 +18,7 @@ use Rattle.law_stations.specs.OnDisks.{RefinesEvent, IsAsBefore}
 use Rattle.law_stations.specs.Seats.{IsShared, Seat, StandsAt}
 use Rattle.law_stations.specs.Steps.{HasEnded, IsAllOnDisk, WasCut}
 
--- what is asked of a station
+-- A request to a station.
 pub data Asked : Type 0 where
   AsksPost : (free : Bool) (words : NewMessage) (body : List ℕ) → Asked
   AsksReply : (index : ℕ) (answer : Answer) (body : List ℕ) → Asked
@@ -26,7 +26,7 @@ pub data Asked : Type 0 where
   AsksPurge : Asked
   AsksToss : (indexes : List ℕ) → Asked
 
--- the command events that it may be where the station has this base
+-- The command events that it may be where the station has this base.
 abbrev pub IsAsked : Asked → Base → Command → Type 0
 IsAsked (AsksPost free words body) base command = IsPostAs free words body command
 IsAsked (AsksReply index answer body) base command = IsReplyAs index answer body base command
@@ -34,12 +34,12 @@ IsAsked (AsksMail letter words) base command = IsMail letter words command
 IsAsked AsksPurge base command = IsPurge command
 IsAsked (AsksToss indexes) base command = IsToss indexes command
 
--- what the command answers where it ends well
+-- What the command answers where it ends well.
 abbrev pub AnswerOf : Asked → Type 0
 AnswerOf (AsksToss indexes) = Option Fault
 AnswerOf asked = Unit {0}
 
--- what came of it is one of these events, or nothing did
+-- It had no effect, or one of these events.
 abbrev pub MayBe : (Command → Type 0) → Option Command → Type 0
 MayBe IsCommand None = Unit {0}
 MayBe IsCommand (Some command) = IsCommand command
@@ -58,7 +58,7 @@ pub record GoesOnEnded {Kept : Type 0} (IsCommand : Command → Type 0) (place :
   pub next : Disks
   pub ended : HasEnded place seats seat i (Some command) d next old new
 
--- where another station is on the disk, the base for which the files of this one stand is on that
+-- If another station is on the same disk, the base that the files of this one hold is on the disk.
 abbrev pub IsKeptWhereShared : {Kept : Type 0} → (Kept → Place) → List (Seat Kept) → Seat Kept → ℕ → DiskState → Type 0
 IsKeptWhereShared place seats seat i disk = IsShared seats i seat → (base : Base) → (place seat.kept).stands_for base disk.seen → IsKeptOn (place seat.kept) base disk
 

@@ -25,12 +25,12 @@ use Rattle.cmd_report.specs.TossedPacket.{TossRun, TossesPacketBy}
 use Rattle.cmd_store.specs.Posted as store
 use Rattle.law_stations.specs.Nets.{Net, Paired, Station, with_left, with_posting, with_tossed}
 
--- the station of the index, and its parsed link file
+-- The station of the index, and its parsed link file.
 pub record IsAt (net : Net) (i : ℕ) (station : Station) (file : LinkFile) : Type 0 where
   pub there : nth i net.stations ≡ Some station
   pub links : LinksOf station.links (Ok file)
 
--- `post` commits the base with the message
+-- `post` commits the base with the message.
 pub record Posts (words : NewMessage) (body : List ℕ) (net : Net) (i : ℕ) (new : Net) : Type 0 where
   pub station : Station
   pub file : LinkFile
@@ -39,13 +39,13 @@ pub record Posts (words : NewMessage) (body : List ℕ) (net : Net) (i : ℕ) (n
   pub makes : store.Posts file words body station.base next
   pub becomes : new ≡ with_posting net i next (posted file words.tag.now (draft_given words body) words.serial words.stamp)
 
--- the packets of a scan of this base, each of bytes
+-- The packets of a scan of this base, each of bytes.
 pub record AreScanned (stamp : Stamp) (file : LinkFile) (base : Base) (packets : List PacketFile) : Type 0 where
   pub moment : is_stamp stamp ≡ true
   pub sent : packets ≡ map (file_sent base.cursor) (scanned file base.messages base.cursor stamp)
   pub bytes : AllByRecursion (λ packet. AreBytes packet.bytes) packets
 
--- `scan` leaves packet files, and commits the base with its cursor at the end
+-- `scan` leaves packet files, and commits the base with its cursor at the end.
 pub record Scans (stamp : Stamp) (net : Net) (i : ℕ) (new : Net) : Type 0 where
   pub station : Station
   pub file : LinkFile
@@ -54,17 +54,17 @@ pub record Scans (stamp : Stamp) (net : Net) (i : ℕ) (new : Net) : Type 0 wher
   pub made : AreScanned stamp file station.base packets
   pub becomes : new ≡ with_left net i packets (all_scanned station.base)
 
--- `purge` commits the base with its stubs
+-- `purge` commits the base with its stubs.
 pub record Purges (net : Net) (i : ℕ) (new : Net) : Type 0 where
   pub station : Station
   pub there : nth i net.stations ≡ Some station
   pub becomes : new ≡ with_left net i [] (purged station.base)
 
--- a reader of which just this is known
+-- A reader of which just this is known.
 abbrev pub itself : Device → Device
 itself reader = reader
 
--- an input of `toss` is the packet file of the index, or cannot be used
+-- An input of `toss` is the packet file of the index, or cannot be used.
 abbrev pub IsPacketAt : List (List ℕ) → ℕ → Coming → Type 0
 IsPacketAt packets k (Holds bytes) = nth k packets ≡ Some bytes
 IsPacketAt packets k (Fails why) = Unit {0}

@@ -11,12 +11,12 @@ use Rattle.cmd_store.specs.Mailed.{IsPosting}
 use Rattle.law_stations.specs.Commands.{Command}
 use Rattle.law_stations.specs.Kinds.{IsPost, IsPostWith}
 
--- the posting of these words, or, where a free serial is looked for, of the same with some serial
+-- The posting of these words, or, where a free serial is looked for, of the same with some serial.
 abbrev pub IsPostAs : Bool → NewMessage → List ℕ → Command → Type 0
 IsPostAs false words body command = IsPost words body command
 IsPostAs true words body command = IsPostWith words body command
 
--- the posting of an answer to the message of this number
+-- The posting of an answer to the message of this number.
 pub record IsReplyAs (index : ℕ) (answer : Answer) (body : List ℕ) (base : Base) (command : Command) : Type 0 where
   pub message : Filed
   pub found : slice_get base.messages index ≡ Some message
@@ -24,7 +24,7 @@ pub record IsReplyAs (index : ℕ) (answer : Answer) (body : List ℕ) (base : B
   pub of_message : IsReply message answer words
   pub is : IsPostAs answer.free words body command
 
--- the posting of a letter
+-- The posting of a letter.
 pub record IsMail (letter : Letter) (asked : MailWords) (command : Command) : Type 0 where
   pub words : NewMessage
   pub posting : IsPosting letter asked words

@@ -16,22 +16,22 @@ pub record Disks : Type 0 where
   pub net : Net
   pub staging : List StagingFile
 
--- the disks of these link files before the first command
+-- The disks of these link files before the first command.
 abbrev pub first_disks : List (List ℕ) → Disks
 first_disks links = record { net = first_net links; staging = [] }
 
--- the cursors of the bases of the stations, in order
+-- The cursors of the bases of the stations, in order.
 abbrev pub cursor_of : Station → ℕ
 cursor_of station = station.base.cursor
 
 abbrev pub cursors : Net → List ℕ
 cursors net = map cursor_of net.stations
 
--- the base of the station of the index has this cursor
+-- The base of the station of the index has this cursor.
 abbrev pub HasCursor : Net → ℕ → ℕ → Type 0
 HasCursor net i cursor = nth i (cursors net) ≡ Some cursor
 
--- one packet file more has its name
+-- One packet file more has its name.
 abbrev pub with_packet : Net → List ℕ → Net
 with_packet net bytes = record {
   stations = net.stations;

@@ -21,22 +21,22 @@ use Rattle.law_stations.specs.Agreement.{file_address}
 use Rattle.law_stations.specs.Commands.{CommandEvent, Happen, Purge}
 use Rattle.law_stations.specs.Nets.{Net, Paired, Station, first_net}
 
--- the contents of a station: its link file, and the messages and the cursor of its base
+-- The contents of a station: its link file, and the messages and the cursor of its base.
 pub record StationSays (station : Station) (file : LinkFile) (messages : List Filed) (cursor : ℕ) : Type 0 where
   pub links : LinksOf station.links (Ok file)
   pub base : station.base ≡ record { messages = messages; cursor = cursor }
 
--- the station of this index has these contents
+-- The station of this index has these contents.
 pub record StationHolds (net : Net) (i : ℕ) (file : LinkFile) (messages : List Filed) (cursor : ℕ) : Type 0 where
   pub station : Station
   pub there : nth i net.stations ≡ Some station
   pub says : StationSays station file messages cursor
 
--- the bytes are a packet
+-- The bytes are a packet.
 abbrev pub ReadsAs : List ℕ → Packet → Type 0
 ReadsAs bytes p = (limits : Limits) × PacketOf limits p.header p.messages bytes
 
--- `purge` was called at the station of the index
+-- `purge` was called at the station of the index.
 abbrev pub WasPurged : List CommandEvent → ℕ → Type 0
 WasPurged commands i = Among (record { station = i; command = Purge }) commands
 
@@ -48,53 +48,53 @@ pub record IsLeftByPurge (commands : List CommandEvent) (i : ℕ) (scanned : Lis
   pub stub : m ≡ stub_of filed
   pub same : SameContent filed posting
 
--- a message of a base has the DateTime, names, subject and kept lines of a posting, unless a purge took them
+-- A message of a base has the DateTime, names, subject and kept lines of a posting, unless a purge took them.
 abbrev pub IsUnchanged : List CommandEvent → ℕ → List Filed → ℕ → Filed → Filed → Type 0
 IsUnchanged commands i messages cursor m posting = SameContent m posting ⊎ IsLeftByPurge commands i (take cursor messages) m posting
 
--- the promise about all areas of a net
+-- The promise about all areas of a net.
 pub record IsSound (commands : List CommandEvent) (net : Net) : Type 0 where
-  -- each packet file is a packet, and each station's messages are a base
+  -- Each packet file is a packet, and each station's messages are a base.
   pub packets : (bytes : List ℕ) → Among bytes net.packets → (p : Packet) × ReadsAs bytes p
   pub bases : (station : Station) → Among station net.stations → (file : LinkFile) × (messages : List Filed) × (cursor : ℕ) × StationSays station file messages cursor × IsBase messages cursor
-  -- it has each message at most once
+  -- It has each message at most once.
   pub filed_once : (i : ℕ) (file : LinkFile) (messages : List Filed) (cursor : ℕ) → StationHolds net i file messages cursor → (key : Key) → count key messages ≤ 1
-  -- and only messages that were posted, unchanged unless they were scanned and purged
+  -- And only messages that were posted, unchanged unless they were scanned and purged.
   pub only_posted : (i : ℕ) (file : LinkFile) (messages : List Filed) (cursor : ℕ) → StationHolds net i file messages cursor → (m : Filed) → Among m messages →
       (posting : Filed) × Among posting net.postings × (posting.echo.tag ≡ m.echo.tag) × IsUnchanged commands i messages cursor m posting
 
--- no message of the area waits for a scan, and each packet file that holds one was tossed whole
+-- No message of the area waits for a scan, and each packet file that holds one was tossed whole.
 pub record IsSettled (net : Net) (tag : List ℕ) : Type 0 where
   pub scanned : (i : ℕ) (file : LinkFile) (messages : List Filed) (cursor : ℕ) → StationHolds net i file messages cursor → (m : Filed) → Among m (drop cursor messages) → m.echo.tag ≢ tag
   pub tossed : (k : ℕ) (bytes : List ℕ) (p : Packet) → nth k net.packets ≡ Some bytes → ReadsAs bytes p →
       (m : Filed) → Among m (copies p) → m.echo.tag ≡ tag → Among k net.delivered
 
--- the messages of a station's base have the posting exactly once, unchanged
+-- The messages of a station's base have the posting exactly once, unchanged.
 pub record HasUnchanged (commands : List CommandEvent) (i : ℕ) (messages : List Filed) (cursor : ℕ) (posting : Filed) : Type 0 where
   pub once : count (key_of posting) messages ≡ 1
   pub same : (m : Filed) → Among m messages → key_of m ≡ key_of posting → IsUnchanged commands i messages cursor m posting
 
--- the promise about a checked area of a net
+-- The promise about a checked area of a net.
 pub record InOrder (commands : List CommandEvent) (net : Net) (tag : List ℕ) : Type 0 where
   pub sound : IsSound commands net
-  -- over all packet files each station with the area was sent each message at most once, and none that it posted
+  -- Over all packet files each station with the area was sent each message at most once, and none that it posted.
   pub sent_once : (packets : List Packet) → Paired ReadsAs net.packets packets →
       (i : ℕ) (file : LinkFile) (messages : List Filed) (cursor : ℕ) → StationHolds net i file messages cursor → IsTrue (has_area file tag) →
       (key : Key) → tag_of key ≡ tag → sent_count file.system key packets ≤ 1
   pub never_own : (packets : List Packet) → Paired ReadsAs net.packets packets →
       (i : ℕ) (file : LinkFile) (messages : List Filed) (cursor : ℕ) → StationHolds net i file messages cursor → IsTrue (has_area file tag) →
       (m : Filed) → Among m messages → IsPosting tag m → sent_count file.system (key_of m) packets ≡ 0
-  -- and if nothing waits its base has each posting once, unchanged
+  -- And if nothing waits its base has each posting once, unchanged.
   pub all_came : IsSettled net tag → (posting : Filed) → Among posting net.postings → posting.echo.tag ≡ tag →
       (i : ℕ) (file : LinkFile) (messages : List Filed) (cursor : ℕ) → StationHolds net i file messages cursor → IsTrue (has_area file tag) →
       HasUnchanged commands i messages cursor posting
 
--- any commands on stations of different addresses leave a sound net
+-- Any commands on stations of different addresses leave a sound net.
 abbrev pub NetsAreSound : Type 0
 NetsAreSound = (links : List (List ℕ)) (files : List LinkFile) → AreLinkFiles links files → Different (map file_address files)
     → (commands : List CommandEvent) (net : Net) → Happen commands (first_net links) net → IsSound commands net
 
--- where `check` ended with 0 for these link files and the area, any commands on them leave a net that is in order
+-- Where `check` ended with 0 for these link files and the area, any commands on them leave a net that is in order.
 abbrev pub HeadlineOnNets : Type 0
 HeadlineOnNets = (nodelist : Option (List ℕ)) (tag : List ℕ) (links : List (List ℕ)) (stopped : Option Fault) (old new : Output)
     → CheckAnswers nodelist tag links stopped old new (Ok Good)

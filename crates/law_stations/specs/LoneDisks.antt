@@ -13,15 +13,15 @@ pub record LoneDisks : Type 0 where
   pub came : List (List ℕ)
   pub whole : List (List ℕ)
 
--- the disks of a station with this link file before the first command
+-- The disks of a station with this link file before the first command.
 abbrev pub lone_disks_at_first : List ℕ → LoneDisks
 lone_disks_at_first links = record { disks = first_disks (links ∷ []); came = []; whole = [] }
 
--- a net of the station, to which the same came
+-- A net of the station, to which the same came.
 abbrev pub on_net : LoneDisks → Net → LoneStation
 on_net s net = record { net = net; came = s.came; whole = s.whole }
 
--- the files under their names
+-- The files under their names.
 abbrev pub under_names : LoneDisks → LoneStation
 under_names s = on_net s s.disks.net
 

@@ -17,30 +17,30 @@ pub record LoneStation : Type 0 where
   pub came : List (List ℕ)
   pub whole : List (List ℕ)
 
--- a station with this link file before the first command
+-- A station with this link file before the first command.
 abbrev pub lone_station_at_first : List ℕ → LoneStation
 lone_station_at_first links = record { net = first_net (links ∷ []); came = []; whole = [] }
 
--- the bytes of the files that can be used
+-- The bytes of the files that can be used.
 abbrev pub held_in : List Coming → List (List ℕ)
 held_in [] = []
 held_in (Holds bytes ∷ later) = bytes ∷ held_in later
 held_in (Fails why ∷ later) = held_in later
 held_in (Unknown ∷ later) = held_in later
 
--- each file holds some bytes, whichever, or cannot be used
+-- Each file holds some bytes, whichever, or cannot be used.
 abbrev pub AreAnyFiles : List Coming → Type 0
 AreAnyFiles [] = Unit {0}
 AreAnyFiles (Holds bytes ∷ later) = AreAnyFiles later
 AreAnyFiles (Fails why ∷ later) = AreAnyFiles later
 AreAnyFiles (Unknown ∷ later) = ⊥
 
--- the files that were tossed whole: all where nothing stopped the run, else those before the one that did
+-- The files that were tossed whole: all where nothing stopped the run, else those before the one that did.
 abbrev pub tossed_whole : List Coming → Option Fault → List Coming → List Coming
 tossed_whole files None left = files
 tossed_whole files (Some fault) left = take (length files - (length left + 1)) files
 
--- `toss` gets any files and commits the filed messages, even if a fault ended its run
+-- `toss` gets any files and commits the filed messages, even if a fault ended its run.
 pub record TossesAny (files : List Coming) (s new : LoneStation) : Type 0 where
   pub any : AreAnyFiles files
   pub station : Station
@@ -55,18 +55,18 @@ pub record TossesAny (files : List Coming) (s new : LoneStation) : Type 0 where
     whole = s.whole ++ held_in (tossed_whole files tosses.stopped tosses.left);
   }
 
--- a command at the station, and its inputs
+-- A command at the station, and its inputs.
 pub data LoneCommand : Type 0 where
   PostAlone : (words : NewMessage) (body : List ℕ) → LoneCommand
   ScanAlone : (stamp : Stamp) → LoneCommand
   PurgeAlone : LoneCommand
   TossAny : (files : List Coming) → LoneCommand
 
--- the inputs of `toss` are the same as before
+-- The inputs of `toss` are the same as before.
 abbrev pub NothingCame : LoneStation → LoneStation → Type 0
 NothingCame s new = (new.came ≡ s.came) × (new.whole ≡ s.whole)
 
--- the command ends without a fault
+-- The command ends without a fault.
 abbrev pub LeadsAlone : LoneCommand → LoneStation → LoneStation → Type 0
 LeadsAlone (PostAlone words body) s new = Posts words body s.net 0 new.net × NothingCame s new
 LeadsAlone (ScanAlone stamp) s new = Scans stamp s.net 0 new.net × NothingCame s new

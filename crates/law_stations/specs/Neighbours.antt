@@ -13,7 +13,7 @@ use Rattle.law_stations.specs.OnDisks.{IsStationAt, LeavesElsewhere, ShowsStatio
 abbrev pub SameOnDisk : Place → DiskState → Files → Type 0
 SameOnDisk place disk c = (m : List ℕ) → place.is_own m → disk.is_named m → disk.is_flushed m → c m ≡ disk.seen m
 
--- A base is on the disk: whatever a crash makes of the files of its place that are not, they stand for it.
+-- A base is on the disk: whatever a crash makes of the files of its place that are not, they hold it.
 abbrev pub IsKeptOn : Place → Base → DiskState → Type 0
 IsKeptOn place base disk = (c : Files) → SameOnDisk place disk c → place.stands_for base c
 
@@ -22,19 +22,19 @@ pub record StandsOnDisk (place : Place) (links : List ℕ) (i : ℕ) (disk : Dis
   pub at : IsStationAt place links i disk d
   pub kept : IsKeptOn place at.shows.station.base disk
 
--- no file of a station is one of another place
+-- No file of a station is one of another place.
 pub record IsApart (other : Place) (links : List ℕ) (place : Place) : Type 0 where
   pub own : (m : List ℕ) → other.is_own m → place.is_own m → ⊥
   pub outside : place.is_own links → ⊥
 
--- After a command event at another station a station is on the disk where it was, and a crash meanwhile leaves it so.
+-- After a command event at another station this station is unchanged on the disk, also after a crash during the command.
 pub record StaysOnDisk (place : Place) (links : List ℕ) (i : ℕ) (old new : DiskState) (d after : Disks) : Type 0 where
   pub same : nth i after.net.stations ≡ nth i d.net.stations
   pub crash : (c : Files) → new.left_since old.moment c → ShowsStation place links i c after
   pub at : StandsOnDisk place links i new after
 
--- What a command in one place leaves elsewhere leaves each station that stands elsewhere as it was: wherever the command event at another
--- station stopped, the net shows the same of it.
+-- A command in one place does not change a station elsewhere: wherever the command event at another station stopped, the net shows the same
+-- of that station.
 abbrev pub OthersStay : Place → Place → DiskState → DiskState → Type 0
 OthersStay place other old new = (links : List ℕ) (i : ℕ) (event : CommandEvent) (d after : Disks) → LeavesElsewhere place old new → IsApart other links place
     → StandsOnDisk other links i old d → i ≢ event.station → MayHappen event d after → StaysOnDisk other links i old new d after

@@ -24,32 +24,32 @@ pub record Net : Type 0 where
   pub delivered : List ℕ
   pub postings : List Filed
 
--- a base with no message
+-- A base with no message.
 abbrev pub empty_base : Base
 empty_base = record { messages = []; cursor = 0 }
 
--- a station of this link file with an empty base
+-- A station of this link file with an empty base.
 abbrev pub new_station : List ℕ → Station
 new_station links = record { links = links; base = empty_base }
 
--- the net of these link files before the first command
+-- The net of these link files before the first command.
 abbrev pub first_net : List (List ℕ) → Net
 first_net links = record { stations = map new_station links; packets = []; delivered = []; postings = [] }
 
--- the station with this base instead of the old one
+-- The station with this base instead of the old one.
 abbrev pub with_base : Base → Station → Station
 with_base base station = record { links = station.links; base = base }
 
--- the bytes of a packet file
+-- The bytes of a packet file.
 abbrev pub bytes_of : PacketFile → List ℕ
 bytes_of file = file.bytes
 
--- one index after the other joins those that were delivered
+-- One index after the other joins those that were delivered.
 abbrev pub with_indexes : List ℕ → List ℕ → List ℕ
 with_indexes [] delivered = delivered
 with_indexes (k ∷ later) delivered = with_indexes later (with_index k delivered)
 
--- after a command: its packet files follow the others, and the station of the index has its base
+-- After a command: its packet files follow the others, and the station of the index has its base.
 abbrev pub with_left : Net → ℕ → List PacketFile → Base → Net
 with_left net i packets base = record {
   stations = change i (with_base base) net.stations;
@@ -58,7 +58,7 @@ with_left net i packets base = record {
   postings = net.postings;
 }
 
--- the same, and this message was posted
+-- The same, and this message was posted.
 abbrev pub with_posting : Net → ℕ → Base → Filed → Net
 with_posting net i base m = record {
   stations = change i (with_base base) net.stations;
@@ -67,7 +67,7 @@ with_posting net i base m = record {
   postings = net.postings ++ m ∷ [];
 }
 
--- the same, and the packets of these indexes were tossed whole
+-- The same, and the packets of these indexes were tossed whole.
 abbrev pub with_tossed : Net → ℕ → Base → List ℕ → Net
 with_tossed net i base whole = record {
   stations = change i (with_base base) net.stations;

@@ -1,4 +1,4 @@
--- A link file and a base on a disk as those of a station in a net, whatever the base is kept in.
+-- A link file and a base on a disk as those of a station in a net, for every kind of base.
 use Rattle.std.specs.Prelude.{◌≡◌, ◌⊎◌, ℕ, List, Option, Some, Result, Ok, Err}
 use Rattle.base_file.specs.Base.{Base}
 use Rattle.cmd_report.specs.Coming.{Coming}
@@ -16,7 +16,7 @@ use Rattle.law_stations.specs.Nets.{Paired, Station, with_indexes}
 use Rattle.law_stations.specs.Disks.{Disks}
 use Rattle.law_stations.specs.Stopping.{PartialEffect}
 
--- At this path is the link file of the station of this index, and the files stand for its base.
+-- This path has the link file of the station of this index, and the files hold its base.
 pub record ShowsStation (place : Place) (links : List ℕ) (i : ℕ) (c : Files) (d : Disks) : Type 0 where
   pub station : Station
   pub there : nth i d.net.stations ≡ Some station
@@ -34,17 +34,17 @@ pub record IsStationAt (place : Place) (links : List ℕ) (i : ℕ) (disk : Disk
   pub linked : IsLinkedOn links disk
   pub outside : place.is_own links → ⊥
 
--- a command of this kind at the station leads to these disks
+-- A command of this kind at the station leads to these disks.
 pub record LeadsFarBy (IsCommand : Command → Type 0) (i : ℕ) (d after : Disks) : Type 0 where
   pub command : Command
   pub is : IsCommand command
   pub leads : PartialEffect command d i after
 
--- or nothing has changed
+-- Or nothing has changed.
 abbrev pub MayLeadBy : (Command → Type 0) → ℕ → Disks → Disks → Type 0
 MayLeadBy IsCommand i d after = (after ≡ d) ⊎ LeadsFarBy IsCommand i d after
 
--- files that a crash left are those of the station as before a command of this kind, or after it
+-- Files that a crash left are those of the station as before a command of this kind, or after it.
 pub record AreAsMay (IsCommand : Command → Type 0) (place : Place) (links : List ℕ) (i : ℕ) (d : Disks) (c : Files) : Type 0 where
   pub after : Disks
   pub leads : MayLeadBy IsCommand i d after
@@ -64,24 +64,23 @@ pub record IsAsBefore (place : Place) (links : List ℕ) (i : ℕ) (d : Disks) (
   pub at : IsStationAt place links i new d
   pub on_disk : (c : Files) → new.may_leave c → ShowsStation place links i c d
 
--- What stands elsewhere stays. A crash at any moment leaves what one before it might have left, or each file elsewhere that
--- was on the disk.
+-- Files elsewhere stay. A crash at any time leaves what a crash before could have left, or each file elsewhere that was on the disk.
 pub record LeavesElsewhere (place : Place) (old new : DiskState) : Type 0 where
   pub crash : (c : Files) → new.left_since old.moment c → old.may_leave c ⊎ SameElsewhere place old c
   pub keeps : KeepsElsewhere place old new
 
 -- A command does on the disk what the command event may do.
 pub record RefinesEvent {A : Type 0} (IsCommand : Command → Type 0) (place : Place) (links : List ℕ) (i : ℕ) (d : Disks) (old new : DiskState) (result : Result A CommandError) : Type 0 where
-  -- a crash at any moment leaves what one before it might have left, or the station as before the event or after it
+  -- A crash at any moment leaves what one before it might have left, or the station as before the event or after it.
   pub crash : (c : Files) → new.left_since old.moment c → old.may_leave c ⊎ AreAsMay IsCommand place links i d c
-  -- where it ends well they are as after the event
+  -- Where it ends well they are as after the event.
   pub done : (value : A) → result ≡ Ok value → IsAfter IsCommand place links i d new
-  -- where it met a fault a crash meanwhile leaves what one before it might have left, or both as they were
+  -- If it met a fault, a crash leaves what a crash before could have left, or both as they were.
   pub stopped : (fault : Fault) → result ≡ Err (Met fault) → (c : Files) → new.left_since old.moment c → old.may_leave c ⊎ ShowsStation place links i c d
-  -- the link file is as it was, on the disk
+  -- The link file is as it was, on the disk.
   pub same_links : new.seen links ≡ old.seen links
   pub linked : IsLinkedOn links new
-  -- and so is what stands elsewhere
+  -- Everything elsewhere is unchanged.
   pub elsewhere : LeavesElsewhere place old new
 
 -- Each link file that is read is what the disk shows at this path.
@@ -104,12 +103,13 @@ pub record IsAfterToss (indexes : List ℕ) (left : List Coming) (place : Place)
   pub at : IsAfter (IsToss indexes) place links i d new
   pub delivered : at.after.net.delivered ≡ with_indexes (whole_of indexes answer left) d.net.delivered
 
--- A toss of the packet files of these indexes does on the disk what the command event may do, and where it ends well just what it answers.
+-- A toss of the packet files of these indexes does on the disk what the command event may do. If it ends well, it does just what it
+-- returns.
 pub record TossesAsEvent (indexes : List ℕ) (left : List Coming) (place : Place) (links : List ℕ) (i : ℕ) (d : Disks) (old new : DiskState) (result : Result (Option Fault) CommandError) : Type 0 where
   pub does : RefinesEvent (IsToss indexes) place links i d old new result
   pub ends : (answer : Option Fault) → result ≡ Ok answer → IsAfterToss indexes left place links i d new answer
 
--- So it is at any station of a net, where these files are the packet files of these indexes, and the others are left of them.
+-- The same at any station of a net, if these are the packet files of these indexes, and the others are left of them.
 abbrev pub TossesAsMay : List Coming → List Coming → Place → (LinkFile → Type 0) → DiskState → DiskState → Result (Option Fault) CommandError → Type 0
 TossesAsMay files left place Reads old new result = (indexes : List ℕ) (i : ℕ) (d : Disks) (links : List ℕ) → Paired (IsPacketAt d.net.packets) indexes files → ReadsLinks Reads links old
     → IsStationAt place links i old d → TossesAsEvent indexes left place links i d old new result

@@ -41,60 +41,60 @@ pub record HasNet (d : Disks) (net : Net) : Type 0 where
       Among k places ⊎ ((file : StagingFile) × IsToBeNamed d file × (file.bytes ≡ bytes))
   pub tossed : (j k : ℕ) → nth j places ≡ Some k → Among j d.net.delivered → Among k net.delivered
 
--- the same command; a toss may be of other packets
+-- The same command; a toss may be of other packets.
 abbrev pub IsLike : Command → Command → Type 0
 IsLike (Post words body) plain = plain ≡ Post words body
 IsLike (Scan stamp) plain = plain ≡ Scan stamp
 IsLike Purge plain = plain ≡ Purge
 IsLike (Toss indexes) plain = (others : List ℕ) × (plain ≡ Toss others)
 
--- at the same station
+-- At the same station.
 pub record IsLikeEvent (event plain : CommandEvent) : Type 0 where
   pub station : plain.station ≡ event.station
   pub command : IsLike event.command plain.command
 
--- whatever stops commands, the disks have a net to which such commands lead without a stop
+-- Whatever stops commands, the disks have a net to which such commands lead without a stop.
 abbrev pub CrashesAreNone : Type 0
 CrashesAreNone = (links : List (List ℕ)) (commands : List CommandEvent) (d : Disks) → MayHappenAll commands (first_disks links) d
     → (plain : List CommandEvent) × (net : Net) × Paired IsLikeEvent commands plain × Happen plain (first_net links) net × HasNet d net
 
--- the disks of a net without temporary files
+-- The disks of a net without temporary files.
 abbrev pub disks_of : Net → Disks
 disks_of net = record { net = net; staging = [] }
 
--- and the effects of commands without a stop are among the possible effects
+-- And the effects of commands without a stop are among the possible effects.
 abbrev pub WholeAreAmong : Type 0
 WholeAreAmong = (links : List (List ℕ)) (commands : List CommandEvent) (net : Net) → Happen commands (first_net links) net
     → MayHappenAll commands (first_disks links) (disks_of net)
 
--- the contents of the disks are sound
+-- The contents of the disks are sound.
 abbrev pub SoundOverCrashes : Type 0
 SoundOverCrashes = (links : List (List ℕ)) (files : List LinkFile) → AreLinkFiles links files → Different (map file_address files)
     → (commands : List CommandEvent) (d : Disks) → MayHappenAll commands (first_disks links) d → IsSound commands d.net
 
--- nothing of the area waits for a scan; no packet with a message of it waits for its name, and each one with a name
--- was tossed whole
+-- Nothing of the area waits for a scan; no packet with a message of it waits for its name, and each one with a name
+-- was tossed whole.
 pub record HasSettled (d : Disks) (tag : List ℕ) : Type 0 where
   pub named : IsSettled d.net tag
   pub staging : (file : StagingFile) (p : Packet) → IsToBeNamed d file → ReadsAs file.bytes p → (m : Filed) → Among m (copies p) → m.echo.tag ≢ tag
 
--- the promise about a checked area on the disks
+-- The promise about a checked area on the disks.
 pub record InOrderOverCrashes (commands : List CommandEvent) (d : Disks) (tag : List ℕ) : Type 0 where
   pub sound : IsSound commands d.net
-  -- over all packet files that got their names each station with the area was sent each message at most once, and
-  -- none that it posted
+  -- Over all packet files that got their names each station with the area was sent each message at most once, and
+  -- none that it posted.
   pub sent_once : (packets : List Packet) → Paired ReadsAs d.net.packets packets →
       (i : ℕ) (file : LinkFile) (messages : List Filed) (cursor : ℕ) → StationHolds d.net i file messages cursor → IsTrue (has_area file tag) →
       (key : Key) → tag_of key ≡ tag → sent_count file.system key packets ≤ 1
   pub never_own : (packets : List Packet) → Paired ReadsAs d.net.packets packets →
       (i : ℕ) (file : LinkFile) (messages : List Filed) (cursor : ℕ) → StationHolds d.net i file messages cursor → IsTrue (has_area file tag) →
       (m : Filed) → Among m messages → IsPosting tag m → sent_count file.system (key_of m) packets ≡ 0
-  -- and if the area has settled its base has each posting once, unchanged
+  -- And if the area has settled its base has each posting once, unchanged.
   pub all_came : HasSettled d tag → (posting : Filed) → Among posting d.net.postings → posting.echo.tag ≡ tag →
       (i : ℕ) (file : LinkFile) (messages : List Filed) (cursor : ℕ) → StationHolds d.net i file messages cursor → IsTrue (has_area file tag) →
       HasUnchanged commands i messages cursor posting
 
--- where `check` ended with 0 for these link files and the area, commands that anything stops anywhere leave disks that are in order
+-- Where `check` ended with 0 for these link files and the area, commands that anything stops anywhere leave disks that are in order.
 abbrev pub HeadlineOverCrashes : Type 0
 HeadlineOverCrashes = (nodelist : Option (List ℕ)) (tag : List ℕ) (links : List (List ℕ)) (stopped : Option Fault) (old new : Output)
     → CheckAnswers nodelist tag links stopped old new (Ok Good)

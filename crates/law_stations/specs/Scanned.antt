@@ -17,18 +17,18 @@ use Rattle.law_stations.specs.Asked.{GoesOnCut, GoesOnEnded, IsKeptWhereShared}
 use Rattle.law_stations.specs.Seats.{Seat, StandsAt}
 use Rattle.law_stations.specs.Steps.{HasEnded, IsAllOnDisk}
 
--- the packets that a toss tossed whole are delivered
+-- The packets that a toss tossed whole are delivered.
 pub record GoesOnTossed {Kept : Type 0} (place : Kept → Place) (seats : List (Seat Kept)) (seat : Seat Kept) (i : ℕ) (indexes : List ℕ) (answer : Option Fault) (left : List Coming) (d : Disks) (old new : DiskState) : Type 0 where
   pub goes : GoesOnEnded (IsToss indexes) place seats seat i d old new
   pub delivered : goes.next.net.delivered ≡ with_indexes (whole_of indexes answer left) d.net.delivered
 
--- a toss that ended well
+-- A toss that ended well.
 abbrev pub TossesGoOn : {D Kept : Type 0} → (D → DiskState) → (Kept → Place) → Type 0
 TossesGoOn {D} {Kept} state place = (seats : List (Seat Kept)) (seat : Seat Kept) (i : ℕ) (indexes : List ℕ) (left : List Coming) (d : Disks) (old new : D) (result : Result (Option Fault) CommandError) (answer : Option Fault)
     → TossesAsEvent indexes left (place seat.kept) seat.links i d (state old) (state new) result → result ≡ Ok answer → IsKeptWhereShared place seats seat i (state new)
     → GoesOnTossed place seats seat i indexes answer left d (state old) (state new)
 
--- it is the scan of this moment
+-- It is the scan of this moment.
 abbrev pub IsScan : Stamp → Command → Type 0
 IsScan stamp command = command ≡ Scan stamp
 

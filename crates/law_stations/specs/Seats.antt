@@ -8,7 +8,7 @@ use Rattle.law_stations.specs.Disks.{Disks}
 use Rattle.law_stations.specs.Neighbours.{IsApart, IsKeptOn}
 use Rattle.law_stations.specs.OnDisks.{IsStationAt, ShowsStation}
 
--- what a base is kept in, of two kinds
+-- what holds a base: one of two kinds
 pub data OfTwo (First Second : Type 0) : Type 0 where
   OfFirst : (kept : First) → OfTwo First Second
   OfSecond : (kept : Second) → OfTwo First Second
@@ -17,24 +17,24 @@ abbrev pub either : {First Second : Type 0} → (First → Place) → (Second �
 either first second (OfFirst kept) = first kept
 either first second (OfSecond kept) = second kept
 
--- Where a station stands: the number of its disk, and the path of its link file. Its scans write packets into a folder, and its base is
--- kept in this.
+-- The place of a station: the number of its disk, the path of its link file, the folder into which its scans write packets, and what holds
+-- its base.
 pub record Seat (Kept : Type 0) : Type 0 where
   pub disk : ℕ
   pub links : List ℕ
   pub outbound : List ℕ
   pub kept : Kept
 
--- a path of this folder, or of one below it
+-- A path of this folder, or of one below it.
 pub record IsBelow (folder path : List ℕ) : Type 0 where
   pub rest : List ℕ
   pub parts : path ≡ folder ++ rest
 
--- what commands at the station may touch: the files of its base, and its folder of packets
+-- What commands at the station may touch: the files of its base, and its folder of packets.
 abbrev pub reach : {Kept : Type 0} → (Kept → Place) → Seat Kept → Place
 reach place seat = record { stands_for = (place seat.kept).stands_for; is_own = λ m. (place seat.kept).is_own m ⊎ IsBelow seat.outbound m }
 
--- another station is on the same disk
+-- Another station is on the same disk.
 pub record IsShared {Kept : Type 0} (seats : List (Seat Kept)) (i : ℕ) (seat : Seat Kept) : Type 0 where
   pub j : ℕ
   pub other : Seat Kept
@@ -42,7 +42,7 @@ pub record IsShared {Kept : Type 0} (seats : List (Seat Kept)) (i : ℕ) (seat :
   pub differs : i ≢ j
   pub same_disk : other.disk ≡ seat.disk
 
--- the files of the place alone decide for which base they stand
+-- Which base the files hold depends on the files of the place alone.
 abbrev pub IsSettledByOwn : Place → Type 0
 IsSettledByOwn place = (base : Base) (before after : Files) → ((m : List ℕ) → place.is_own m → after m ≡ before m) → place.stands_for base before → place.stands_for base after
 

@@ -1,4 +1,4 @@
--- What is to hold of any steps at stations.
+-- The promise about any steps at stations.
 use Rattle.std.specs.Prelude.{ℕ, List, Option, Ok}
 use Rattle.cmd_check.specs.Checking.{CheckAnswers}
 use Rattle.disk_io.specs.Disk.{DiskState}
@@ -19,12 +19,12 @@ SequencesAreAmong {D} {Kept} state place = (seats : List (Seat Kept)) → AreNei
     → (steps : List (Step D)) (disks : List D) (d last : Disks) → AreSeated state place seats disks d → GoesOn state place seats steps disks d last
     → MayHappenAll (commands_of steps) d last × AreSeated state place seats (after_all steps disks) last
 
--- what the disks show at the end is in order
+-- What the disks show at the end is in order.
 pub record ShowsInOrder {D Kept : Type 0} (state : D → DiskState) (place : Kept → Place) (seats : List (Seat Kept)) (steps : List (Step D)) (disks : List D) (tag : List ℕ) (last : Disks) : Type 0 where
   pub order : InOrderOverCrashes (commands_of steps) last tag
   pub seated : AreSeated state place seats (after_all steps disks) last
 
--- where `check` ended with 0 for the link files of stations with empty bases, and an area
+-- Where `check` ended with 0 for the link files of stations with empty bases, and an area.
 abbrev pub HeadlineOverSequences : {D Kept : Type 0} → (D → DiskState) → (Kept → Place) → Type 0
 HeadlineOverSequences {D} {Kept} state place = (nodelist : Option (List ℕ)) (tag : List ℕ) (links : List (List ℕ)) (stopped : Option Fault) (old new : Output)
     → CheckAnswers nodelist tag links stopped old new (Ok Good)

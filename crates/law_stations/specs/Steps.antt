@@ -9,8 +9,8 @@ use Rattle.law_stations.specs.Stopping.{PartialEffect}
 use Rattle.law_stations.specs.OnDisks.{LeavesElsewhere, ShowsStation}
 use Rattle.law_stations.specs.Seats.{Seat, StandsAt, reach}
 
--- A command at a station comes to its end, or a crash cuts it, where it would have come to this disk, or a crash comes between
--- commands. A command of which nothing comes is none.
+-- A command at a station ends. Or a crash cuts it; uncut it would have led to this disk. Or a crash comes between commands. A command
+-- without an effect is none.
 pub data Happening (D : Type 0) : Type 0 where
   Ends : (station : ℕ) (command : Option Command) → Happening D
   IsCut : (station : ℕ) (command : Option Command) (whole : D) → Happening D
@@ -21,7 +21,7 @@ abbrev pub MayLead : Option Command → ℕ → Disks → Disks → Type 0
 MayLead None i d next = next ≡ d
 MayLead (Some command) i d next = PartialEffect command d i next
 
--- What happens on the disk of a number, and that disk then. After a crash it is the one with which the machine begins anew.
+-- What happens on the disk of a number, and that disk then. After a crash it is the disk with which the machine starts again.
 pub record Step (D : Type 0) : Type 0 where
   pub disk : ℕ
   pub what : Happening D
@@ -36,13 +36,13 @@ pub record IsAllOnDisk (disk : DiskState) : Type 0 where
   pub named : (m : List ℕ) → disk.is_named m
   pub flushed : (m : List ℕ) → disk.is_flushed m
 
--- The command came to its end. The disk shows what it may have led the net to, and what stands elsewhere is as it was.
+-- The command ended. The disk shows what the command may have led the net to, and everything elsewhere is unchanged.
 pub record HasEnded {Kept : Type 0} (place : Kept → Place) (seats : List (Seat Kept)) (seat : Seat Kept) (i : ℕ) (command : Option Command) (d next : Disks) (old new : DiskState) : Type 0 where
   pub may : MayLead command i d next
   pub stands : StandsAt place seats i seat new next
   pub elsewhere : LeavesElsewhere (reach place seat) old new
 
--- A crash at a moment of the command left what the disk begins with, and that shows what the command may have led the net to.
+-- A crash during the command left the state with which the disk begins. That shows what the command may have led the net to.
 pub record WasCut {Kept : Type 0} (place : Kept → Place) (seat : Seat Kept) (i : ℕ) (command : Option Command) (d next : Disks) (old whole begun : DiskState) : Type 0 where
   pub left : whole.left_since old.moment begun.seen
   pub begins : IsAllOnDisk begun
@@ -50,40 +50,40 @@ pub record WasCut {Kept : Type 0} (place : Kept → Place) (seat : Seat Kept) (i
   pub shows : ShowsStation (place seat.kept) seat.links i begun.seen next
   pub elsewhere : LeavesElsewhere (reach place seat) old whole
 
--- a crash between commands left what the disk begins with, all of it on the disk
+-- A crash between commands left what the disk begins with, all of it on the disk.
 pub record HasCrashed (old begun : DiskState) : Type 0 where
   pub left : old.may_leave begun.seen
   pub begins : IsAllOnDisk begun
 
--- the station of a command stands on this disk
+-- The station of a command is on this disk.
 pub record IsOn {Kept : Type 0} (seats : List (Seat Kept)) (number i : ℕ) (seat : Seat Kept) : Type 0 where
   pub there : nth i seats ≡ Some seat
   pub on : seat.disk ≡ number
 
--- the net goes from these disks to the next by what happens on the disk of the number
+-- The net goes from these disks to the next by what happens on the disk of the number.
 abbrev pub GoesBy : {D Kept : Type 0} → (D → DiskState) → (Kept → Place) → List (Seat Kept) → ℕ → Happening D → Disks → Disks → DiskState → DiskState → Type 0
 GoesBy state place seats number (Ends i command) d next old then = (seat : Seat _) × IsOn seats number i seat × HasEnded place seats seat i command d next old then
 GoesBy state place seats number (IsCut i command whole) d next old then =
     (seat : Seat _) × IsOn seats number i seat × WasCut place seat i command d next old (state whole) then
 GoesBy state place seats number Crashes d next old then = (next ≡ d) × HasCrashed old then
 
--- and so by a step
+-- And so by a step.
 pub record Goes {D Kept : Type 0} (state : D → DiskState) (place : Kept → Place) (seats : List (Seat Kept)) (step : Step D) (disks : List D) (d next : Disks) : Type 0 where
   pub old : D
   pub there : nth step.disk disks ≡ Some old
   pub by : GoesBy state place seats step.disk step.what d next (state old) (state step.then)
 
--- by some steps, one after another
+-- By some steps, one after another.
 abbrev pub GoesOn : {D Kept : Type 0} → (D → DiskState) → (Kept → Place) → List (Seat Kept) → List (Step D) → List D → Disks → Disks → Type 0
 GoesOn state place seats [] disks d last = last ≡ d
 GoesOn state place seats (step ∷ later) disks d last = (next : Disks) × Goes state place seats step disks d next × GoesOn state place seats later (after step disks) next last
 
--- the disks after some steps
+-- The disks after some steps.
 abbrev pub after_all : {D : Type 0} → List (Step D) → List D → List D
 after_all [] disks = disks
 after_all (step ∷ later) disks = after_all later (after step disks)
 
--- the commands of some steps, but for those of which nothing came
+-- The commands of some steps, except those without an effect.
 abbrev pub with_command : ℕ → Option Command → List CommandEvent → List CommandEvent
 with_command i None later = later
 with_command i (Some command) later = record { station = i; command = command } ∷ later

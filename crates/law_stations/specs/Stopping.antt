@@ -20,7 +20,7 @@ Ends cursor net file new left =
     ((file.number < cursor) × (new ≡ naming net file.bytes file.named) × ((left ≡ []) ⊎ (left ≡ now_named file ∷ [])))
     ⊎ ((cursor ≤ file.number) × (new ≡ net) × (left ≡ []))
 
--- one file of the station is finished
+-- One file of the station is finished.
 pub record EndsOne (i : ℕ) (d new : Disks) : Type 0 where
   pub before : List StagingFile
   pub file : StagingFile
@@ -33,16 +33,16 @@ pub record EndsOne (i : ℕ) (d new : Disks) : Type 0 where
   pub ends : Ends cursor d.net file new.net left
   pub stands : new.staging ≡ before ++ (left ++ after)
 
--- so are some, one after another
+-- So are some, one after another.
 abbrev pub EndsSome : ℕ → ℕ → Disks → Disks → Type 0
 EndsSome zero i d new = new ≡ d
 EndsSome (suc n) i d new = (next : Disks) × EndsOne i d next × EndsSome n i next new
 
--- a station has no temporary file
+-- A station has no temporary file.
 abbrev pub HasNoneStaged : ℕ → List StagingFile → Type 0
 HasNoneStaged i files = (file : StagingFile) → Among file files → file.station ≢ i
 
--- the file was written by the next scan of the station, whole or in part
+-- The file was written by the next scan of the station, whole or in part.
 pub record IsOfNext (i cursor : ℕ) (file : StagingFile) : Type 0 where
   pub own : file.station ≡ i
   pub number : file.number ≡ cursor

@@ -1,23 +1,23 @@
-//! Laws about nets of stations: their commands make of their bases a run of systems.
-//! There is little code, since each law is the contract of a function that does nothing.
+//! Laws about nets of stations: their commands make of their bases a run of systems. There is little code, since each
+//! law is the contract of a function that does nothing.
 //!
-//! Promise: a net of stations keeps what the model promises (`laws`). Where crashes stop commands, the disks show what
+//! Promise: a net of stations keeps what the model promises (`laws`). If crashes stop commands, the disks show what
 //! they would show without crashes (`crash_laws`). One station alone keeps its part, whatever bytes `toss` gets
 //! (`lone_laws`).
 //!
-//! Begin with specs/: `Nets` (stations, packet files) and `Commands` (the effect of a command on them). `Agreement` says
-//! when a net and a run agree, `InOrder` is the promise about a net.
+//! Begin with specs/: `Nets` (stations, packet files) and `Commands` (the effect of a command on them). `Agreement`
+//! says when a net and a run agree, `InOrder` is the promise about a net.
 //!
 //! For crashes: `Disks` (files under their names, and temporary files), `Stopping` (how far a command gets), `CanEnd`
-//! (the files of stopped scans) and `OverCrashes` (the promise about the disks). For one station: `LoneStations`
-//! and `AloneInOrder`, and with crashes `LoneDisks` and `AloneOverCrashes`.
+//! (the files of stopped scans) and `OverCrashes` (the promise about the disks). For one station: `LoneStations` and
+//! `AloneInOrder`, and with crashes `LoneDisks` and `AloneOverCrashes`.
 //!
-//! For commands on disks: what a crash leaves of a command is what the law over crashes allows (`commands`, `scanning`,
-//! `disk_laws`). Whatever the steps of a sequence, the disks show what the headline over crashes speaks of
-//! (`sequence_laws`). Begin with specs/: `DiskKinds` (which command events a command may be), `OnDisks` (a link file and
-//! a base on a disk as those of a station), `Scans` (the same with the packets of a scan) and `Neighbours` (other
-//! stations on the same disk). Then `Seats` (stations on disks), `Steps` (what a step does), `Asked` and `Scanned`
-//! (which steps commands are) and `Sequences` (the promise).
+//! For commands on disks: a crash leaves of a command what the law over crashes allows (`commands`, `scanning`,
+//! `disk_laws`). After any steps of a sequence, the disks show a net of the headline over crashes (`sequence_laws`).
+//! Begin with specs/: `DiskKinds` (which command events a command may be), `OnDisks` (a link file and a base on a disk
+//! as those of a station), `Scans` (the same with the packets of a scan) and `Neighbours` (other stations on the same
+//! disk). Then `Seats` (stations on disks), `Steps` (the effect of a step), `Asked` and `Scanned` (which steps commands
+//! are) and `Sequences` (the promise).
 #![tactic(auto)]
 
 mod commands;

@@ -14,14 +14,14 @@ use Rattle.model_why.specs.declared.shown.Harm.TheVariants.{NeverGets, NeverSett
 use Rattle.model_why.specs.declared.shown.Shown.{Shown}
 use Rattle.model_why.specs.Shown.{posting_and_moves, shown_run}
 
--- the system that a harm names
+-- The system that a harm names.
 abbrev pub system_named : Harm → Option Address
 system_named (SentAgain a times) = Some a
 system_named (SentOwn a) = Some a
 system_named (NeverGets a) = Some a
 system_named NeverSettles = None
 
--- whether a packet to this address holds the message
+-- Whether a packet to this address holds the message.
 abbrev pub brings : Address → Key → Packet → Bool
 brings to key p = same_address (destination p) to && nat_lt 0 (count key (copies p))
 
@@ -29,31 +29,31 @@ brings to key p = same_address (destination p) to && nat_lt 0 (count key (copies
 abbrev pub step_of : List ℕ → ℕ → ℕ
 step_of counts k = count_by (λ n. nat_le n k) counts + 1
 
--- a packet on its way, from who made it to whom it is for
+-- A packet on its way, from who made it to whom it is for.
 abbrev pub crossing : List ℕ → ℕ → Packet → Crossing
 crossing counts k p = record { step = step_of counts k; from = origin p; to = destination p }
 
--- the packet of this index, if it brings the message
+-- The packet of this index, if it brings the message.
 abbrev pub crossing_at : List ℕ → Address → Key → ℕ → Packet → List Crossing
 crossing_at counts to key k p = if brings to key p then crossing counts k p ∷ [] else []
 
--- those that bring it, of packets the first of which has this index
+-- Those that bring it, of packets the first of which has this index.
 abbrev pub crossings_from : List ℕ → Address → Key → ℕ → List Packet → List Crossing
 crossings_from counts to key k [] = []
 crossings_from counts to key k (p ∷ later) = crossing_at counts to key k p ++ crossings_from counts to key (k + 1) later
 
--- those of a run that is shown, where its harm names this system
+-- Those of a run that is shown, where its harm names this system.
 abbrev pub crossings_to : List LinkFile → List ℕ → Shown → Option Address → List Crossing
 crossings_to files tag shown None = []
 crossings_to files tag shown (Some to) =
     crossings_from (packet_counts (start files) (posting_and_moves shown.poster tag shown.moves)) to (ById tag shown.id) 0
     (shown_run files shown.poster tag shown.moves).packets
 
--- and where it names the one that it does
+-- And where it names the one that it does.
 abbrev pub shown_crossings : List LinkFile → List ℕ → Shown → List Crossing
 shown_crossings files tag shown = crossings_to files tag shown (system_named shown.harm)
 
--- those of what was found, if anything was
+-- The crossings of a found run, if one was found.
 abbrev pub found_crossings : List LinkFile → List ℕ → Option Shown → List Crossing
 found_crossings files tag None = []
 found_crossings files tag (Some shown) = shown_crossings files tag shown

@@ -1,4 +1,4 @@
--- What goes wrong in a run, told by the id of one message and by the address of a system.
+-- The harm in a run, by the id of one message and the address of a system.
 use Rattle.std.specs.Prelude.{◌≡◌, ◌≢◌, ◌≤◌, ℕ, IsTrue, List, Option, None, Some}
 use Rattle.echo_addr.specs.declared.address.Address.{Address}
 use Rattle.model_graph.specs.Walk.{Among}
@@ -13,14 +13,14 @@ use Rattle.model_why.specs.declared.shown.Harm.TheVariants.{NeverGets, NeverSett
 use Rattle.model_why.specs.declared.shown.Shown.{Shown}
 use Rattle.model_why.specs.Shown.{shown_run}
 
--- a system with the area has this address
+-- A system with the area has this address.
 pub record IsCarrierAt (run : Run) (tag : List ℕ) (a : Address) : Type 0 where
   pub system : System
   pub there : Among system run.systems
   pub carries : IsTrue (has_area system.file tag)
   pub address : system.file.system ≡ a
 
--- a system that posted the message of this id, and has it
+-- A system that posted the message of this id, and has it.
 pub record HasPosted (run : Run) (tag id : List ℕ) : Type 0 where
   pub system : System
   pub there : Among system run.systems
@@ -30,66 +30,66 @@ pub record HasPosted (run : Run) (tag id : List ℕ) : Type 0 where
   pub posting : IsPosting tag message
   pub key : key_of message ≡ ById tag id
 
--- the packets to a carrier hold the message so many times, and more than once
+-- The packets to a carrier hold the message so many times, and more than once.
 pub record IsSentAgain (run : Run) (tag id : List ℕ) (a : Address) (times : ℕ) : Type 0 where
   pub carrier : IsCarrierAt run tag a
   pub sent : sent_count a (ById tag id) run.packets ≡ times
   pub again : 2 ≤ times
 
--- a packet to the system that posted the message holds it
+-- A packet to the system that posted the message holds it.
 pub record IsSentOwn (run : Run) (tag id : List ℕ) (a : Address) : Type 0 where
   pub poster : HasPosted run tag id
   pub address : poster.system.file.system ≡ a
   pub sent : 1 ≤ sent_count a (ById tag id) run.packets
 
--- the area has settled, the message was posted, and the base of a carrier lacks it
+-- The area has settled, the message was posted, and the base of a carrier lacks it.
 pub record IsNeverGot (run : Run) (tag id : List ℕ) (a : Address) : Type 0 where
   pub settled : Settled run tag
   pub poster : HasPosted run tag id
   pub carrier : IsCarrierAt run tag a
   pub lacks : count (ById tag id) carrier.system.base ≡ 0
 
--- a packet that holds the message is for an address that no system has
+-- A packet that holds the message is for an address that no system has.
 pub record GoesToNobody (run : Run) (tag id : List ℕ) : Type 0 where
   pub packet : Packet
   pub there : Among packet run.packets
   pub holds : 1 ≤ count (ById tag id) (copies packet)
   pub nobody : (s : System) → Among s run.systems → s.file.system ≢ destination packet
 
--- the harm is done in the run, by the message of this id
+-- The harm is done in the run, by the message of this id.
 abbrev pub HasHarm : Run → List ℕ → List ℕ → Harm → Type 0
 HasHarm run tag id (SentAgain a times) = IsSentAgain run tag id a times
 HasHarm run tag id (SentOwn a) = IsSentOwn run tag id a
 HasHarm run tag id (NeverGets a) = IsNeverGot run tag id a
 HasHarm run tag id NeverSettles = GoesToNobody run tag id
 
--- the harm breaks the promise
+-- The harm breaks the promise.
 abbrev pub BreaksIt : Harm → Type 0
 BreaksIt NeverSettles = ⊥
 BreaksIt _ = Unit {0}
 
--- a run is found that breaks the promise
+-- A run is found that breaks the promise.
 abbrev pub FindsHarm : Option Shown → Type 0
 FindsHarm None = ⊥
 FindsHarm (Some shown) = BreaksIt shown.harm
 
--- a run that goes wrong is found
+-- A run that goes wrong is found.
 abbrev pub FindsSome : Option Shown → Type 0
 FindsSome None = ⊥
 FindsSome (Some shown) = Unit {0}
 
--- what is shown is a run on these link files, and the run has the harm
+-- The shown run is on these link files, and has the harm.
 abbrev pub IsShown : List LinkFile → List ℕ → Shown → Type 0
 IsShown files tag shown = HasHarm (shown_run files shown.poster tag shown.moves) tag shown.id shown.harm
 
--- the system of this index has the area and this address
+-- The system of this index has the area and this address.
 pub record CarriesAt (run : Run) (index : ℕ) (tag : List ℕ) (a : Address) : Type 0 where
   pub system : System
   pub at : nth index run.systems ≡ Some system
   pub carries : IsTrue (has_area system.file tag)
   pub address : system.file.system ≡ a
 
--- and it posted the message of this id
+-- And it posted the message of this id.
 pub record PostedAt (run : Run) (index : ℕ) (tag id : List ℕ) (a : Address) : Type 0 where
   pub carrier : CarriesAt run index tag a
   pub message : Filed

@@ -12,20 +12,20 @@ use Rattle.model_run.specs.Postings.{post_and_scan}
 use Rattle.model_plan.specs.declared.plan.Guess.{Guess}
 use Rattle.model_plan.specs.declared.plan.Guess.TheVariants.{Again, Lacking, Nobody, Own}
 
--- the system of this index has the area, and is sent the message more than once
+-- The system of this index has the area, and is sent the message more than once.
 pub record IsAgain (run : Run) (tag id : List ℕ) (i : ℕ) : Type 0 where
   pub system : System
   pub at : nth i run.systems ≡ Some system
   pub carries : IsTrue (has_area system.file tag)
   pub again : 2 ≤ sent_count system.file.system (ById tag id) run.packets
 
--- the system of this index is sent the message, and posted it
+-- The system of this index is sent the message, and posted it.
 pub record IsOwn (run : Run) (poster : ℕ) (tag id : List ℕ) : Type 0 where
   pub system : System
   pub at : nth poster run.systems ≡ Some system
   pub sent : 1 ≤ sent_count system.file.system (ById tag id) run.packets
 
--- nothing moves any more, and the system of this index has the area and no message of it
+-- Nothing moves any more, and the system of this index has the area and no message of it.
 pub record IsLacking (run : Run) (tag : List ℕ) (i : ℕ) : Type 0 where
   pub settled : IsTrue (is_settled run)
   pub system : System
@@ -33,30 +33,31 @@ pub record IsLacking (run : Run) (tag : List ℕ) (i : ℕ) : Type 0 where
   pub carries : IsTrue (has_area system.file tag)
   pub lacks : area_count tag system.base ≡ 0
 
--- no system has the address, and a packet to it holds the message
+-- No system has the address, and a packet to it holds the message.
 pub record IsToNobody (run : Run) (tag id : List ℕ) (to : Address) : Type 0 where
   pub nobody : (s : System) → Among s run.systems → s.file.system ≢ to
   pub sent : 1 ≤ sent_count to (ById tag id) run.packets
 
--- the guess is right, of the message of this id that the system of this index posted
+-- The guess is right, of the message of this id that the system of this index posted.
 abbrev pub IsRight : Run → ℕ → List ℕ → List ℕ → Guess → Type 0
 IsRight run poster tag id (Again i) = IsAgain run tag id i
 IsRight run poster tag id Own = IsOwn run poster tag id
 IsRight run poster tag id (Lacking i) = IsLacking run tag i
 IsRight run poster tag id (Nobody to) = IsToNobody run tag id to
 
--- what is guessed breaks the promise
+-- The guessed harm breaks the promise.
 abbrev pub GuessBreaks : Guess → Type 0
 GuessBreaks (Nobody to) = ⊥
 GuessBreaks _ = Unit {0}
 
--- it is wrong where the system of this index posts and scans, and nothing else happens
+-- It is wrong where the system of this index posts and scans, and nothing else happens.
 abbrev pub IsWrongAtOnce : List LinkFile → List ℕ → ℕ → Guess → Type 0
 IsWrongAtOnce files tag poster guess =
     (file : LinkFile) → nth poster files ≡ Some file → IsTrue (has_area file tag) →
     ¬ IsRight (run_of files (post_and_scan poster tag)) poster tag (id_of file.system 1) guess
 
--- whom a packet of the first scan goes to, where the guess is that a system is sent its own or that one goes to nobody
+-- The destination of a packet of the first scan. The guess is that a system is sent its own message, or that a packet goes to an address
+-- without a system.
 abbrev pub guessed_link : Address → Guess → Address
 guessed_link own (Nobody to) = to
 guessed_link own _ = own

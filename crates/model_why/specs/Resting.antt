@@ -13,18 +13,18 @@ use Rattle.model_run.specs.Grave.{AllAreCarriers}
 use Rattle.model_plan.specs.declared.plan.Move.{Move}
 use Rattle.model_why.specs.Shown.{shown_run}
 
--- nothing waits, every packet came, and nothing was filed but the message of this id
+-- Nothing waits, every packet came, and nothing was filed but the message of this id.
 pub record IsAtRest (run : Run) (tag id : List ℕ) : Type 0 where
   pub settled : IsTrue (is_settled run)
   pub only : (s : System) → Among s run.systems → (m : Filed) → Among m s.history → key_of m ≡ ById tag id
 
--- where every link of a carrier is a carrier, all that a carrier's posting brought has come to rest
+-- Where every link of a carrier is a carrier, all that a carrier's posting brought has come to rest.
 abbrev pub RestsWith : List LinkFile → List ℕ → ℕ → List Move → Type 0
 RestsWith files tag poster moves =
     AllAreCarriers files tag → (file : LinkFile) → nth poster files ≡ Some file → IsTrue (has_area file tag) →
     IsAtRest (shown_run files poster tag moves) tag (id_of file.system 1)
 
--- the first message of the system of this index is the posting of this id
+-- The first message of the system of this index is the posting of this id.
 pub record PostsFirst (run : Run) (i : ℕ) (tag id : List ℕ) : Type 0 where
   pub system : System
   pub at : nth i run.systems ≡ Some system
@@ -34,17 +34,17 @@ pub record PostsFirst (run : Run) (i : ℕ) (tag id : List ℕ) : Type 0 where
   pub posting : IsPosting tag message
   pub key : key_of message ≡ ById tag id
 
--- a carrier is sent the message once at most, and has some message of the area
+-- A carrier is sent the message once at most, and has some message of the area.
 pub record IsWell (run : Run) (tag id : List ℕ) (s : System) : Type 0 where
   pub once : sent_count s.file.system (ById tag id) run.packets ≤ 1
   pub filed : 1 ≤ area_count tag s.base
 
--- its poster is not sent it, and each carrier is well
+-- Its poster is not sent it, and each carrier is well.
 pub record DoesNoHarm (run : Run) (poster : ℕ) (tag id : List ℕ) : Type 0 where
   pub never_own : (s : System) → nth poster run.systems ≡ Some s → sent_count s.file.system (ById tag id) run.packets ≡ 0
   pub well : (i : ℕ) (s : System) → nth i run.systems ≡ Some s → IsTrue (has_area s.file tag) → IsWell run tag id s
 
--- where every link of a carrier is a carrier, a carrier's posting does no harm, once some moves have brought all to rest
+-- Where every link of a carrier is a carrier, a carrier's posting does no harm, once some moves have brought all to rest.
 abbrev pub IsHarmlessAt : List LinkFile → List ℕ → ℕ → Type 0
 IsHarmlessAt files tag poster =
     AllAreCarriers files tag → (file : LinkFile) → nth poster files ≡ Some file → IsTrue (has_area file tag) →

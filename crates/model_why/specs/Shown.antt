@@ -7,15 +7,15 @@ use Rattle.model_run.specs.Postings.{trial_moment, trial_posting}
 use Rattle.model_plan.specs.declared.plan.Move.{Move}
 use Rattle.model_plan.specs.declared.plan.Move.TheVariants.{Deliver, Scan}
 
--- what a move is in a run; each scan has the moment of the posting
+-- What a move is in a run; each scan has the moment of the posting.
 abbrev pub run_move : Move → RunEvent
 run_move (Scan system) = Scanning system trial_moment
 run_move (Deliver packet) = Delivery packet
 
--- the system of this index posts in the area, and the moves follow
+-- The system of this index posts in the area, and the moves follow.
 abbrev pub posting_and_moves : ℕ → List ℕ → List Move → List RunEvent
 posting_and_moves poster tag moves = trial_posting poster tag ∷ map run_move moves
 
--- the run of these events on the link files
+-- The run of these events on the link files.
 abbrev pub shown_run : List LinkFile → ℕ → List ℕ → List Move → Run
 shown_run files poster tag moves = run_of files (posting_and_moves poster tag moves)

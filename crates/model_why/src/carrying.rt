@@ -20,10 +20,9 @@ use model_replay::{World, replay_counted};
 use std::alloc::{AllocError, Global};
 use std::hash::RandomState;
 
-/// The packets that bring the message of what was found to the system that its harm names, in order: each with
-/// the number of the event that made it, of which the posting is the first. None where nothing was found, or
-/// its harm names no system. Look-ups go by the hasher. Fails where some bytes are no link file, and when out
-/// of memory.
+/// The packets that bring the message of a found run to the system that its harm names, in order. Each has the number
+/// of the event that made it; the posting is the first event. None if no run was found, or its harm names no system.
+/// Look-ups go by the hasher. Fails if some bytes are no link file, and when out of memory.
 pub fn crossings(
     alloc: Global,
     sources: &[Items<u8>],

@@ -54,7 +54,7 @@ fn posting(alloc: Global, poster: usize, tag: &[u8]) -> Result<Event, AllocError
     })
 }
 
-// What is posted.
+// The posted message.
 fn draft(alloc: Global) -> Result<Draft, AllocError>
     ensures { IfOk result (λ draft. draft ≡ trial_draft) }
 {

@@ -19,12 +19,11 @@ use model_plan::Guess;
 use std::alloc::{AllocError, Global};
 use std::hash::RandomState;
 
-/// A run on the net of the link files that these bytes are that goes wrong in the area of the tag, where the
-/// verdict on it is no and one is found. Look-ups go by the hasher. Fails where some bytes are no link file,
-/// and when out of memory.
+/// A run on the net of these link files that goes wrong in the area of the tag, if the verdict on it is no and a run is
+/// found. Look-ups go by the hasher. Fails if some bytes are no link file, and when out of memory.
 ///
-/// It is that of `find_harm`. Where that breaks no promise, and the fault always does harm, each system posts
-/// in turn until one posting does.
+/// It is the run of `find_harm`. If that breaks no promise, and the fault always does harm, each system posts in turn
+/// until one posting does.
 pub fn explain(
     alloc: Global,
     sources: &[Items<u8>],
@@ -50,7 +49,7 @@ pub fn explain(
     Ok(found)
 }
 
-// Whether what was found is as bad as the fault lets one expect.
+// Whether the run that was found is as bad as the fault lets one expect.
 fn is_enough(fault: &NetFault, found: Option<&Shown>) -> bool
     ensures exact { IsTrue result → AlwaysHarms fault.now → FindsHarm (option_copied found.entry) }
     ensures nowhere { IsTrue result → (files : List File) → LeadsNowhere files fault.now → FindsSome (option_copied found.entry) }

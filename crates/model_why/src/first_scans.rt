@@ -23,8 +23,8 @@ use model_run::runs_are_known;
 use std::alloc::{AllocError, Global};
 use std::hash::RandomState;
 
-/// The first posting and scan of which the guess is right. There is one where the guess is that a system is
-/// sent its own and some system lists itself, and where it is an address that no file has and that is listed.
+/// The first posting and scan that make the guess right. There is one if the guess is that a system is sent its own
+/// message and some system lists itself. There is one if the guess is an address without a file that some system lists.
 pub(crate) fn by_first_scans(
     alloc: Global,
     sources: &[Items<u8>],
@@ -74,7 +74,7 @@ fn is_system(files: &[LinkFile], address: Address) -> bool
     files.iter().any(|file| file.system() == address)
 }
 
-// Whether the system of this index lists whom the guess is of.
+// Whether the system of this index lists the address of the guess.
 fn lists_it(files: &[LinkFile], tag: &[u8], poster: usize, guess: Guess) -> bool
     ensures { result ≡ false → (file : File) → nth poster files.now ≡ Some file → is_link file tag.now (guessed_link file.system guess) ≡ false }
 {

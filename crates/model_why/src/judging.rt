@@ -20,8 +20,8 @@ use model_replay::World;
 use model_run::settled_runs_settle_each_area;
 use std::alloc::{AllocError, Global};
 
-/// The harm that the guess says, just where it is right of the net, by the message with this tag and id that
-/// the system of index `poster` posted. Fails only when out of memory.
+/// The harm that the guess names, just if the guess is right of the net. The message has this tag and id, and the
+/// system of index `poster` posted it. Fails only when out of memory.
 pub(crate) fn judge(
     alloc: Global,
     world: &World,
@@ -43,8 +43,8 @@ pub(crate) fn judge(
     }
 }
 
-/// What breaks the promise in the net, by the message with this tag and id that the system of index
-/// `poster` posted, none where it does no harm though all has settled. Fails only when out of memory.
+/// The break of the promise in the net, or none if the message does no harm though all has settled. The message has
+/// this tag and id, and the system of index `poster` posted it. Fails only when out of memory.
 pub(crate) fn judge_all(
     alloc: Global,
     world: &World,

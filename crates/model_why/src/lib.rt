@@ -1,14 +1,13 @@
 //! Why an area is not in order: a run on its link files that goes wrong.
 //!
-//! The contract for the layer above is that of `explain`: the run that it answers has the harm that it names,
-//! and where the fault always does harm it answers one. A plan of `model_plan` is tried on real packets
-//! (`find_harm`); where that shows too little, systems post in turn until it shows.
+//! The contract for the layer above is that of `explain`. The run that it returns has the harm that it names, and it
+//! returns one if the fault always does harm. A plan of `model_plan` is tried on real packets (`find_harm`). If that
+//! shows too little, systems post in turn until the harm shows.
 //!
-//! Modules in reading order: `shown` (what is answered), `copies` (one message in the packets of a net),
-//! `judging` (whether a guess is right of a net), `events` and `confirming` (a plan is tried) and `finding` (the plan of
-//! a fault, tried); `sources` (link files from bytes), `first_scans`, `rounds` and `trying` (systems post in turn) and
-//! `explaining` (the whole); `carrying` (which packets bring the message where it does harm); `laws` (what holds of what
-//! is shown).
+//! Begin with `explaining` (the whole) and `shown` (the result). `events`, `confirming` and `finding` try the plan of a
+//! fault. `copies` finds one message in the packets of a net, and `judging` whether a guess is right of a net.
+//! `sources` reads link files from bytes. In `first_scans`, `rounds` and `trying` systems post in turn. `carrying`
+//! finds which packets bring the message to the harm, and `laws` has what holds of the result.
 #![tactic(auto)]
 
 mod carrying;

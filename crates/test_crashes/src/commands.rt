@@ -19,7 +19,7 @@ const STAMP: Stamp = Stamp {
     second: 56,
 };
 
-/// What is run.
+/// The command to run.
 #[derive(Clone, Copy)]
 pub(crate) enum Command {
     Post,

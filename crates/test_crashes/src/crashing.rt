@@ -18,11 +18,11 @@ const SECOND: u64 = 29;
 /// In how many ways changes come to the disk.
 const WAYS: u64 = 15;
 
-/// After each fourth number of calls of the next command there is a second crash in each way, with no byte of the
-/// changes on the disk.
+/// After each fourth number of calls of the next command there is a second crash in each way. No byte of the changes is
+/// on the disk then.
 const FOURTH: u64 = 4;
 
-/// How many crashes there were, and how many of them left the base before the command, the one after it, or the one
+/// How many crashes there were, and how many of them left the base before the command or the one after it. Or the base
 /// of a command that changes nothing.
 #[derive(Clone, Copy)]
 pub(crate) struct Counts {
@@ -155,7 +155,7 @@ fn files_after(alloc: Global, links: &LinkFile, jobs: &[Job]) -> Result<Vec<File
     Ok(files_of(alloc, &mut disk)?)
 }
 
-// A disk with these files, whose further changes come so far.
+// A disk with these files that tears further changes like this.
 fn disk_with(alloc: Global, files: &[File], tears: Vec<Tear>) -> Result<MemoryDisk> {
     let mut disk = MemoryDisk::new(alloc, tears, u64::MAX);
     put_all(&mut disk, files)?;

@@ -21,7 +21,7 @@ pub(crate) const FOLDER: &[u8] = b"base/";
 /// The key that the folder gets.
 const KEY: (u64, u64) = (1, 2);
 
-/// How a command ended: by itself, by a failure of the disk, or by what is not to be.
+/// How a command ended: by itself, by a failure of the disk, or wrongly.
 #[derive(Clone, Copy)]
 pub(crate) enum Ended {
     Well,
@@ -47,7 +47,7 @@ fn some_keys(alloc: Global) -> Result<Vec<Key>, AllocError> {
     Ok(keys)
 }
 
-// Tells the store of them.
+// Passes them to the store.
 fn expect_some<D: Disk>(alloc: Global, store: &mut FolderStore<D, SipDigest>)
     requires { (⟦<FolderStore<D, SipDigest> as Store>⟧.state store.old).is_ready }
     ensures { (⟦<FolderStore<D, SipDigest> as Store>⟧.state store.new).is_ready }

@@ -1,12 +1,12 @@
-//! Commands on a base folder on the disk in memory, each stopped before each of its calls, with what was not synced
-//! torn at each length. The folder is read then, and a next command run on it, stopped once and then whole; and all is
-//! held against the same on bases in memory. trials/stores.sh runs it.
+//! Commands on a base folder on the disk in memory. Each is stopped before each of its calls, with unsynced writes torn
+//! at each length. Then the folder is read, and a next command runs on it, stopped once and then whole. All is compared
+//! with the same on bases in memory. trials/stores.sh runs it.
 //!
 //! Words: FROM TO STEP, the numbers of the bases, and by how many bytes the lengths differ. Without words it tries some
 //! crashes of one base.
 //!
-//! Modules: `packets` (what is tossed), `commands` (on any store), `expecting` (what bases in memory have), `folders`
-//! (commands on the disk), `images` (files put on another disk), `crashing` (each crash of a command).
+//! Begin with `crashing` (each crash of a command). `packets` has the tossed packets, and `commands` runs on any store.
+//! `expecting` has the bases in memory, `folders` the commands on the disk, and `images` files put on another disk.
 #![tactic(auto)]
 
 mod commands;
@@ -24,8 +24,8 @@ fn number(word: &String) -> Result<u64> {
     word.parse::<u64>().context("a number")
 }
 
-/// Tries these bases, and prints how many crashes there were and what they left: the base before the command, the one
-/// after it, or what is both, since the command changed nothing.
+/// Tries these bases, and prints how many crashes there were and what they left. That is the base before the command,
+/// the one after it, or both if the command changed nothing.
 fn run(rt: &HostRuntime, from: u64, to: u64, step: u64) -> Result<()> {
     let mut counts = Counts::NONE;
     for seed in from..to {

@@ -1,8 +1,7 @@
-//! How fast echomail texts are taken apart and written.
+//! How fast echomail texts are parsed and written.
 //!
-//! Words: `KIND COUNT ROUNDS`. COUNT texts of about 1,200 bytes are made. ROUNDS times `view` takes each
-//! apart, `write` takes each apart once and writes it ROUNDS times, and `sum` adds the bytes of each as
-//! a yardstick.
+//! Words: `KIND COUNT ROUNDS`. COUNT texts of about 1,200 bytes are made. `view` parses each ROUNDS times. `write`
+//! parses each once and writes it ROUNDS times. `sum` adds the bytes of each as a yardstick.
 ghost use Rattle.echo_text.specs.Echo.{HasNoZero};
 
 use anyhow::{Context, Result, bail};
@@ -133,7 +132,7 @@ fn work(alloc: Global, kind: &str, texts: &[Text], rounds: usize) -> Result<Tota
     Ok(totals)
 }
 
-/// The number that a word says, or the one that stands where there is no word.
+/// The number in a word, or the other one if there is no word.
 fn number(word: Option<&String>, otherwise: usize) -> Result<usize> {
     match word {
         Some(word) => word.parse::<usize>().context("a number"),

@@ -66,7 +66,7 @@ fn put_packets(rt: &HostRuntime, folder: Option<&String>, world: &World) -> Resu
     Ok(all)
 }
 
-/// Writes and prints what is left after so many events.
+/// Writes and prints the state after so many events.
 fn leave(rt: &HostRuntime, folder: Option<&String>, events: usize, world: &World) -> Result<()> {
     let bases = put_bases(rt, folder, world)?;
     let packets = put_packets(rt, folder, world)?;
