@@ -123,7 +123,7 @@ pub record HasStageCause {T : Type 0} (before now : ℕ) (result : Result T Publ
   pub packets : IsErrOf result (Packets placing.Device) → Failed before now
   pub staging : IsErrOf result (Staging disk_error.Device) → Failed before now
   pub free : IsErrOf result (Packets placing.Taken) → ⊥
-  pub staging : (cause : StoreError) → IsErrOf result (OfBase cause) → ⊥
+  pub base : (cause : StoreError) → IsErrOf result (OfBase cause) → ⊥
 
 -- each packet is at its path on the disk, and the store's base is committed
 pub record ArePublished (packets : List Outgoing) (old new : StoreState) : Type 0 where
