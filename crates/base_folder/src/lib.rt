@@ -1,5 +1,8 @@
 //! A base folder for the commands: judged, opened and claimed as they need it, read whole as the base file of the same
-//! messages, and filled with the messages of another base. Its faults are reported like those of a base file.
+//! messages, and filled with the messages of another base.
+//!
+//! Promise: a folder is a base or has one fault, which is reported like that of a base file. Reading changes nothing,
+//! and returns no base that a second read of the log does not confirm. Filling adds no message or all of them.
 //!
 //! Begin with `opening` (a folder to be changed) and `snapshot` (a folder read without a change). `judging` has the
 //! contents of the log and the faults of a folder, `owning` its owner, and `open_error` the errors. `reading` returns

@@ -1,5 +1,6 @@
-//! Tests of formats and stations beyond examples/cases: calls that no command makes, answers that none prints, calls
-//! that are refused memory, and devices that fail.
+//! Tests of formats and stations beyond examples/cases: calls that no command makes, answers that no command prints,
+//! calls that are refused memory, and devices that fail. Each module is named for the crate or the part that it tests.
+//! It promises nothing to other crates. Begin with `packet`.
 #![tactic(auto)]
 
 #[cfg(test)]

@@ -1,6 +1,7 @@
-//! What no command of echonet shows, a word for each, and the words that its module names after it: `texts`,
-//! a benchmark that bench/texts.sh runs, and `world`, which leaves what a replay leaves, for trials/. Without
-//! words each runs once on a small input.
+//! A program for measurements and trials that no command of echonet makes. Its first word is a module: `texts` is a
+//! benchmark that bench/texts.sh runs, and `world` writes the bases and packets that a replay leaves, for trials/. The
+//! other words are those of the module. Without words each runs once on a small input. It is proved to be safe and to
+//! end, and no more. Begin with `run`.
 #![tactic(auto)]
 
 mod texts;
