@@ -22,8 +22,8 @@ const WAYS: u64 = 15;
 /// on the disk then.
 const FOURTH: u64 = 4;
 
-/// How many crashes there were, and how many of them left the base before the command or the one after it. Or the base
-/// of a command that changes nothing.
+/// The number of crashes, and how many of them left the base before the command, the one after it, or, if the command
+/// changes nothing, the one base.
 #[derive(Clone, Copy)]
 pub(crate) struct Counts {
     pub(crate) crashes: u64,

@@ -1,6 +1,6 @@
 //! Commands on a base folder on the disk in memory. Each is stopped before each of its calls, with unsynced writes torn
 //! at each length. Then the folder is read, and a next command runs on it, stopped once and then whole. All is compared
-//! with the same on bases in memory. trials/stores.sh runs it.
+//! with the same on bases in memory. trials/stores.sh runs it. It is proved to be safe and to end, and no more.
 //!
 //! Words: FROM TO STEP, the numbers of the bases, and by how many bytes the lengths differ. Without words it tries some
 //! crashes of one base.
