@@ -1,6 +1,7 @@
 -- A base in a file.
 use Rattle.std.specs.Prelude.{◌≡◌, ◌≢◌, ◌≤◌, ◌<◌, ◌^◌, ◌⊎◌, ℕ, ◌+◌, false, true, List, Result, All, IsErrOf, length, slice_get}
 use Rattle.base_file.specs.Base.{Base}
+use Rattle.base_file.specs.BaseFile.{is_countable}
 use Rattle.disk_io.specs.Device.{Failed}
 use Rattle.disk_io.specs.Disk.{DiskState, Files}
 use Rattle.echo_filed.specs.Filed.{Filed}
@@ -48,6 +49,10 @@ IsUnsaved why = (why ≡ error.Memory) ⊎ (why ≡ error.TooMany)
 pub record HasRoomFor (base : Base) (message : Filed) : Type 0 where
   pub messages : length base.messages + 1 < 2 ^ 32
   pub text : is_short_enough (stored_as false message) ≡ true
+
+-- four bytes do not count its messages, or the bytes of a text
+abbrev pub IsUncounted : Base → Type 0
+IsUncounted base = is_countable base.messages base.cursor ≡ false
 
 -- The path has its old file or a file of this base. The staging path may have anything, and all else is unchanged.
 pub record PutsBase (path own : List ℕ) (base : Base) (before after : Files) : Type 0 where

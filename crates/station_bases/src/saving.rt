@@ -1,12 +1,12 @@
 //! A base replaces its file.
-ghost use Rattle.std.specs.Prelude.{◌≡◌, ◌≢◌, All, IfErr, IfOk, OnOk, Some};
+ghost use Rattle.std.specs.Prelude.{◌≡◌, ◌≢◌, All, IfErr, IfOk, IsErrOf, OnOk, Some};
 ghost use Rattle.base_file.specs.BaseFile.{saved_bytes};
 ghost use Rattle.disk_io.specs.Runs.{HasCause, LeavesOnly, OneStepOn};
 ghost use Rattle.disk_atomic.specs.Changes.{ChangesOnly, HasOnDisk};
 ghost use Rattle.disk_atomic.specs.Replacing.{Replaces};
 ghost use Rattle.station.specs.Paths.{staging_path};
 ghost use Rattle.cmd_status.specs.Inputs.{IsBaseGiven};
-ghost use Rattle.station_bases.specs.InFile.{HasRoomFor, HasWriteCause, IsInFile, IsOfFile, IsUnsaved, PutsBase};
+ghost use Rattle.station_bases.specs.InFile.{HasRoomFor, HasWriteCause, IsInFile, IsOfFile, IsUncounted, IsUnsaved, PutsBase};
 
 use base_file::{Base, BaseFault, saved_base_law};
 use base_store::StoreError;
@@ -28,6 +28,7 @@ pub(crate) fn check_room<S: BuildHasher>(
     message: &Filed,
 ) -> Result<(), StoreError>
     ensures room { OnOk result (HasRoomFor base.now message.now) }
+    ensures many { IsErrOf result StoreError.TooMany → HasRoomFor base.now message.now → ⊥ }
     ensures err { IfErr result IsUnsaved }
 {
     if base.len() >= MOST || !is_short_enough(alloc, message, false)? {
@@ -40,6 +41,7 @@ pub(crate) fn check_room<S: BuildHasher>(
 fn saved<S: BuildHasher>(alloc: Global, base: &Base<S>) -> Result<Items<u8>, StoreError>
     ensures bytes { IfOk result (λ bytes. bytes ≡ saved_bytes base.now.messages base.now.cursor) }
     ensures says { IfOk result (λ bytes. IsBaseGiven (Some bytes) base.now.messages base.now.cursor) }
+    ensures many { IsErrOf result StoreError.TooMany → IsUncounted base.now }
     ensures err { IfErr result IsUnsaved }
 {
     saved_base_law();
@@ -83,6 +85,7 @@ pub(crate) fn write_file<D: Disk, S: BuildHasher>(
     ensures written { OnOk result (IsInFile (D.state disk.new) path.now base.now) }
     ensures any_moment { LeavesOnly (D.state disk.old) (D.state disk.new) (OneStepOn (PutsBase path.now own.now base.now) (D.state disk.old)) }
     ensures changes { ChangesOnly (IsOfFile path.now own.now) (D.state disk.old) (D.state disk.new) }
+    ensures many { IsErrOf result StoreError.TooMany → IsUncounted base.now × (disk.new ≡ disk.old) }
     ensures cause { HasWriteCause (D.failures disk.old) (D.failures disk.new) result }
 {
     let bytes = saved(alloc, base)?;
