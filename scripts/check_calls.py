@@ -31,7 +31,6 @@ READS = {
     "disk_system/real_disk": "the bound of RealDisk, no call",
     "cmd_base/expecting": "the keys of the packets of toss, as a hint",
     "cmd_base/left_files": "the list of earlier packets",
-    "cmd_base/opened": "whether two paths lead to one folder",
     "cmd_input/folders": "whether BASE is a folder, and the names in it",
     "cmd_input/locks": "locks",
     "cmd_input/packets": "the packets of toss",

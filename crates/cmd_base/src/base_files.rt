@@ -55,30 +55,52 @@ impl<'r> BaseFiles<'r> {
     // Makes the staging file with the mode of another, and with its owner if that is allowed.
     fn make(&self, path: &str, target: &str) -> io::Result<File> {
         let access = self.access_at(target)?;
-        let made = Made {
-            path: String::from_str(self.rt.alloc(), path)?,
-            file: make_new(self.rt, path)?,
-        };
-        let given = match access {
-            Some(access) => give_access(&made.file, access),
-            None => Ok(()),
-        };
-        let file = made.file.try_clone();
+        let made = self.new_file(path)?;
+        let file = made.opened_with(access);
         self.made.set(Some(made));
-        given?;
         file
+    }
+
+    fn new_file(&self, path: &str) -> io::Result<Made> {
+        let kept = String::from_str(self.rt.alloc(), path)?;
+        match make_new(self.rt, path) {
+            Ok(file) => Ok(Made { path: kept, file }),
+            Err(error) => Err(error),
+        }
     }
 
     // The new file with this path, open at its beginning until it is written.
     fn made_at(&self, path: &str) -> Option<io::Result<File>> {
         let made = self.made.take()?;
-        let file = if made.path.as_str() == path {
-            Some(made.file.try_clone())
-        } else {
-            None
-        };
+        let file = made.opened_at(path);
         self.made.set(Some(made));
         file
+    }
+
+    // An error, unless a stopped run left this staging file and its base file may be replaced.
+    fn check_staging(&self, path: &str, target: &str) -> io::Result<()> {
+        self.rt.symlink_metadata(path)?;
+        self.access_at(target)?;
+        check_left(self.rt.alloc(), self.rt, path, BASE_START).map_err(system_error)
+    }
+}
+
+impl Made {
+    // The file, open once more with this mode and owner.
+    fn opened_with(&self, access: Option<Access>) -> io::Result<File> {
+        if let Some(access) = access {
+            give_access(&self.file, access)?;
+        }
+        self.file.try_clone()
+    }
+
+    // The file, open once more, if it has this path.
+    fn opened_at(&self, path: &str) -> Option<io::Result<File>> {
+        if self.path.as_str() == path {
+            Some(self.file.try_clone())
+        } else {
+            None
+        }
     }
 }
 
@@ -146,9 +168,7 @@ impl Files for BaseFiles<'_> {
     // A file at a staging path stays, unless a stopped run left it and its base file may be replaced.
     fn remove_file(&self, path: &str) -> io::Result<()> {
         if let Some(target) = target_staging(path) {
-            self.rt.symlink_metadata(path)?;
-            let _ = self.access_at(target)?;
-            check_left(self.rt.alloc(), self.rt, path, BASE_START).map_err(system_error)?;
+            self.check_staging(path, target)?;
         }
         self.rt.remove_file(path)
     }

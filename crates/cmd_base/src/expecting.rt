@@ -8,6 +8,7 @@ use echo_packet::{Limits, Packed, PacketReader};
 use echo_text::{EchoView, view_text};
 use std::alloc::AllocError;
 use std::fs;
+use std::fs::File;
 
 /// How many bytes of a packet file are read at once.
 const BUFFER: usize = 65_536;
@@ -32,9 +33,7 @@ pub fn expected_keys(
     let mut keys = Vec::new(rt.alloc());
     let most = (messages as u64).saturating_mul(ENTRY).min(MOST);
     if bytes_in(rt, names) < most {
-        for name in names {
-            push_file(rt, name, limits, &mut keys)?;
-        }
+        push_files(rt, names, limits, &mut keys)?;
     }
     Ok(keys)
 }
@@ -43,28 +42,51 @@ pub fn expected_keys(
 fn bytes_in(rt: &HostRuntime, names: &[PathName]) -> u64 {
     let mut bytes: u64 = 0;
     for name in names {
-        if let Ok(path) = name.path() {
-            if let Ok(found) = fs::metadata(rt, path) {
-                bytes = bytes.saturating_add(found.len());
-            }
-        }
+        bytes = bytes.saturating_add(size_of(rt, name));
     }
     bytes
+}
+
+// The size of the file with this name.
+fn size_of(rt: &HostRuntime, name: &PathName) -> u64 {
+    let Ok(path) = name.path() else {
+        return 0;
+    };
+    match fs::metadata(rt, path) {
+        Ok(found) => found.len(),
+        Err(_) => 0,
+    }
+}
+
+// Adds the keys of the messages in packet files.
+fn push_files(
+    rt: &HostRuntime,
+    names: &[PathName],
+    limits: Limits,
+    keys: &mut Vec<Key>,
+) -> Result<(), AllocError> {
+    for name in names {
+        if let Some(file) = open_packet(rt, name) {
+            push_file(rt, file, limits, keys)?;
+        }
+    }
+    Ok(())
+}
+
+fn open_packet(rt: &HostRuntime, name: &PathName) -> Option<File> {
+    match name.path() {
+        Ok(path) => open_regular(rt, path).ok(),
+        Err(_) => None,
+    }
 }
 
 // Adds the keys of the messages in a packet file.
 fn push_file(
     rt: &HostRuntime,
-    name: &PathName,
+    file: File,
     limits: Limits,
     keys: &mut Vec<Key>,
 ) -> Result<(), AllocError> {
-    let Ok(path) = name.path() else {
-        return Ok(());
-    };
-    let Ok(file) = open_regular(rt, path) else {
-        return Ok(());
-    };
     let reader = Buffered::new(rt.alloc(), Watched::new(file), BUFFER)?;
     push_packet(rt, reader, limits, keys)
 }
@@ -76,9 +98,17 @@ fn push_packet<R: Source + Drop>(
     limits: Limits,
     keys: &mut Vec<Key>,
 ) -> Result<(), AllocError> {
-    let Ok(mut packet) = PacketReader::open(rt.alloc(), reader, limits) else {
-        return Ok(());
-    };
+    match PacketReader::open(rt.alloc(), reader, limits) {
+        Ok(mut packet) => push_messages(rt, &mut packet, keys),
+        Err(_) => Ok(()),
+    }
+}
+
+fn push_messages<R: Source>(
+    rt: &HostRuntime,
+    packet: &mut PacketReader<R>,
+    keys: &mut Vec<Key>,
+) -> Result<(), AllocError> {
     for _ in 0..MESSAGES {
         let Ok(Some(message)) = packet.next() else {
             return Ok(());

@@ -16,8 +16,20 @@ pub struct FolderState {
 pub fn found_in<'a>(rt: &HostRuntime, base: &'a str) -> Result<FolderState, Fault<'a>> {
     let strange = is_strange(rt, base)?;
     let path = folder_path(rt, base)?;
-    break_hard_links(rt, base, path.as_str(), strange)?;
+    match probe(rt, base, path.as_str(), strange) {
+        Ok(found) => Ok(FolderState { path, found }),
+        Err(fault) => Err(fault),
+    }
+}
+
+// The same. The files have `path` before their names.
+fn probe<'a>(
+    rt: &HostRuntime,
+    base: &'a str,
+    path: &str,
+    strange: bool,
+) -> Result<FolderProbe, Fault<'a>> {
+    break_hard_links(rt, base, path, strange)?;
     let key = drawn_key(rt)?;
-    let found = FolderProbe { strange, key };
-    Ok(FolderState { path, found })
+    Ok(FolderProbe { strange, key })
 }

@@ -1,15 +1,17 @@
 //! Hard links to files of a base folder, as a snapshot by `cp -al` has.
-ghost use Rattle.std.specs.Prelude.{◌≢◌, ◌<◌};
+ghost use Rattle.std.specs.Prelude.{◌≢◌, ◌<◌, IfSome};
 
 use base_folder::log_end;
 use base_log::Names;
-use cmd_input::{folder_fault, locked_folder, output_fault};
+use cmd_input::{folder_fault, locked_folder, output_fault, text_path};
 use cmd_status::Fault;
-use disk_system::{OutputFault, RealDisk, Unknown, access_of, flush_folder, give_access, make_new};
-use std::fs::DirEntry;
+use disk_system::{
+    Access, OutputFault, RealDisk, Unknown, access_of, flush_folder, give_access, make_new,
+};
+use std::fs::{DirEntry, File, Metadata};
 use std::io::ErrorKind;
 use std::os::unix::fs::MetadataExt;
-use std::{fs, io, str};
+use std::{fs, io};
 
 /// How many numbers the files of a base folder have.
 const NUMBERS: u8 = 10;
@@ -26,14 +28,12 @@ pub(crate) fn break_hard_links<'a>(
         return Ok(());
     }
     let _locked = locked_folder(rt, base)?;
-    let mut disk = RealDisk::new(rt, Unknown);
-    match log_end(rt.alloc(), &mut disk, path.as_bytes(), strange) {
-        Ok(end) => {
-            let spare = spare_number(end.told.number);
-            copy_linked(rt, base, path, spare).map_err(|fault| output_fault(fault, base))
-        }
+    match spare_in(rt, path, strange) {
+        Some(spare) => copy_linked(rt, base, path, spare).map_err(|fault| output_fault(
+            fault, base,
+        )),
         // Opening the folder reports it.
-        Err(_) => Ok(()),
+        None => Ok(()),
     }
 }
 
@@ -41,23 +41,40 @@ pub(crate) fn break_hard_links<'a>(
 fn has_hard_links<'a>(rt: &HostRuntime, base: &'a str) -> Result<bool, Fault<'a>> {
     let entries = fs::read_dir(rt, base).map_err(|error| folder_fault(&error, base))?;
     for entry in entries {
-        match entry {
-            Ok(entry) => {
-                if is_linked_entry(&entry) {
-                    return Ok(true);
-                }
-            }
-            // A name that is no text cannot belong to a base folder.
-            Err(_) => {}
+        if is_linked_entry(entry) {
+            return Ok(true);
         }
     }
     Ok(false)
 }
 
-fn is_linked_entry(entry: &DirEntry) -> bool {
-    match entry.metadata() {
-        Ok(found) => found.is_file() && found.nlink() > 1,
+// A name that is no text does not belong to a base folder.
+fn is_linked_entry(entry: io::Result<DirEntry>) -> bool {
+    match entry {
+        Ok(entry) => is_linked_file(entry.metadata()),
         Err(_) => false,
+    }
+}
+
+fn is_linked_file(found: io::Result<Metadata>) -> bool {
+    match found {
+        Ok(found) => has_second_path(&found),
+        Err(_) => false,
+    }
+}
+
+fn has_second_path(found: &Metadata) -> bool {
+    found.is_file() && found.nlink() > 1
+}
+
+// A number of files that do not count in this folder, if it is a base.
+fn spare_in(rt: &HostRuntime, path: &str, strange: bool) -> Option<u8>
+    ensures { IfSome result (λ spare. spare < 10) }
+{
+    let mut disk = RealDisk::new(rt, Unknown);
+    match log_end(rt.alloc(), &mut disk, path.as_bytes(), strange) {
+        Ok(end) => Some(spare_number(end.told.number)),
+        Err(_) => None,
     }
 }
 
@@ -74,60 +91,83 @@ fn copy_linked(rt: &HostRuntime, base: &str, path: &str, spare: u8) -> Result<()
     requires { spare < 10 }
 {
     let names = Names::new(rt.alloc(), path.as_bytes(), spare)?;
-    let staging = text_of(&names.messages)?;
-    match fs::remove_file(rt, staging) {
-        Err(error) if error.kind() != ErrorKind::NotFound => return Err(OutputFault::from(error)),
-        _ => {}
-    }
-    let copied = copy_each(rt, path, text_of(&names.log)?, staging);
+    copy_over(rt, path, text_path(&names.log), text_path(&names.messages))?;
+    flush_folder(rt, base)
+}
+
+// Copies all, by way of a staging file. If that fails, none is left.
+fn copy_over(rt: &HostRuntime, path: &str, log: &str, staging: &str) -> Result<(), OutputFault> {
+    remove_left(rt, staging)?;
+    let copied = copy_each(rt, path, log, staging);
     if copied.is_err() {
         let _ = fs::remove_file(rt, staging);
     }
-    copied?;
-    flush_folder(rt, base)
+    copied
+}
+
+// Removes a file that a stopped run may have left.
+fn remove_left(rt: &HostRuntime, staging: &str) -> io::Result<()> {
+    match fs::remove_file(rt, staging) {
+        Err(error) if error.kind() != ErrorKind::NotFound => Err(error),
+        _ => Ok(()),
+    }
 }
 
 // Copies the log and the files of each number.
 fn copy_each(rt: &HostRuntime, path: &str, log: &str, staging: &str) -> Result<(), OutputFault> {
     copy_if_linked(rt, log, staging)?;
     'numbers: for number in 0..NUMBERS {
-        let names = Names::new(rt.alloc(), path.as_bytes(), number)?;
-        copy_if_linked(rt, text_of(&names.messages)?, staging)?;
-        copy_if_linked(rt, text_of(&names.keys)?, staging)?;
+        copy_number(rt, path, number, staging)?;
     }
     Ok(())
 }
 
-// Puts a copy in the place of the file with this path, if that has a second one. It keeps mode and owner.
+// Copies the files of a number.
+fn copy_number(rt: &HostRuntime, path: &str, number: u8, staging: &str) -> Result<(), OutputFault>
+    requires { number < 10 }
+{
+    let names = Names::new(rt.alloc(), path.as_bytes(), number)?;
+    copy_both(rt, &names, staging)
+}
+
+fn copy_both(rt: &HostRuntime, names: &Names, staging: &str) -> Result<(), OutputFault> {
+    copy_if_linked(rt, text_path(&names.messages), staging)?;
+    copy_if_linked(rt, text_path(&names.keys), staging)
+}
+
+// Puts a copy in the place of the file with this path, if that has a second one.
 fn copy_if_linked(rt: &HostRuntime, path: &str, staging: &str) -> Result<(), OutputFault> {
     if !is_linked(rt, path)? {
         return Ok(());
     }
+    copy_to(rt, path, staging)?;
+    fs::rename(rt, staging, path)?;
+    Ok(())
+}
+
+// Copies a file. The copy has its mode and owner.
+fn copy_to(rt: &HostRuntime, path: &str, staging: &str) -> Result<(), OutputFault> {
     let access = access_of(rt, path)?;
     make_new(rt, staging)?;
     fs::copy(rt, path, staging)?;
     let copy = fs::open(rt, staging)?;
-    if let Some(access) = access {
-        give_access(&copy, access)?;
-    }
-    copy.sync_all()?;
-    fs::rename(rt, staging, path)?;
+    sync_with(&copy, access)?;
     Ok(())
+}
+
+// Syncs a file with this mode and owner.
+fn sync_with(file: &File, access: Option<Access>) -> io::Result<()> {
+    if let Some(access) = access {
+        give_access(file, access)?;
+    }
+    file.sync_all()
 }
 
 // Whether a file with this path is there and has a second one.
 fn is_linked(rt: &HostRuntime, path: &str) -> io::Result<bool> {
     match fs::symlink_metadata(rt, path) {
-        Ok(found) => Ok(found.is_file() && found.nlink() > 1),
+        Ok(found) => Ok(has_second_path(&found)),
         Err(error) if error.kind() == ErrorKind::NotFound => Ok(false),
         Err(error) => Err(error),
-    }
-}
-
-// A path as text.
-fn text_of(path: &[u8]) -> io::Result<&str> {
-    match str::from_utf8(path) {
-        Ok(text) => Ok(text),
-        Err(_) => Err(ErrorKind::InvalidInput.into()),
     }
 }

@@ -1,13 +1,13 @@
 //! Lists the packets that earlier scans left in staging files. The number in a name counts the messages scanned
 //! before. So it shows whether that scan moved the cursor.
-ghost use Rattle.std.specs.Prelude.{◌≡◌, IfOk};
+ghost use Rattle.std.specs.Prelude.{◌≡◌, IfOk, OnOk};
 ghost use Rattle.station_scan.specs.ListStaged.{AreListed};
 
 use disk_io::DiskError;
 use echo_addr::Items;
 use station_scan::{ListStaged, StagedPacket};
 use std::alloc::{AllocError, Global};
-use std::fs::DirEntry;
+use std::fs::{DirEntry, ReadDir};
 use std::io::ErrorKind;
 use std::{fs, io, str};
 
@@ -17,7 +17,7 @@ pub struct LeftFiles<'r> {
     rt: &'r HostRuntime,
     folder: Items<u8>,
     own: Items<u8>,
-    told: Items<StagedPacket>,
+    reported: Items<StagedPacket>,
     failures: u64,
 }
 
@@ -27,9 +27,28 @@ impl<'r> LeftFiles<'r> {
             rt,
             folder: Items::new(Vec::new(rt.alloc())),
             own: Items::new(Vec::new(rt.alloc())),
-            told: Items::new(Vec::new(rt.alloc())),
+            reported: Items::new(Vec::new(rt.alloc())),
             failures: 0,
         }
+    }
+
+    // Notes the report.
+    fn remember(
+        &mut self,
+        alloc: Global,
+        folder: &[u8],
+        own: &[u8],
+        found: &[StagedPacket],
+    ) -> Result<(), AllocError>
+        ensures folder { OnOk result (self.new.folder ≡ folder.now) }
+        ensures own { OnOk result (self.new.own ≡ own.now) }
+        ensures reported { OnOk result (self.new.reported ≡ found.now) }
+        ensures failures { self.new.failures ≡ self.old.failures }
+    {
+        self.folder = Items::new(Vec::from_slice(alloc, folder)?);
+        self.own = Items::new(Vec::from_slice(alloc, own)?);
+        self.reported = Items::new(copies_of(alloc, found)?);
+        Ok(())
     }
 }
 
@@ -57,7 +76,7 @@ fn copies_of(alloc: Global, found: &[StagedPacket]) -> Result<Vec<StagedPacket>,
 
 // The report is true if these files are as it says.
 impl ListStaged for LeftFiles<'_> {
-    ghost is_true = { λ listing files. AreListed listing.folder listing.own files listing.told };
+    ghost is_true = { λ listing files. AreListed listing.folder listing.own files listing.reported };
 
     ghost failures = { λ listing. listing.failures };
 
@@ -69,9 +88,7 @@ impl ListStaged for LeftFiles<'_> {
     ) -> Result<Vec<StagedPacket>, DiskError> {
         match packets_staging(self.rt, folder, own) {
             Ok(found) => {
-                self.folder = Items::new(Vec::from_slice(alloc, folder)?);
-                self.own = Items::new(Vec::from_slice(alloc, own)?);
-                self.told = Items::new(copies_of(alloc, &found)?);
+                self.remember(alloc, folder, own, &found)?;
                 Ok(found)
             }
             Err(DiskError::Memory) => Err(DiskError::Memory),
@@ -83,27 +100,56 @@ impl ListStaged for LeftFiles<'_> {
     }
 }
 
-// The packets of the system of this own name in staging files of the folder, as their names say. A missing folder has
-// none.
+// The packets of the system of this own name in staging files of the folder, as their names say.
 fn packets_staging(
     rt: &HostRuntime,
     folder: &[u8],
     own: &[u8],
 ) -> Result<Vec<StagedPacket>, DiskError> {
-    let (Ok(folder), Ok(own)) = (str::from_utf8(folder), str::from_utf8(own)) else {
-        return Err(DiskError::Device);
-    };
-    let ending = format!(in rt.alloc(); ".pkt.~{own}~.new")?;
-    let mut found = Vec::new(rt.alloc());
-    let listing = match fs::read_dir(rt, folder) {
-        Ok(listing) => listing,
-        Err(error) if error.kind() == ErrorKind::NotFound => return Ok(found),
-        Err(error) => return Err(unlisted(&error)),
-    };
-    for entry in listing {
-        push_entry(rt, entry, ending.as_str(), &mut found)?;
+    match (str::from_utf8(folder), str::from_utf8(own)) {
+        (Ok(folder), Ok(own)) => packets_in(rt, folder, own),
+        _ => Err(DiskError::Device),
     }
+}
+
+fn packets_in(rt: &HostRuntime, folder: &str, own: &str) -> Result<Vec<StagedPacket>, DiskError> {
+    let mut found = Vec::new(rt.alloc());
+    push_packets(rt, folder, own, &mut found)?;
     Ok(found)
+}
+
+fn push_packets(
+    rt: &HostRuntime,
+    folder: &str,
+    own: &str,
+    found: &mut Vec<StagedPacket>,
+) -> Result<(), DiskError> {
+    let ending = format!(in rt.alloc(); ".pkt.~{own}~.new")?;
+    match fs::read_dir(rt, folder) {
+        Ok(listing) => push_listing(rt, listing, ending.as_str(), found),
+        Err(error) => unless_missing(&error),
+    }
+}
+
+// Adds the packets in a folder.
+fn push_listing(
+    rt: &HostRuntime,
+    listing: ReadDir,
+    ending: &str,
+    found: &mut Vec<StagedPacket>,
+) -> Result<(), DiskError> {
+    for entry in listing {
+        push_entry(rt, entry, ending, found)?;
+    }
+    Ok(())
+}
+
+// A missing folder has no packets.
+fn unless_missing(error: &io::Error) -> Result<(), DiskError> {
+    match error.kind() {
+        ErrorKind::NotFound => Ok(()),
+        _ => Err(unlisted(error)),
+    }
 }
 
 // Adds the packet at an entry of the folder, if it is one.

@@ -4,13 +4,11 @@ ghost use Rattle.std.specs.Prelude.{◌≡◌, Some};
 use crate::expecting::expected_keys;
 use base_folder_store::FolderStore;
 use base_store::{SipDigest, Store};
-use cmd_input::{Tossing, flush_name};
+use cmd_input::{Tossing, flush_name, lead_to_one};
 use cmd_status::Fault;
 use disk_io::Disk;
 use echo_filed::Key;
 use station::BeforeCommand;
-use std::fs;
-use std::os::unix::fs::MetadataExt;
 
 /// Before packets are tossed into a folder, it learns which messages they have. The name of a folder without messages
 /// is synced.
@@ -51,7 +49,7 @@ impl<'a, 'b, 'r> Opened<'a, 'b, 'r> {
     // Whether the folder can be used: its name is synced if it has no messages, and packets do not go into it.
     fn settle(&self, messages: usize) -> Result<(), Fault<'a>> {
         if let Some(outbound) = self.outbound {
-            if are_one_folder(self.rt, self.base, outbound) {
+            if lead_to_one(self.rt, self.base, outbound) {
                 return Err(Fault::CannotUse(outbound));
             }
         }
@@ -66,14 +64,6 @@ impl<'a, 'b, 'r> Opened<'a, 'b, 'r> {
             }
         }
         Vec::new(self.rt.alloc())
-    }
-}
-
-// Whether two paths lead to one folder.
-fn are_one_folder(rt: &HostRuntime, one: &str, other: &str) -> bool {
-    match (fs::metadata(rt, one), fs::metadata(rt, other)) {
-        (Ok(one), Ok(other)) => (one.dev(), one.ino()) == (other.dev(), other.ino()),
-        _ => false,
     }
 }
 

@@ -33,6 +33,16 @@ pub struct ScanFiles<'p, 'r> {
     taken: Cell<Option<String>>,
 }
 
+/// What a path is to a scan.
+#[derive(Clone, Copy)]
+enum Role<'q> {
+    /// The path at which the folder is tried for a second path. It is no staging path.
+    Trial,
+    /// The path of this packet, or of its staging file.
+    Packet(&'q str),
+    Other,
+}
+
 impl<'p, 'r> ScanFiles<'p, 'r> {
     pub fn new(
         rt: &'r HostRuntime,
@@ -75,14 +85,26 @@ impl<'p, 'r> ScanFiles<'p, 'r> {
         self.taken.take()
     }
 
-    // The path of the packet, if it is a packet's path or that of its staging file.
-    fn packet_at<'q>(&self, path: &'q str) -> Option<&'q str> {
-        let packet = target_staging(path).unwrap_or(path);
-        let name = packet.strip_prefix(self.folder)?;
-        if packet == self.base || name.contains('/') || !name.ends_with(PACKET) {
-            return None;
+    // What the path is to the scan.
+    fn role_of<'q>(&self, path: &'q str) -> Role<'q> {
+        let target = target_staging(path);
+        if target == Some(self.folder) {
+            return Role::Trial;
         }
-        Some(packet)
+        let packet = target.unwrap_or(path);
+        if self.is_packet(packet) {
+            Role::Packet(packet)
+        } else {
+            Role::Other
+        }
+    }
+
+    // Whether it is the path of a packet.
+    fn is_packet(&self, path: &str) -> bool {
+        match path.strip_prefix(self.folder) {
+            Some(name) => path != self.base && !name.contains('/') && name.ends_with(PACKET),
+            None => false,
+        }
     }
 
     // Keeps the first path, if memory suffices.
@@ -97,18 +119,17 @@ impl<'p, 'r> ScanFiles<'p, 'r> {
     // Makes the staging file of a packet. If memory for the path lacks, that file stays until the next scan.
     fn make_packet(&self, path: &str) -> io::Result<File> {
         let file = make_new(self.rt, path)?;
+        self.note_made(path);
+        Ok(file)
+    }
+
+    fn note_made(&self, path: &str) {
         if let Some(mut made) = self.made.take() {
             if let Ok(kept) = String::from_str(self.rt.alloc(), path) {
                 let _ = made.push(kept);
             }
             self.made.set(Some(made));
         }
-        Ok(file)
-    }
-
-    // Whether it is the path at which the folder is tried for a second path. It is no staging path.
-    fn is_trial(&self, path: &str) -> bool {
-        target_staging(path) == Some(self.folder)
     }
 
     // Notes where the first call failed.
@@ -153,15 +174,36 @@ impl<'p, 'r> ScanFiles<'p, 'r> {
         }
     }
 
-    // A file at a packet's staging path stays, unless a stopped run left it.
-    fn check(&self, path: &str) -> io::Result<()> {
-        self.rt.symlink_metadata(path)?;
-        match nodes_of(path) {
-            Some(start) => {
-                check_left(self.rt.alloc(), self.rt, path, &start).map_err(system_error)
-            }
-            None => Ok(()),
+    // Opens the file of a packet.
+    fn open_packet(&self, how: &OpenOptions, path: &str) -> io::Result<File> {
+        if how.asks_create_new() {
+            return self.make_packet(path);
         }
+        if how.asks_write() {
+            self.tell();
+        }
+        self.rt.open_file(how, path)
+    }
+
+    // Whatever has the path of a packet is found, a symbolic link too. Packets without one are counted.
+    fn find_packet(&self, path: &str) -> io::Result<Metadata> {
+        let found = self.rt.symlink_metadata(path);
+        if target_staging(path).is_none() {
+            match found {
+                Ok(_) => self.keep(&self.taken, path),
+                Err(_) => self.packets.set(self.packets.get().saturating_add(1)),
+            }
+        }
+        found
+    }
+
+    // Removes a file of a packet. One at its staging path stays, unless a stopped run left it.
+    fn remove_packet(&self, path: &str) -> io::Result<()> {
+        self.rt.symlink_metadata(path)?;
+        if let Some(start) = nodes_of(path) {
+            check_left(self.rt.alloc(), self.rt, path, &start).map_err(system_error)?;
+        }
+        self.rt.remove_file(path)
     }
 }
 
@@ -198,38 +240,23 @@ impl Files for ScanFiles<'_, '_> {
     type Dir = <HostRuntime as Files>::Dir;
 
     fn open_file(&self, how: &OpenOptions, path: &str) -> io::Result<File> {
-        if self.packet_at(path).is_none() {
-            return self.note(path, self.open(how, path));
-        }
-        if how.asks_create_new() {
-            return self.note(path, self.make_packet(path));
-        }
-        if how.asks_write() {
-            self.tell();
-        }
-        self.note(path, self.rt.open_file(how, path))
+        let opened = match self.role_of(path) {
+            Role::Packet(_) => self.open_packet(how, path),
+            Role::Trial | Role::Other => self.open(how, path),
+        };
+        self.note(path, opened)
     }
 
     fn open_dir(&self, path: &str) -> io::Result<<HostRuntime as Files>::Dir> {
         self.rt.open_dir(path)
     }
 
-    // Whatever has the path of a packet is found, a symbolic link too.
     fn metadata(&self, path: &str) -> io::Result<Metadata> {
-        if self.is_trial(path) {
-            return self.note_found(self.folder, self.rt.symlink_metadata(path));
+        match self.role_of(path) {
+            Role::Trial => self.note_found(self.folder, self.rt.symlink_metadata(path)),
+            Role::Packet(_) => self.note_found(path, self.find_packet(path)),
+            Role::Other => self.note_found(path, self.bases.metadata(path)),
         }
-        if self.packet_at(path).is_none() {
-            return self.note_found(path, self.bases.metadata(path));
-        }
-        let found = self.rt.symlink_metadata(path);
-        if target_staging(path).is_none() {
-            match found {
-                Ok(_) => self.keep(&self.taken, path),
-                Err(_) => self.packets.set(self.packets.get().saturating_add(1)),
-            }
-        }
-        self.note_found(path, found)
     }
 
     fn symlink_metadata(&self, path: &str) -> io::Result<Metadata> {
@@ -246,32 +273,24 @@ impl Files for ScanFiles<'_, '_> {
     }
 
     fn hard_link(&self, original: &str, link: &str) -> io::Result<()> {
-        let named = if self.is_trial(link) {
-            self.folder
-        } else {
-            link
-        };
         match self.rt.hard_link(original, link) {
             Err(error) if error.kind() == ErrorKind::AlreadyExists => Err(error),
-            linked => self.note(named, linked),
+            linked => match self.role_of(link) {
+                Role::Trial => self.note(self.folder, linked),
+                Role::Packet(_) | Role::Other => self.note(link, linked),
+            },
         }
     }
 
     fn remove_file(&self, path: &str) -> io::Result<()> {
-        if self.is_trial(path) {
-            return self.note_found(self.folder, remove_left(self.rt, path));
-        }
-        let removed = match self.packet_at(path) {
-            None => self.bases.remove_file(path),
-            Some(packet) => {
+        match self.role_of(path) {
+            Role::Trial => self.note_found(self.folder, remove_left(self.rt, path)),
+            Role::Packet(packet) => {
                 self.is_named(packet);
-                match self.check(path) {
-                    Ok(()) => self.rt.remove_file(path),
-                    failed => failed,
-                }
+                self.note_found(path, self.remove_packet(path))
             }
-        };
-        self.note_found(path, removed)
+            Role::Other => self.note_found(path, self.bases.remove_file(path)),
+        }
     }
 
     fn create_dir(&self, path: &str) -> io::Result<()> {
