@@ -165,7 +165,7 @@ addresses_drawn files tag carriers links all carried listed members a =
       ]),
     )
 
-links_in_order : (IsMember : Link → Type 0) (all : List Link) → IsStrictlySortedBy link_order all → ((l : Link) → Contains all l ↔ IsMember l) → AreLinksInOrder IsMember all
+pub links_in_order : (IsMember : Link → Type 0) (all : List Link) → IsStrictlySortedBy link_order all → ((l : Link) → Contains all l ↔ IsMember l) → AreLinksInOrder IsMember all
 links_in_order IsMember all up members = record {
   ascending = λ i j d lt inside.
       pair_before_is (get_or all i d) (get_or all j d)

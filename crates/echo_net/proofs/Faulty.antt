@@ -71,10 +71,10 @@ module _ (files : List LinkFile) (tag : List ℕ) (carriers : List Address) (lin
   pub all_answered : ((l : Link) → Contains links l → Contains links (link l.to l.from)) → AllAreAnswered files tag
   all_answered all a b h = (listed (link b a)).0 (all (link a b) ((listed (link a b)).1 h))
 
-  twin_to : (a b : Address) → HasTwin (Contains carriers) a b → HasTwin (Carries files tag) a b
+  pub twin_to : (a b : Address) → HasTwin (Contains carriers) a b → HasTwin (Carries files tag) a b
   twin_to a b h = record { one = (members a).0 h.one; other = (members b).0 h.other; in_order = h.in_order; same = h.same }
 
-  twin_from : (a b : Address) → HasTwin (Carries files tag) a b → HasTwin (Contains carriers) a b
+  pub twin_from : (a b : Address) → HasTwin (Carries files tag) a b → HasTwin (Contains carriers) a b
   twin_from a b h = record { one = (members a).1 h.one; other = (members b).1 h.other; in_order = h.in_order; same = h.same }
 
   pub same_net_node : (a b : Address) → IsSmallestPair (HasTwin (Contains carriers)) a b → IsSmallestPair (HasTwin (Carries files tag)) a b

@@ -127,7 +127,7 @@ module _ (files : List LinkFile) (tag : List ℕ) (all : List Address) (order : 
         (keeps files tag all order sound.no_self sound.known sound.both) (keeps_back files tag all order sound.no_self sound.known sound.both) places named),
   )
 
-Different-apart : {X : Type 0} (xs : List X) → Different xs → (i j : ℕ) (x : X) → i < j → IsAt xs i x → IsAt xs j x → ⊥
+pub Different-apart : {X : Type 0} (xs : List X) → Different xs → (i j : ℕ) (x : X) → i < j → IsAt xs i x → IsAt xs j x → ⊥
 Different-apart [] h i j x lt at_i at_j = omega (arith, at_i.0)
 Different-apart {X} (y ∷ ys) h zero zero x lt at_i at_j = omega arith
 Different-apart {X} (y ∷ ys) h zero (suc j) x lt at_i at_j =

@@ -11,3 +11,4 @@ pub mod Numbers
 pub mod Graphs
 pub mod Absences
 pub mod Drawings
+pub mod AllFaults

@@ -1,5 +1,5 @@
 -- Lists in order of a key and then of a value: of two items with one key, the first stands before another with this key.
-use Rattle.std.proofs.Common.{◌≡◌, ◌<◌, ◌+◌, ℕ, true, false, List, get_or, refl, sym, ap, ◌∙◌, arith, inl, inr}
+use Rattle.std.proofs.Common.{◌≡◌, ◌<◌, ◌≤◌, ◌+◌, ℕ, true, false, List, get_or, refl, sym, ap, ◌∙◌, arith, inl, inr}
 use Rattle.std.specs.Cmp.{IsTotalOrder}
 use Rattle.std.specs.List.Sorted.{IsStrictlySortedBy}
 use Rattle.std.specs.declared.cmp.Ordering.{Ordering}
@@ -24,6 +24,23 @@ pub gt_second : (o p : Ordering) → o ≡ Equal → is_gt (ordering_then o p) �
 gt_second Less p e h = cc
 gt_second Equal p e h = h
 gt_second Greater p e h = cc
+
+-- an item between two that have one key has it, too
+pub key_between : {X K V : Type 0} {RK : K → K → Ordering} (RV : V → V → Ordering) → IsTotalOrder RK → (key : X → K) (value : X → V) →
+    IsTotalOrder (λ (x y : X). ordering_then (RK (key x) (key y)) (RV (value x) (value y))) → (xs : List X) →
+    IsStrictlySortedBy (λ (x y : X). ordering_then (RK (key x) (key y)) (RV (value x) (value y))) xs → (i m j : ℕ) (x z y : X) →
+    IsAt xs i x → IsAt xs m z → IsAt xs j y → i < m → m ≤ j → RK (key x) (key y) ≡ Equal → RK (key x) (key z) ≡ Equal
+key_between {X} {K} {V} {RK} RV ok key value o xs up i m j x z y at_x at_z at_y lt below same =
+    let order : X → X → Ordering = λ v w. ordering_then (RK (key v) (key w)) (RV (value v) (value w)) in
+    let less : order x z ≡ Less = earlier_less o xs up i m x z at_x at_z lt in
+    let le : is_gt (order z y) ≡ false = not_gt o z y (later_not_before o xs up m j z y at_z at_y below) in
+    elim (then_less (RK (key x) (key z)) (RV (value x) (value z)) less) [
+      | inl lower ↦ (let high : RK (key z) (key y) ≡ Greater =
+          ok.antisymm (key z) (key y) ∙ ap ordering_reverse (sym (ok.congr (key x) (key y) (key z) same) ∙ lower) in
+          let low : is_gt (RK (key z) (key y)) ≡ false = gt_first (RK (key z) (key y)) (RV (value z) (value y)) le in
+          let great : is_gt (RK (key z) (key y)) ≡ true = ap is_gt high in cc)
+      | inr alike ↦ alike.0
+    ]
 
 module _ {X K V : Type 0} {RK : K → K → Ordering} {RV : V → V → Ordering} (ok : IsTotalOrder RK) (key : X → K) (value : X → V)
     (o : IsTotalOrder (λ (x y : X). ordering_then (RK (key x) (key y)) (RV (value x) (value y)))) where

@@ -1,24 +1,27 @@
 -- Addresses that stand twice among some systems.
-use Rattle.std.proofs.Common.{◌≡◌, ◌≢◌, ◌<◌, ◌≤◌, ◌+◌, ◌-◌, ◌↔◌, ℕ, suc, true, Option, Some, None, MatchOption, List, [], ◌∷◌, ◌++◌, length, get_or, refl, sym, subst, ap, ◌∙◌, arith, inl, inr}
-use Rattle.std.specs.Prelude.{Contains}
+use Rattle.std.proofs.Common.{◌≡◌, ◌<◌, ◌+◌, ◌&&◌, ◌↔◌, ℕ, suc, Some, None, List, [], ◌∷◌, ◌++◌, length, get_or, refl, sym, subst, ap, ◌∙◌, arith, inl, inr}
+use Rattle.std.specs.Prelude.{Contains, slice_get}
 use Rattle.std.specs.List.Sorted.{IsStrictlySortedBy}
-use Rattle.std.specs.Ordering.{is_lt, nat_cmp, ordering_then}
+use Rattle.std.specs.Ordering.{nat_cmp, ordering_then}
 use Rattle.std.specs.declared.cmp.Ordering.{Ordering}
 use Rattle.std.specs.declared.cmp.Ordering.TheVariants.{Less, Equal}
-use Rattle.std.proofs.lemmas.Bool.{cases_lt}
+use Rattle.std.proofs.lemmas.Bool.{cases_lt, or_parts}
 use Rattle.std.proofs.lemmas.Cmp.{tied_itself}
 use Rattle.std.proofs.lemmas.List.{get_or_default}
 use Rattle.std.proofs.lemmas.List.Elements.{Contains-append_left, Contains-push, Contains-push_cases}
 use Rattle.echo_addr.specs.declared.address.Address.{Address}
 use Rattle.echo_links.specs.Links.{same_address}
+use Rattle.echo_filed.specs.Sets.{address_before}
+use Rattle.echo_net.specs.declared.link.Link.{Link}
 use Rattle.model_graph.specs.Walk.{Different, IsAt}
 use Rattle.model_graph.proofs.Members.{Among-index}
 use Rattle.echo_net.specs.declared.owners.Owner.{Owner}
 use Rattle.echo_net.specs.Firsts.{IsSmallest, StandsTwice}
-use Rattle.echo_net.specs.Pairs.{FirstPair, NoPair}
-use Rattle.echo_net.proofs.Ascending.{at_place, earlier_from_less, earlier_less, later_not_before, not_gt, not_lt}
-use Rattle.echo_net.proofs.Neighbours.{gt_first, next_alike}
-use Rattle.echo_net.proofs.Orders.{address_exact, address_order, address_total, before_is, nat_cmp_less, nat_less, owner_order, owner_total, same_exact, then_less}
+use Rattle.echo_net.specs.Nets.{link}
+use Rattle.echo_net.specs.Pairs.{IsShared}
+use Rattle.echo_net.proofs.Ascending.{at_place, earlier_from_less, earlier_less, later_not_before}
+use Rattle.echo_net.proofs.Neighbours.{next_alike}
+use Rattle.echo_net.proofs.Orders.{address_exact, address_order, address_total, link_order, link_total, nat_cmp_less, nat_less, owner_order, owner_total, pair_before_is, then_less}
 
 abbrev pub owner : Address → ℕ → Owner
 owner a n = record { system = a; file = n }
@@ -72,11 +75,6 @@ module _ (systems : List Address) (owners : List Owner) (all : (o : Owner) → C
         λ d. ap (λ (o : Owner). o.system) (get_or_default owners (p + 1) d x inside) ∙ sym next_is,
       )
 
-  pub different : NoPair owners → Different systems
-  different none = Different-from_places systems (λ i j a lt at_i at_j.
-      let (k, inside, one, next) = pair_of a (i, j, lt, at_i, at_j) in
-      none k (owner a i) inside (one (owner a i) ∙ sym (next (owner a i))))
-
   -- two owners of one address have different places
   places_of : (p : ℕ) (x y : Owner) → IsAt owners p x → IsAt owners (p + 1) y → x.system ≡ y.system → x.file < y.file
   places_of p x y at_x at_y same =
@@ -87,53 +85,60 @@ module _ (systems : List Address) (owners : List Owner) (all : (o : Owner) → C
         | inr alike ↦ nat_less x.file y.file alike.1
       ]
 
-  pub smallest : (a : Address) → FirstPair owners a → IsSmallest (StandsTwice systems) a
-  smallest a pair =
-      let p = pair.place in
-      let d = owner a 0 in
-      let x = get_or owners p d in
-      let y = get_or owners (p + 1) d in
-      let in_x : p < length owners = omega (arith, pair.within) in
-      let at_x : IsAt owners p x = at_place owners p d in_x in
-      let at_y : IsAt owners (p + 1) y = at_place owners (p + 1) d pair.within in
-      let lt = places_of p x y at_x at_y (pair.one d ∙ sym (pair.next d)) in
-      record {
-        holds = (
+  -- two owners of one address next to each other stand for an address that stands twice
+  pub shared_from : (k : ℕ) (l : Link) → IsShared owners k (k + 1) l → (l.from ≡ l.to) × StandsTwice systems l.from
+  shared_from k l one =
+      let d = owner l.from 0 in
+      let x = get_or owners k d in
+      let y = get_or owners (k + 1) d in
+      let at_x : IsAt owners k x = at_place owners k d (omega (arith, one.within)) in
+      let at_y : IsAt owners (k + 1) y = at_place owners (k + 1) d one.within in
+      let from : l.from ≡ x.system = ap (λ (m : Link). m.from) (one.pair d) in
+      let to : l.to ≡ y.system = ap (λ (m : Link). m.to) (one.pair d) in (
+        from ∙ (one.same d ∙ sym to),
+        (
           x.file,
           y.file,
-          lt,
-          subst (IsAt systems x.file) (pair.one d) ((all x).0 (p, at_x.0, at_x.1)),
-          subst (IsAt systems y.file) (pair.next d) ((all y).0 (p + 1, at_y.0, at_y.1)),
-        );
+          places_of k x y at_x at_y (one.same d),
+          subst (IsAt systems x.file) (sym from) ((all x).0 (k, at_x.0, at_x.1)),
+          subst (IsAt systems y.file) (sym (from ∙ one.same d)) ((all y).0 (k + 1, at_y.0, at_y.1)),
+        ),
+      )
+
+  pub shared_to : (l : Link) → (l.from ≡ l.to) × StandsTwice systems l.from → (k : ℕ) × IsShared owners k (k + 1) l
+  shared_to l (same, twice) =
+      let (k, inside, one, next) = pair_of l.from twice in (
+        k,
+        record {
+          later = omega arith;
+          within = inside;
+          same = λ d. one d ∙ sym (next d);
+          pair = λ d. let first = one d in let second = next d in λ i. record { from = sym first i; to = (sym same ∙ sym second) i };
+        },
+      )
+
+-- the links of shared addresses to themselves
+module _ (systems : List Address) (shared : List Link) where
+  no_link : (ls : List Link) → slice_get ls 0 ≡ None → (l : Link) → Contains ls l → ⊥
+  no_link [] is l h = omega (arith, h.1)
+  no_link (m ∷ ls) is l h = cc
+
+  pub none_shared : ((l : Link) → Contains shared l ↔ ((l.from ≡ l.to) × StandsTwice systems l.from)) → None ≡ slice_get shared 0 → Different systems
+  none_shared members is = Different-from_places systems (λ i j a lt at_i at_j.
+      no_link shared (sym is) (link a a) ((members (link a a)).1 (refl, (i, j, lt, at_i, at_j))))
+
+  at_first : (ls : List Link) (l : Link) → Some l ≡ slice_get ls 0 → IsAt ls 0 l
+  at_first [] l is = cc
+  at_first (m ∷ ls) l is = (omega arith, (let same : l ≡ m = cc in sym same))
+
+  pub first_shared : IsStrictlySortedBy link_order shared → ((l : Link) → Contains shared l ↔ ((l.from ≡ l.to) × StandsTwice systems l.from)) →
+      (l : Link) → Some l ≡ slice_get shared 0 → IsSmallest (StandsTwice systems) l.from
+  first_shared up members l is =
+      let first = at_first shared l is in
+      record {
+        holds = ((members l).0 (0, first.0, first.1)).1;
         first = λ b twice.
-            let (k, inside, one, next) = pair_of b twice in
-            let z = get_or owners k d in
-            let in_z : k < length owners = omega (arith, inside) in
-            elim (cases_lt k p) [
-              | inl earlier ↦ absurd (pair.first k d earlier (one d ∙ sym (next d)))
-              | inr later ↦ (let le = gt_first (address_order x.system z.system) (nat_cmp x.file z.file)
-                  (not_gt owner_total x z (later_not_before owner_total owners up p k x z at_x (at_place owners k d in_z) later)) in
-                  before_is b a ∙ (sym (ap (λ (v : Address). is_lt (address_order v a)) (one d) ∙ refl)
-                  ∙ (sym (ap (λ (v : Address). is_lt (address_order z.system v)) (pair.one d)) ∙ not_lt address_total x.system z.system le)))
-            ];
+            let there = (members (link b b)).1 (refl, twice) in
+            let late = later_not_before link_total shared up 0 there.0 l (link b b) first (there.1, there.2) (omega arith) in
+            (or_parts (address_before b l.from) (same_address b l.from && address_before b l.to) (pair_before_is (link b b) l ∙ late)).0;
       }
-
-  pub shared : (found : Option Address) → MatchOption found (NoPair owners) (FirstPair owners) → MatchOption found (Different systems) (IsSmallest (StandsTwice systems))
-  shared None none = different none
-  shared (Some a) pair = smallest a pair
-
--- the first two next to each other that have one address
-pub first_pair_here : (owners : List Owner) (place : ℕ) (d : Owner) → 1 ≤ place → place < length owners →
-    same_address (get_or owners (place - 1) d).system (get_or owners place d).system ≡ true →
-    ((k : ℕ) (e : Owner) → k + 1 < place → (get_or owners k e).system ≢ (get_or owners (k + 1) e).system) →
-    FirstPair owners (get_or owners place d).system
-first_pair_here owners place d low inside same none =
-    let n = place - 1 in
-    let next : n + 1 ≡ place = omega arith in
-    record {
-      place = n;
-      within = omega arith;
-      one = λ e. ap (λ (o : Owner). o.system) (get_or_default owners n e d (omega arith)) ∙ same_exact (get_or owners n d).system (get_or owners place d).system same;
-      next = λ e. ap (λ (m : ℕ). (get_or owners m e).system) next ∙ ap (λ (o : Owner). o.system) (get_or_default owners place e d inside);
-      first = λ k e lt. none k e (omega arith);
-    }

@@ -1,5 +1,5 @@
--- Systems of one net and node.
-use Rattle.std.proofs.Common.{◌≡◌, ◌≢◌, ◌<◌, ◌≤◌, ◌+◌, ◌-◌, ◌↔◌, ℕ, false, List, [], ◌∷◌, ◌++◌, length, map, get_or, Option, Some, None, MatchOption, refl, sym, subst, ap, ◌∙◌, arith, inl, inr}
+-- Items of one key next to each other, and systems of one net and node.
+use Rattle.std.proofs.Common.{◌≡◌, ◌≢◌, ◌<◌, ◌≤◌, ◌+◌, ◌-◌, ◌↔◌, ◌⊎◌, ℕ, false, List, [], ◌∷◌, ◌++◌, length, map, get_or, Option, Some, None, MatchOption, refl, sym, subst, ap, ◌∙◌, arith, inl, inr}
 use Rattle.std.specs.Prelude.{Contains, slice_get}
 use Rattle.std.specs.List.Sorted.{IsStrictlySortedBy}
 use Rattle.std.specs.Ordering.{is_gt, is_lt, ordering_then}
@@ -18,70 +18,146 @@ use Rattle.echo_net.specs.declared.same_net_node.Neighbour.{Neighbour}
 use Rattle.model_graph.specs.Walk.{IsAt}
 use Rattle.echo_net.specs.Firsts.{HasTwin, IsSmallestPair}
 use Rattle.echo_net.specs.Nets.{link}
-use Rattle.echo_net.specs.Pairs.{IsTwin, neighbour_of}
+use Rattle.echo_net.specs.Pairs.{AreAlike, IsTwin, neighbour_of}
 use Rattle.echo_net.proofs.Ascending.{at_place, earlier_from_less, earlier_less, later_not_before, not_gt, not_lt}
-use Rattle.echo_net.proofs.Neighbours.{next_alike}
+use Rattle.echo_net.proofs.Neighbours.{key_between, next_alike}
 use Rattle.echo_net.proofs.Orders.{address_order, address_total, before_is, before_less, link_order, link_total, neighbour_order, neighbour_total, net_node_exact, net_node_order, net_node_total, pair_before_is}
 
--- what the list of twins before a place holds
-abbrev pub AreTwins : List Neighbour → ℕ → List Link → Type 0
-AreTwins neighbours place twins = (l : Link) → Contains twins l ↔ ((k : ℕ) × (k + 1 < place) × IsTwin neighbours k l)
+-- which neighbouring items before a place have one key
+abbrev pub AreAlikeBefore : {X K : Type 0} → (X → K) → (X → Address) → List X → ℕ → List Link → Type 0
+AreAlikeBefore key system xs place pairs = (l : Link) → Contains pairs l ↔ ((k : ℕ) × (k + 1 < place) × AreAlike key system xs k (k + 1) l)
 
-module _ (neighbours : List Neighbour) (place : ℕ) (twins : List Link) (d : Neighbour) (low : 1 ≤ place) (inside : place < length neighbours)
-    (before : AreTwins neighbours place twins) where
+module _ {X K : Type 0} (key : X → K) (system : X → Address) (xs : List X) (place : ℕ) (pairs : List Link) (d : X) (low : 1 ≤ place) (inside : place < length xs)
+    (before : AreAlikeBefore key system xs place pairs) where
   abbrev here : Link
-  here = link (get_or neighbours (place - 1) d).system (get_or neighbours place d).system
+  here = link (system (get_or xs (place - 1) d)) (system (get_or xs place d))
 
-  read : (k : ℕ) (e : Neighbour) → k < length neighbours → get_or neighbours k e ≡ get_or neighbours k d
-  read k e lt = get_or_default neighbours k e d lt
+  read : (k : ℕ) (e : X) → k < length xs → get_or xs k e ≡ get_or xs k d
+  read k e lt = get_or_default xs k e d lt
 
   next : place - 1 + 1 ≡ place
   next = omega arith
 
-  twin_here : (get_or neighbours (place - 1) d).net_node ≡ (get_or neighbours place d).net_node → IsTwin neighbours (place - 1) here
-  twin_here same = record {
+  alike_here : key (get_or xs (place - 1) d) ≡ key (get_or xs place d) → AreAlike key system xs (place - 1) (place - 1 + 1) here
+  alike_here same = record {
+    later = omega arith;
     within = omega arith;
-    same = λ e. ap (λ (n : Neighbour). n.net_node) (read (place - 1) e (omega arith)) ∙ (same
-        ∙ sym (ap (λ (m : ℕ). (get_or neighbours m e).net_node) next ∙ ap (λ (n : Neighbour). n.net_node) (read place e inside)));
-    pair = λ e. let one = ap (λ (n : Neighbour). n.system) (read (place - 1) e (omega arith)) in
-        let other = ap (λ (m : ℕ). (get_or neighbours m e).system) next ∙ ap (λ (n : Neighbour). n.system) (read place e inside) in
+    same = λ e. ap key (read (place - 1) e (omega arith)) ∙ (same ∙ sym (ap (λ (m : ℕ). key (get_or xs m e)) next ∙ ap key (read place e inside)));
+    pair = λ e. let one = ap system (read (place - 1) e (omega arith)) in
+        let other = ap (λ (m : ℕ). system (get_or xs m e)) next ∙ ap system (read place e inside) in
         λ i. record { from = sym one i; to = sym other i };
   }
 
-  twin_is_here : (l : Link) → IsTwin neighbours (place - 1) l → (l ≡ here) × ((get_or neighbours (place - 1) d).net_node ≡ (get_or neighbours place d).net_node)
-  twin_is_here l twin = (
-    twin.pair d ∙ ap (λ (m : ℕ). link (get_or neighbours (place - 1) d).system (get_or neighbours m d).system) next,
-    twin.same d ∙ ap (λ (m : ℕ). (get_or neighbours m d).net_node) next,
+  is_here : (l : Link) → AreAlike key system xs (place - 1) (place - 1 + 1) l → (l ≡ here) × (key (get_or xs (place - 1) d) ≡ key (get_or xs place d))
+  is_here l alike = (
+    alike.pair d ∙ ap (λ (m : ℕ). link (system (get_or xs (place - 1) d)) (system (get_or xs m d))) next,
+    alike.same d ∙ ap (λ (m : ℕ). key (get_or xs m d)) next,
   )
 
-  pub one_twin_more : (get_or neighbours (place - 1) d).net_node ≡ (get_or neighbours place d).net_node →
-      AreTwins neighbours (place + 1) (twins ++ here ∷ [])
-  one_twin_more same l = (
-    λ h. elim (Contains-push_cases twins here l h) [
-      | inl old ↦ (let (k, lt, twin) = (before l).0 old in (k, omega (arith, lt), twin))
-      | inr new ↦ (place - 1, omega arith, subst (IsTwin neighbours (place - 1)) new (twin_here same))
+  pub one_pair_more : key (get_or xs (place - 1) d) ≡ key (get_or xs place d) → AreAlikeBefore key system xs (place + 1) (pairs ++ here ∷ [])
+  one_pair_more same l = (
+    λ h. elim (Contains-push_cases pairs here l h) [
+      | inl old ↦ (let (k, lt, alike) = (before l).0 old in (k, omega (arith, lt), alike))
+      | inr new ↦ (place - 1, omega arith, subst (AreAlike key system xs (place - 1) (place - 1 + 1)) new (alike_here same))
     ],
-    λ (k, lt, twin). elim (cases_lt (k + 1) place) [
-      | inl earlier ↦ Contains-append_left twins (here ∷ []) l ((before l).1 (k, earlier, twin))
+    λ (k, lt, alike). elim (cases_lt (k + 1) place) [
+      | inl earlier ↦ Contains-append_left pairs (here ∷ []) l ((before l).1 (k, earlier, alike))
       | inr later ↦ (let same_place : k ≡ place - 1 = omega (arith, lt, later) in
-          let is = (twin_is_here l (subst (λ (n : ℕ). IsTwin neighbours n l) same_place twin)).0 in
-          subst (Contains (twins ++ here ∷ [])) (sym is) (Contains-push twins here))
+          let is = (is_here l (subst (λ (n : ℕ). AreAlike key system xs n (n + 1) l) same_place alike)).0 in
+          subst (Contains (pairs ++ here ∷ [])) (sym is) (Contains-push pairs here))
     ],
   )
 
-  pub no_twin_more : (get_or neighbours (place - 1) d).net_node ≢ (get_or neighbours place d).net_node → AreTwins neighbours (place + 1) twins
-  no_twin_more other l = (
-    λ h. (let (k, lt, twin) = (before l).0 h in (k, omega (arith, lt), twin)),
-    λ (k, lt, twin). elim (cases_lt (k + 1) place) [
-      | inl earlier ↦ (before l).1 (k, earlier, twin)
+  pub no_pair_more : key (get_or xs (place - 1) d) ≢ key (get_or xs place d) → AreAlikeBefore key system xs (place + 1) pairs
+  no_pair_more other l = (
+    λ h. (let (k, lt, alike) = (before l).0 h in (k, omega (arith, lt), alike)),
+    λ (k, lt, alike). elim (cases_lt (k + 1) place) [
+      | inl earlier ↦ (before l).1 (k, earlier, alike)
       | inr later ↦ (let same_place : k ≡ place - 1 = omega (arith, lt, later) in
-          absurd (other (twin_is_here l (subst (λ (n : ℕ). IsTwin neighbours n l) same_place twin)).1))
+          absurd (other (is_here l (subst (λ (n : ℕ). AreAlike key system xs n (n + 1) l) same_place alike)).1))
     ],
   )
+
+-- what stands between two neighbours of one net and node has it, too
+alike_between : (ns : List Neighbour) → IsStrictlySortedBy neighbour_order ns → (i m j : ℕ) (d : Neighbour) → i < m → m ≤ j → j < length ns →
+    (get_or ns i d).net_node ≡ (get_or ns j d).net_node → (get_or ns i d).net_node ≡ (get_or ns m d).net_node
+alike_between ns up i m j d lt le inside same =
+    let x = get_or ns i d in
+    let z = get_or ns m d in
+    let y = get_or ns j d in
+    let tied : net_node_order x.net_node y.net_node ≡ Equal = ap (net_node_order x.net_node) (sym same) ∙ tied_itself net_node_total x.net_node in
+    net_node_exact x.net_node z.net_node (key_between address_order net_node_total (λ (n : Neighbour). n.net_node) (λ (n : Neighbour). n.system) neighbour_total ns up i m j x z y
+    (at_place ns i d (omega arith)) (at_place ns m d (omega arith)) (at_place ns j d inside) lt le tied)
+
+-- some pairs, and a neighbour with those before a place that are alike
+abbrev pub AreWithOne : List Neighbour → ℕ → List Link → ℕ → List Link → Type 0
+AreWithOne ns place old upto all = (m : Link) → Contains all m ↔ (Contains old m ⊎ ((j : ℕ) × (j < upto) × IsTwin ns place j m))
+
+pub none_with_one : (ns : List Neighbour) (place : ℕ) (old : List Link) → AreWithOne ns place old (place + 1) old
+none_with_one ns place old m = (
+  λ h. inl h,
+  λ h. elim h [
+    | inl is ↦ is
+    | inr (j, lt, twin) ↦ absurd (omega (arith, lt, twin.later))
+  ],
+)
+
+pub one_with_one : (ns : List Neighbour) (place upto : ℕ) (old all : List Link) (d : Neighbour) → place < upto → upto < length ns → AreWithOne ns place old upto all →
+    (get_or ns place d).net_node ≡ (get_or ns upto d).net_node →
+    AreWithOne ns place old (upto + 1) (all ++ link (get_or ns place d).system (get_or ns upto d).system ∷ [])
+one_with_one ns place upto old all d lt inside before same m =
+    let here = link (get_or ns place d).system (get_or ns upto d).system in
+    let one : (e : Neighbour) → get_or ns place e ≡ get_or ns place d = λ e. get_or_default ns place e d (omega arith) in
+    let other : (e : Neighbour) → get_or ns upto e ≡ get_or ns upto d = λ e. get_or_default ns upto e d inside in
+    let twin : IsTwin ns place upto here = record {
+      later = lt;
+      within = inside;
+      same = λ e. ap (λ (n : Neighbour). n.net_node) (one e) ∙ (same ∙ sym (ap (λ (n : Neighbour). n.net_node) (other e)));
+      pair = λ e. let first = ap (λ (n : Neighbour). n.system) (one e) in
+          let second = ap (λ (n : Neighbour). n.system) (other e) in
+          λ i. record { from = sym first i; to = sym second i };
+    } in (
+      λ h. elim (Contains-push_cases all here m h) [
+        | inl there ↦ elim ((before m).0 there) [
+          | inl first ↦ inl first
+          | inr (j, low, twins) ↦ inr (j, omega (arith, low), twins)
+        ]
+        | inr new ↦ inr (upto, omega arith, subst (IsTwin ns place upto) new twin)
+      ],
+      λ h. elim h [
+        | inl first ↦ Contains-append_left all (here ∷ []) m ((before m).1 (inl first))
+        | inr (j, low, twins) ↦ elim (cases_lt j upto) [
+          | inl earlier ↦ Contains-append_left all (here ∷ []) m ((before m).1 (inr (j, earlier, twins)))
+          | inr later ↦ (let here_too : IsTwin ns place upto m = subst (λ (k : ℕ). IsTwin ns place k m) (omega (arith, low, later)) twins in
+              subst (Contains (all ++ here ∷ [])) (sym (here_too.pair d)) (Contains-push all here))
+        ]
+      ],
+    )
+
+-- no later one is alike
+pub all_with_one : (ns : List Neighbour) (place upto : ℕ) (old all : List Link) → AreWithOne ns place old upto all →
+    ((j : ℕ) (m : Link) → IsTwin ns place j m → j < upto) → (m : Link) → Contains all m ↔ (Contains old m ⊎ ((j : ℕ) × IsTwin ns place j m))
+all_with_one ns place upto old all before none m = (
+  λ h. elim ((before m).0 h) [
+    | inl first ↦ inl first
+    | inr (j, low, twins) ↦ inr (j, twins)
+  ],
+  λ h. elim h [
+    | inl first ↦ (before m).1 (inl first)
+    | inr (j, twins) ↦ (before m).1 (inr (j, none j m twins, twins))
+  ],
+)
+
+-- none where the next one is not
+pub none_from : (ns : List Neighbour) → IsStrictlySortedBy neighbour_order ns → (place upto : ℕ) (d : Neighbour) → place < upto →
+    (get_or ns place d).net_node ≢ (get_or ns upto d).net_node → (j : ℕ) (m : Link) → IsTwin ns place j m → j < upto
+none_from ns up place upto d lt other j m twins = elim (cases_lt j upto) [
+  | inl earlier ↦ earlier
+  | inr later ↦ absurd (other (alike_between ns up place upto j d lt later twins.within (twins.same d)))
+]
 
 module _ (systems : List Address) (neighbours : List Neighbour) (up : IsStrictlySortedBy neighbour_order neighbours)
-    (all : (n : Neighbour) → Contains neighbours n ↔ Contains (map neighbour_of systems) n)
-    (twins : List Link) (ascend : IsStrictlySortedBy link_order twins) (pairs : (l : Link) → Contains twins l ↔ ((k : ℕ) × IsTwin neighbours k l)) where
+    (all : (n : Neighbour) → Contains neighbours n ↔ Contains (map neighbour_of systems) n) where
   there : (a : Address) → Contains systems a → Contains neighbours (neighbour_of a)
   there a h = (all (neighbour_of a)).1
       (Contains-from_Among (neighbour_of a) (map neighbour_of systems) (Among-map_to neighbour_of a systems (Among-from_Contains a systems h)))
@@ -98,48 +174,19 @@ module _ (systems : List Address) (neighbours : List Neighbour) (up : IsStrictly
         net_node = ap (λ (m : Neighbour). m.net_node) is ∙ ap (λ (m : Neighbour). net_node_of m.system) (sym is);
       }
 
-  -- before any two systems of one net and node stand two twins, or they are twins
-  twin_before : (a b : Address) → HasTwin (Contains systems) a b → (l : Link) × Contains twins l × (is_gt (link_order l (link a b)) ≡ false)
-  twin_before a b h =
-      let x = neighbour_of a in
-      let y = neighbour_of b in
-      let (i, in_x, is_x) = there a h.one in
-      let (j, in_y, is_y) = there b h.other in
-      let tied : net_node_order x.net_node y.net_node ≡ Equal = ap (net_node_order x.net_node) (sym h.same) ∙ tied_itself net_node_total x.net_node in
-      let less : neighbour_order x y ≡ Less = ap (λ (o : Ordering). ordering_then o (address_order a b)) tied ∙ before_less a b h.in_order in
-      let lt = earlier_from_less neighbour_total neighbours up i j x y (in_x, is_x) (in_y, is_y) less in
-      let n = next_alike net_node_total (λ (m : Neighbour). m.net_node) (λ (m : Neighbour). m.system) neighbour_total neighbours up i j x y (in_x, is_x) (in_y, is_y) lt tied in
-      let z = get_or neighbours (i + 1) x in
-      let inside : i + 1 < length neighbours = omega (arith, in_y, lt) in
-      let alike : x.net_node ≡ z.net_node = net_node_exact x.net_node z.net_node n.alike in
-      let first : (d : Neighbour) → get_or neighbours i d ≡ x = λ d. get_or_default neighbours i d x in_x ∙ is_x in
-      let second : (d : Neighbour) → get_or neighbours (i + 1) d ≡ z = λ d. get_or_default neighbours (i + 1) d x inside in
-      let twin : IsTwin neighbours i (link a z.system) = record {
-        within = inside;
-        same = λ d. ap (λ (m : Neighbour). m.net_node) (first d) ∙ (alike ∙ sym (ap (λ (m : Neighbour). m.net_node) (second d)));
-        pair = λ d. let one = ap (λ (m : Neighbour). m.system) (first d) in
-            let other = ap (λ (m : Neighbour). m.system) (second d) in
-            λ i. record { from = sym one i; to = sym other i };
-      } in (
-        link a z.system,
-        (pairs (link a z.system)).1 (i, twin),
-        ap (λ (o : Ordering). is_gt (ordering_then o (address_order z.system b))) (tied_itself address_total a) ∙ n.upto,
-      )
-
-  is_twin : (l : Link) → Contains twins l → HasTwin (Contains systems) l.from l.to
-  is_twin l h =
-      let (k, twin) = (pairs l).0 h in
+  pub is_twin : (i j : ℕ) (l : Link) → IsTwin neighbours i j l → HasTwin (Contains systems) l.from l.to
+  is_twin i j l twin =
       let d = neighbour_of l.from in
-      let x = get_or neighbours k d in
-      let y = get_or neighbours (k + 1) d in
-      let in_x : k < length neighbours = omega (arith, twin.within) in
-      let at_x : IsAt neighbours k x = at_place neighbours k d in_x in
-      let at_y : IsAt neighbours (k + 1) y = at_place neighbours (k + 1) d twin.within in
+      let x = get_or neighbours i d in
+      let y = get_or neighbours j d in
+      let in_x : i < length neighbours = omega (arith, twin.within, twin.later) in
+      let at_x : IsAt neighbours i x = at_place neighbours i d in_x in
+      let at_y : IsAt neighbours j y = at_place neighbours j d twin.within in
       let from : l.from ≡ x.system = ap (λ (m : Link). m.from) (twin.pair d) in
       let to : l.to ≡ y.system = ap (λ (m : Link). m.to) (twin.pair d) in
-      let one = beside x (k, at_x.0, at_x.1) in
-      let other = beside y (k + 1, at_y.0, at_y.1) in
-      let less = earlier_less neighbour_total neighbours up k (k + 1) x y at_x at_y (omega arith) in
+      let one = beside x (i, at_x.0, at_x.1) in
+      let other = beside y (j, at_y.0, at_y.1) in
+      let less = earlier_less neighbour_total neighbours up i j x y at_x at_y twin.later in
       let tied : net_node_order x.net_node y.net_node ≡ Equal = ap (net_node_order x.net_node) (sym (twin.same d)) ∙ tied_itself net_node_total x.net_node in
       let lower : address_order x.system y.system ≡ Less = sym (ap (λ (o : Ordering). ordering_then o (address_order x.system y.system)) tied) ∙ less in
       record {
@@ -150,27 +197,83 @@ module _ (systems : List Address) (neighbours : List Neighbour) (up : IsStrictly
         same = ap net_node_of from ∙ (sym one.net_node ∙ (twin.same d ∙ (other.net_node ∙ sym (ap net_node_of to))));
       }
 
-  -- the first of the twins, if there are any
-  pub twins_answer : (found : Option Link) → found ≡ slice_get twins 0 →
-      MatchOption found ((a b : Address) → ¬ HasTwin (Contains systems) a b) (λ l. IsSmallestPair (HasTwin (Contains systems)) l.from l.to)
-  twins_answer found is = answer found twins is refl
-    where
-      answer : (found : Option Link) (ls : List Link) → found ≡ slice_get ls 0 → ls ≡ twins →
-          MatchOption found ((a b : Address) → ¬ HasTwin (Contains systems) a b) (λ l. IsSmallestPair (HasTwin (Contains systems)) l.from l.to)
-      answer None [] is same = λ a b h.
-          let (l, in', le) = twin_before a b h in
-          let (k, lt, at) = subst (λ (ls : List Link). Contains ls l) (sym same) in' in
-          absurd (omega (arith, lt))
-      answer None (l ∷ ls) is same = cc
-      answer (Some l) [] is same = cc
-      answer (Some l) (m ∷ ls) is same =
-          let l_is : l ≡ m = cc in
-          let first : Contains twins l = subst (λ (all : List Link). Contains all l) same (0, omega arith, sym l_is) in
-          record {
-            holds = is_twin l first;
-            first = λ a b h.
-                let (t, in', le) = twin_before a b h in
-                let at_first : IsAt twins 0 l = subst (λ (all : List Link). IsAt all 0 l) same (omega arith, sym l_is) in
-                let lower = not_gt link_total l t (later_not_before link_total twins ascend 0 in'.0 l t at_first (in'.1, in'.2) (omega arith)) in
-                pair_before_is (link a b) l ∙ not_lt link_total l (link a b) (upto link_total l t (link a b) lower le);
-          }
+  -- the places of two systems of one net and node
+  pub places_of : (a b : Address) → HasTwin (Contains systems) a b → (i : ℕ) × (j : ℕ) × (i < j) × IsAt neighbours i (neighbour_of a) × IsAt neighbours j (neighbour_of b)
+  places_of a b h =
+      let x = neighbour_of a in
+      let y = neighbour_of b in
+      let (i, in_x, is_x) = there a h.one in
+      let (j, in_y, is_y) = there b h.other in
+      let tied : net_node_order x.net_node y.net_node ≡ Equal = ap (net_node_order x.net_node) (sym h.same) ∙ tied_itself net_node_total x.net_node in
+      let less : neighbour_order x y ≡ Less = ap (λ (o : Ordering). ordering_then o (address_order a b)) tied ∙ before_less a b h.in_order in
+      (i, j, earlier_from_less neighbour_total neighbours up i j x y (in_x, is_x) (in_y, is_y) less, (in_x, is_x), (in_y, is_y))
+
+  -- any two systems of one net and node are at two places
+  pub has_places : (l : Link) → HasTwin (Contains systems) l.from l.to → (i : ℕ) × (j : ℕ) × IsTwin neighbours i j l
+  has_places l h =
+      let (i, j, lt, at_x, at_y) = places_of l.from l.to h in
+      let first : (d : Neighbour) → get_or neighbours i d ≡ neighbour_of l.from = λ d. get_or_default neighbours i d (neighbour_of l.from) at_x.0 ∙ at_x.1 in
+      let second : (d : Neighbour) → get_or neighbours j d ≡ neighbour_of l.to = λ d. get_or_default neighbours j d (neighbour_of l.to) at_y.0 ∙ at_y.1 in (
+        i,
+        j,
+        record {
+          later = lt;
+          within = at_y.0;
+          same = λ d. ap (λ (m : Neighbour). m.net_node) (first d) ∙ (h.same ∙ sym (ap (λ (m : Neighbour). m.net_node) (second d)));
+          pair = λ d. let one = ap (λ (m : Neighbour). m.system) (first d) in
+              let other = ap (λ (m : Neighbour). m.system) (second d) in
+              λ i. record { from = sym one i; to = sym other i };
+        },
+      )
+
+  module _ (twins : List Link) (ascend : IsStrictlySortedBy link_order twins) (pairs : (l : Link) → Contains twins l ↔ ((k : ℕ) × IsTwin neighbours k (k + 1) l)) where
+    -- before any two systems of one net and node stand two twins, or they are twins
+    twin_before : (a b : Address) → HasTwin (Contains systems) a b → (l : Link) × Contains twins l × (is_gt (link_order l (link a b)) ≡ false)
+    twin_before a b h =
+        let x = neighbour_of a in
+        let y = neighbour_of b in
+        let (i, j, lt, (in_x, is_x), (in_y, is_y)) = places_of a b h in
+        let tied : net_node_order x.net_node y.net_node ≡ Equal = ap (net_node_order x.net_node) (sym h.same) ∙ tied_itself net_node_total x.net_node in
+        let n = next_alike net_node_total (λ (m : Neighbour). m.net_node) (λ (m : Neighbour). m.system) neighbour_total neighbours up i j x y (in_x, is_x) (in_y, is_y) lt tied in
+        let z = get_or neighbours (i + 1) x in
+        let inside : i + 1 < length neighbours = omega (arith, in_y, lt) in
+        let alike : x.net_node ≡ z.net_node = net_node_exact x.net_node z.net_node n.alike in
+        let first : (d : Neighbour) → get_or neighbours i d ≡ x = λ d. get_or_default neighbours i d x in_x ∙ is_x in
+        let second : (d : Neighbour) → get_or neighbours (i + 1) d ≡ z = λ d. get_or_default neighbours (i + 1) d x inside in
+        let twin : IsTwin neighbours i (i + 1) (link a z.system) = record {
+          later = omega arith;
+          within = inside;
+          same = λ d. ap (λ (m : Neighbour). m.net_node) (first d) ∙ (alike ∙ sym (ap (λ (m : Neighbour). m.net_node) (second d)));
+          pair = λ d. let one = ap (λ (m : Neighbour). m.system) (first d) in
+              let other = ap (λ (m : Neighbour). m.system) (second d) in
+              λ i. record { from = sym one i; to = sym other i };
+        } in (
+          link a z.system,
+          (pairs (link a z.system)).1 (i, twin),
+          ap (λ (o : Ordering). is_gt (ordering_then o (address_order z.system b))) (tied_itself address_total a) ∙ n.upto,
+        )
+
+    -- the first of the twins, if there are any
+    pub twins_answer : (found : Option Link) → found ≡ slice_get twins 0 →
+        MatchOption found ((a b : Address) → ¬ HasTwin (Contains systems) a b) (λ l. IsSmallestPair (HasTwin (Contains systems)) l.from l.to)
+    twins_answer found is = answer found twins is refl
+      where
+        answer : (found : Option Link) (ls : List Link) → found ≡ slice_get ls 0 → ls ≡ twins →
+            MatchOption found ((a b : Address) → ¬ HasTwin (Contains systems) a b) (λ l. IsSmallestPair (HasTwin (Contains systems)) l.from l.to)
+        answer None [] is same = λ a b h.
+            let (l, in', le) = twin_before a b h in
+            let (k, lt, at) = subst (λ (ls : List Link). Contains ls l) (sym same) in' in
+            absurd (omega (arith, lt))
+        answer None (l ∷ ls) is same = cc
+        answer (Some l) [] is same = cc
+        answer (Some l) (m ∷ ls) is same =
+            let l_is : l ≡ m = cc in
+            let first : Contains twins l = subst (λ (all : List Link). Contains all l) same (0, omega arith, sym l_is) in
+            record {
+              holds = (let (k, twin) = (pairs l).0 first in is_twin k (k + 1) l twin);
+              first = λ a b h.
+                  let (t, in', le) = twin_before a b h in
+                  let at_first : IsAt twins 0 l = subst (λ (all : List Link). IsAt all 0 l) same (omega arith, sym l_is) in
+                  let lower = not_gt link_total l t (later_not_before link_total twins ascend 0 in'.0 l t at_first (in'.1, in'.2) (omega arith)) in
+                  pair_before_is (link a b) l ∙ not_lt link_total l (link a b) (upto link_total l t (link a b) lower le);
+            }

@@ -6,3 +6,4 @@ pub mod Faults
 pub mod Absent
 pub mod Printed
 pub mod Drawn
+pub mod AllFaults

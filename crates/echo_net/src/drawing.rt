@@ -155,7 +155,7 @@ fn upward(link: Link) -> Link
 }
 
 /// The link the other way.
-fn back(link: Link) -> Link
+pub(crate) fn back(link: Link) -> Link
     ensures { result ≡ back link }
 {
     Link {
@@ -226,7 +226,7 @@ fn steps_around(alloc: Global, round: &[Address]) -> Result<Vec<Link>, AllocErro
 }
 
 /// Is the address one of these, which ascend?
-fn has_address(all: &[Address], address: Address) -> bool
+pub(crate) fn has_address(all: &[Address], address: Address) -> bool
     requires { IsStrictlySortedBy ⟦<Address as Ord>⟧.cmp all.now }
     ensures { result ≡ drawn.has_address all.now address }
 {
@@ -234,7 +234,7 @@ fn has_address(all: &[Address], address: Address) -> bool
 }
 
 /// Is the link one of these, which ascend?
-fn has_link(all: &[Link], link: Link) -> bool
+pub(crate) fn has_link(all: &[Link], link: Link) -> bool
     requires { IsStrictlySortedBy ⟦<Link as Ord>⟧.cmp all.now }
     ensures { result ≡ drawn.has_link all.now link }
 {

@@ -1,18 +1,20 @@
 //! Checks an area of a net of systems that exchange echomail (FTS-0004): is it in order?
 //!
 //! Promise: `check` answers yes exactly where the area is tidy; then every run on these files is orderly. A no
-//! names the first fault. `listed` answers just the carriers that a nodelist does not hold.
+//! names the first fault. `all_faults` lists every fault of the files and links. `listed` answers just the carriers that
+//! a nodelist does not hold.
 //!
 //! Begin with `checker` (the whole) and `verdict` (the answer and the faults). `area` has the systems and links
 //! of an area, by `carriers`, `link` and `searching`. `owners`, `first_links` and `same_net_node` decide by
-//! sorted addresses, `link_faults` takes the first of their faults. `rows` and `graph_faults` check the net as
-//! a graph. `presence` compares carriers with a nodelist, `drawing` draws an area.
+//! sorted addresses, `link_faults` takes the first of their faults, `each_fault` all of them. `rows` and
+//! `graph_faults` check the net as a graph. `presence` compares carriers with a nodelist, `drawing` draws an area.
 #![tactic(auto)]
 
 mod area;
 mod carriers;
 mod checker;
 mod drawing;
+mod each_fault;
 mod first_links;
 mod graph_faults;
 mod link;
@@ -26,5 +28,6 @@ mod verdict;
 
 pub use checker::{check, check_area, shared_system};
 pub use drawing::{Crossing, Drawing, DrawnLink, DrawnSystem, Mark, Sides, draw};
+pub use each_fault::{all_faults, further};
 pub use presence::{Absence, listed};
 pub use verdict::{NetFault, Verdict};

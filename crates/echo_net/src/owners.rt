@@ -1,12 +1,14 @@
-//! The smallest address that comes twice.
+//! Addresses that come twice.
 
-ghost use Rattle.std.specs.Prelude.{◌≡◌, ◌<◌, ◌↔◌, IfOk, MatchOption, Contains};
+ghost use Rattle.std.specs.Prelude.{◌≡◌, ◌+◌, ◌↔◌, ℕ, IfOk, MatchOption, Contains};
 ghost use Rattle.std.specs.List.Sorted.{IsStrictlySortedBy};
 ghost use Rattle.model_graph.specs.Walk.{Different, IsAt};
+ghost use Rattle.echo_net.specs.declared.link.Link.{Link};
 ghost use Rattle.echo_net.specs.declared.owners.Owner.{Owner};
 ghost use Rattle.echo_net.specs.Firsts.{IsSmallest, StandsTwice};
-ghost use Rattle.echo_net.specs.Pairs.{FirstPair, NoPair};
+ghost use Rattle.echo_net.specs.Pairs.{IsShared};
 
+use crate::link::Link;
 use echo_addr::{Address, put_in_order};
 use std::alloc::{AllocError, Global};
 
@@ -21,9 +23,23 @@ struct Owner {
 pub fn shared_address(alloc: Global, systems: &[Address]) -> Result<Option<Address>, AllocError>
     ensures { IfOk result (λ found. MatchOption found (Different systems.now) (IsSmallest (StandsTwice systems.now))) }
 {
+    let shared = all_shared(alloc, systems)?;
+    match shared.first().copied() {
+        Some(link) => Ok(Some(link.from)),
+        None => Ok(None),
+    }
+}
+
+/// Each address that two systems have, as a link to itself, ascending, each once.
+pub fn all_shared(alloc: Global, systems: &[Address]) -> Result<Vec<Link>, AllocError>
+    ensures ascending { IfOk result (λ all. IsStrictlySortedBy ⟦<Link as Ord>⟧.cmp all.items) }
+    ensures members { IfOk result (λ all. (l : Link) → Contains all.items l ↔ ((l.from ≡ l.to) × StandsTwice systems.now l.from)) }
+{
     let mut owners = owners(alloc, systems)?;
     put_in_order(&mut owners);
-    Ok(first_shared(&owners))
+    let mut shared = shared(alloc, &owners)?;
+    put_in_order(&mut shared);
+    Ok(shared)
 }
 
 fn owners(alloc: Global, systems: &[Address]) -> Result<Vec<Owner>, AllocError>
@@ -39,14 +55,20 @@ fn owners(alloc: Global, systems: &[Address]) -> Result<Vec<Owner>, AllocError>
     Ok(all)
 }
 
-/// The address of the first of these that has the address of the next.
-fn first_shared(owners: &[Owner]) -> Option<Address>
-    ensures { MatchOption result (NoPair owners.now) (FirstPair owners.now) }
+/// The system of each of these with that of the next, where they are the same.
+fn shared(alloc: Global, owners: &[Owner]) -> Result<Vec<Link>, AllocError>
+    ensures { IfOk result (λ all. (l : Link) → Contains all.items l ↔ ((k : ℕ) × IsShared owners.now k (k + 1) l)) }
 {
+    let mut shared = Vec::new(alloc);
     for place in 1..owners.len() {
-        if owners[place - 1].system == owners[place].system {
-            return Some(owners[place].system);
+        let one = owners[place - 1];
+        let next = owners[place];
+        if one.system == next.system {
+            shared.push(Link {
+                from: one.system,
+                to: next.system,
+            })?;
         }
     }
-    None
+    Ok(shared)
 }

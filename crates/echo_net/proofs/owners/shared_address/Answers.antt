@@ -1,14 +1,15 @@
-use Rattle.std.proofs.Common.{subst, MatchOption, List}
-use Rattle.echo_net.specs.declared.owners.Owner.{Owner}
-use Rattle.echo_net.specs.Pairs.{FirstPair, NoPair}
-use Rattle.echo_net.proofs.Owned.{shared}
+use Rattle.std.proofs.Common.{ap, ◌∙◌, List}
+use Rattle.std.specs.Prelude.{slice_get}
+use Rattle.echo_net.specs.declared.link.Link.{Link}
+use Rattle.echo_net.proofs.Owned.{first_shared, none_shared}
 use Rattle.echo_net.proofs.owners.shared_address.Goals as goal
+
+pub returns-in-Some : goal.returns-in-Some
+returns-in-Some c =
+    let is = c.in-Some.ensures ∙ (c.first.ensures.value ∙ ap (λ (ls : List Link). slice_get ls 0) c.deref.ensures.value) in
+    first_shared c.args.systems.now c.in_ok-shared.shared.items c.in_ok-shared.ensures.ascending c.in_ok-shared.ensures.members c.in-Some.link is
 
 pub returns : goal.returns
 returns c =
-    let all = c.put_in_order.new.values.items in
-    let found = c.first_shared.result in
-    shared c.args.systems.now all
-    (λ o. (λ h. (c.in_ok-owners.ensures o).0 ((c.put_in_order.ensures.members o).0 h), λ h. (c.put_in_order.ensures.members o).1 ((c.in_ok-owners.ensures o).1 h)))
-    c.put_in_order.ensures.ascending found
-    (subst (λ (os : List Owner). MatchOption found (NoPair os) (FirstPair os)) c.deref.ensures.value c.first_shared.ensures)
+    let is = c.in-None.ensures ∙ (c.first.ensures.value ∙ ap (λ (ls : List Link). slice_get ls 0) c.deref.ensures.value) in
+    none_shared c.args.systems.now c.in_ok-shared.shared.items c.in_ok-shared.ensures.members is

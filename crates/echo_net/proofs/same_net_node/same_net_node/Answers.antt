@@ -1,4 +1,4 @@
-use Rattle.std.proofs.Common.{◌↔◌, ◌∙◌, ℕ, ap, subst, List, map}
+use Rattle.std.proofs.Common.{◌+◌, ◌↔◌, ◌∙◌, ℕ, ap, subst, List, map}
 use Rattle.std.specs.Prelude.{Contains, slice_get}
 use Rattle.echo_net.specs.declared.link.Link.{Link}
 use Rattle.echo_net.specs.declared.same_net_node.Neighbour.{Neighbour}
@@ -10,8 +10,8 @@ pub returns : goal.returns
 returns c =
     let neighbours : List Neighbour = c.put_in_order.new.values.items in
     let twins : List Link = c.put_in_order-2.new.values.items in
-    let found : (l : Link) → Contains c.in_ok-twins.twins.items l ↔ ((k : ℕ) × IsTwin neighbours k l) =
-    subst (λ (ns : List Neighbour). (l : Link) → Contains c.in_ok-twins.twins.items l ↔ ((k : ℕ) × IsTwin ns k l)) c.deref.ensures.value c.in_ok-twins.ensures in
+    let found : (l : Link) → Contains c.in_ok-twins.twins.items l ↔ ((k : ℕ) × IsTwin neighbours k (k + 1) l) =
+    subst (λ (ns : List Neighbour). (l : Link) → Contains c.in_ok-twins.twins.items l ↔ ((k : ℕ) × IsTwin ns k (k + 1) l)) c.deref.ensures.value c.in_ok-twins.ensures in
     let all : (n : Neighbour) → Contains neighbours n ↔ Contains (map neighbour_of c.args.systems.now) n =
     subst (λ (ns : List Neighbour). (n : Neighbour) → Contains neighbours n ↔ Contains ns n) c.in_ok-neighbours.ensures c.put_in_order.ensures.members in
     twins_answer c.args.systems.now neighbours c.put_in_order.ensures.ascending all twins c.put_in_order-2.ensures.ascending

@@ -1,6 +1,9 @@
 use Rattle.std.proofs.Common.{◌+◌, ◌≤◌, sym, subst, ap, ◌∙◌, arith}
+use Rattle.echo_addr.specs.declared.address.Address.{Address}
+use Rattle.echo_addr.specs.declared.address.NetNode.{NetNode}
+use Rattle.echo_net.specs.declared.same_net_node.Neighbour.{Neighbour}
 use Rattle.echo_net.proofs.Orders.{net_node_itself, net_node_same}
-use Rattle.echo_net.proofs.Twins.{AreTwins, no_twin_more, one_twin_more}
+use Rattle.echo_net.proofs.Twins.{AreAlikeBefore, no_pair_more, one_pair_more}
 use Rattle.echo_net.proofs.same_net_node.twins.Goals as goal
 use Rattle.echo_net.proofs.same_net_node.twins.Goals.{then-eq+in_ok-push, else-eq}
 
@@ -8,14 +11,16 @@ pub loop-place-preserved : goal.loop-place-preserved
 loop-place-preserved c =
     let ns = c.args.neighbours.now in
     let i = c.loop-place.place in
+    let key : Neighbour → NetNode = λ n. n.net_node in
+    let system : Neighbour → Address = λ n. n.system in
     let low : 1 ≤ i = omega arith in
     elim c.if-eq.branch [
       | then-eq+in_ok-push w ↦
-          subst (AreTwins ns (i + 1)) (sym (ap (λ v. v.items) w.twins-is ∙ w.in_ok-push.ensures.items))
-          (one_twin_more ns i c.loop-place.twins.items _ low c.loop-place-test.true c.loop-place.invariant (net_node_same _ _ (sym c.eq.ensures ∙ w.if-eq.true)))
+          subst (AreAlikeBefore key system ns (i + 1)) (sym (ap (λ v. v.items) w.twins-is ∙ w.in_ok-push.ensures.items))
+          (one_pair_more key system ns i c.loop-place.twins.items _ low c.loop-place-test.true c.loop-place.invariant (net_node_same _ _ (sym c.eq.ensures ∙ w.if-eq.true)))
       | else-eq w ↦
-          subst (AreTwins ns (i + 1)) (sym (ap (λ v. v.items) w.twins-is))
-          (no_twin_more ns i c.loop-place.twins.items _ low c.loop-place-test.true c.loop-place.invariant
+          subst (AreAlikeBefore key system ns (i + 1)) (sym (ap (λ v. v.items) w.twins-is))
+          (no_pair_more key system ns i c.loop-place.twins.items _ low c.loop-place-test.true c.loop-place.invariant
           (λ e. let yes = c.eq.ensures ∙ net_node_itself _ _ e in let no = w.if-eq.false in cc))
     ]
 

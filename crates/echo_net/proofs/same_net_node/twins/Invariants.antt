@@ -1,5 +1,6 @@
-use Rattle.echo_net.proofs.Twins.{AreTwins}
+use Rattle.echo_net.specs.declared.same_net_node.Neighbour.{Neighbour}
+use Rattle.echo_net.proofs.Twins.{AreAlikeBefore}
 use Rattle.echo_net.proofs.same_net_node.twins.Given as goal
 
 abbrev pub invariant-loop-place : goal.invariant-loop-place
-invariant-loop-place l = AreTwins l.neighbours l.place l.twins.items
+invariant-loop-place l = AreAlikeBefore (λ (n : Neighbour). n.net_node) (λ (n : Neighbour). n.system) l.neighbours l.place l.twins.items

@@ -1,0 +1,296 @@
+-- Every fault of the files and their links: that the lists hold just these, and which of them is first.
+use Rattle.std.proofs.Common.{◌≡◌, ◌<◌, ◌+◌, ◌&&◌, ◌||◌, ◌==◌, ◌↔◌, ℕ, Bool, true, false, not, cond, IsTrue, List, [], ◌∷◌, ◌++◌, filter, length, map, take, get_or, refl, sym, ap, subst, ◌∙◌, append-nil, append_assoc, arith, inl, inr}
+use Rattle.std.specs.Prelude.{Contains}
+use Rattle.std.specs.Cmp.{both_ways}
+use Rattle.std.specs.List.{list_any}
+use Rattle.std.specs.List.Sorted.{IsStrictlySortedBy}
+use Rattle.std.proofs.lemmas.Bool.{and_from, and_parts, cases_lt}
+use Rattle.std.proofs.lemmas.List.{take_more}
+use Rattle.std.proofs.lemmas.List.Elements.{filter-append}
+use Rattle.std.proofs.lemmas.List.Kept.{IsStrictlySortedBy-filter}
+use Rattle.echo_addr.specs.declared.address.Address.{Address}
+use Rattle.echo_links.specs.Links.{LinkFile, has_area, same_address}
+use Rattle.model_graph.proofs.Members.{Among-from_Contains, Contains-from_Among}
+use Rattle.model_run.proofs.Lists.{Among-filter_from, Among-filter_to}
+use Rattle.echo_filed.specs.Sets.{address_before}
+use Rattle.model_run.specs.Tidy.{carries, lists}
+use Rattle.echo_net.specs.declared.each_fault.Kind.TheVariants as kinds
+use Rattle.echo_net.specs.declared.link.Link.{Link}
+use Rattle.echo_net.specs.declared.verdict.NetFault.{NetFault}
+use Rattle.echo_net.specs.declared.verdict.NetFault.TheVariants.{NoSuchArea, TwoFiles, SelfLink, Unknown, OneSided, SameNetNode, Apart, Loop}
+use Rattle.echo_net.specs.declared.verdict.Verdict.{Verdict}
+use Rattle.echo_net.specs.declared.verdict.Verdict.TheVariants.{Yes, No}
+use Rattle.echo_net.specs.AllFaults.{AddsLinkFaults, AddsTwoFiles, AppliesTo, AreAllFaults, AreFurther, fault_named, fault_of, fault_where, in_preference, is_one_sided, is_self_link, is_unknown, names_fault}
+use Rattle.echo_net.specs.Drawn.{AreLinksInOrder, back, has_address, has_link}
+use Rattle.echo_net.specs.Faults.{AllAreAnswered, AllAreKnown, HaveOneFileEach, IfNo, IsFirstFault, NoneListsItself}
+use Rattle.echo_net.specs.Firsts.{HasTwin, pair_before}
+use Rattle.echo_net.specs.Nets.{link, systems}
+use Rattle.echo_net.proofs.Drawings.{carriers_held, links_held, links_in_order}
+use Rattle.echo_net.proofs.Faulty.{is_carried, not_carried, twin_from, twin_to}
+use Rattle.echo_net.proofs.Graphs.{Different-apart}
+use Rattle.echo_net.proofs.Orders.{link_order, same_exact, same_itself}
+
+-- one more item of a list that is filtered
+module _ {X : Type 0} (p : X → Bool) (xs : List X) (i : ℕ) (d : X) (inside : i < length xs) (all next : List X) (before : all ≡ filter p (take i xs)) where
+  abbrev here : X
+  here = get_or xs i d
+
+  taken : filter p (take (i + 1) xs) ≡ filter p (take i xs) ++ filter p (here ∷ [])
+  taken = ap (filter p) (take_more xs i d inside) ∙ filter-append p (take i xs) (here ∷ [])
+
+  pub one_kept : p here ≡ true → next ≡ all ++ here ∷ [] → next ≡ filter p (take (i + 1) xs)
+  one_kept passes more =
+      more
+      ∙ (ap (λ (ys : List X). ys ++ here ∷ []) before
+      ∙ sym (taken ∙ ap (λ (b : Bool). filter p (take i xs) ++ cond b (here ∷ []) []) passes))
+
+  pub one_left : p here ≡ false → next ≡ all → next ≡ filter p (take (i + 1) xs)
+  one_left fails same =
+      same ∙ (before ∙ sym (taken ∙ (ap (λ (b : Bool). filter p (take i xs) ++ cond b (here ∷ []) []) fails ∙ append-nil (filter p (take i xs)))))
+
+-- members by another name
+pub retold : (P Q : Link → Type 0) (all : List Link) → AreLinksInOrder P all → ((l : Link) → P l ↔ Q l) → AreLinksInOrder Q all
+retold P Q all order same = record {
+  ascending = order.ascending;
+  members = λ l. (λ h. (same l).0 ((order.members l).0 h), λ h. (order.members l).1 ((same l).1 h));
+}
+
+-- the links that pass a test
+kept_in_order : (p : Link → Bool) (links : List Link) (Q : Link → Type 0) → IsStrictlySortedBy link_order links → ((l : Link) → (Contains links l × IsTrue (p l)) ↔ Q l) →
+    AreLinksInOrder Q (filter p links)
+kept_in_order p links Q up same =
+    links_in_order Q (filter p links) (IsStrictlySortedBy-filter link_order p links up) (λ l. (
+      λ h. (let (there, passes) = Among-filter_from p l links (Among-from_Contains l (filter p links) h) in (same l).0 (Contains-from_Among l links there, passes)),
+      λ h. (let (there, passes) = (same l).1 h in Contains-from_Among l (filter p links) (Among-filter_to p l links (Among-from_Contains l links there) passes)),
+    ))
+
+not_from : (b : Bool) → (IsTrue b → ⊥) → IsTrue (not b)
+not_from true none = absurd (none refl)
+not_from false none = refl
+
+not_to : (b : Bool) → IsTrue (not b) → IsTrue b → ⊥
+not_to true h passes = cc
+not_to false h passes = cc
+
+from_not : (b : Bool) → IsTrue (not b) → b ≡ false
+from_not true h = absurd cc
+from_not false h = refl
+
+-- what was added in four steps
+pub four : (old a b c d one two three new : List NetFault) → one ≡ old ++ a → two ≡ one ++ b → three ≡ two ++ c → new ≡ three ++ d →
+    new ≡ old ++ (a ++ (b ++ (c ++ d)))
+four old a b c d one two three new first second third fourth =
+    let joined : new ≡ (((old ++ a) ++ b) ++ c) ++ d =
+    fourth ∙ ap (λ (l : List NetFault). l ++ d) (third ∙ ap (λ (l : List NetFault). l ++ c) (second ∙ ap (λ (l : List NetFault). l ++ b) first)) in
+    joined ∙ (append_assoc ((old ++ a) ++ b) c d ∙ (append_assoc (old ++ a) b (c ++ d) ∙ append_assoc old a (b ++ (c ++ d))))
+
+module _ (files : List LinkFile) (tag : List ℕ) (carriers : List Address) (links : List Link)
+    (members : (a : Address) → Contains carriers a ↔ IsTrue (carries files tag a))
+    (listed : (l : Link) → Contains links l ↔ IsTrue (lists files tag l.from l.to)) where
+  self_links : (l : Link) → (Contains links l × IsTrue (is_self_link l)) ↔ AppliesTo files tag kinds.SelfLink l
+  self_links l = (
+    λ (there, same). (let e = same_exact l.from l.to same in (e, subst (λ (b : Address). IsTrue (lists files tag l.from b)) (sym e) ((listed l).0 there))),
+    λ (e, h). ((listed l).1 (subst (λ (b : Address). IsTrue (lists files tag l.from b)) e h), same_itself l.from l.to e),
+  )
+
+  unknown : (l : Link) → (Contains links l × IsTrue (is_unknown carriers l)) ↔ AppliesTo files tag kinds.Unknown l
+  unknown l =
+      let same : has_address carriers l.to ≡ carries files tag l.to = carriers_held files tag carriers members l.to in (
+        λ (there, out). ((listed l).0 there, not_to (carries files tag l.to) (subst (λ (b : Bool). IsTrue (not b)) same out)),
+        λ (h, out). ((listed l).1 h, subst (λ (b : Bool). IsTrue (not b)) (sym same) (not_from (carries files tag l.to) out)),
+      )
+
+  one_sided : (l : Link) → (Contains links l × IsTrue (is_one_sided carriers links l)) ↔ AppliesTo files tag kinds.OneSided l
+  one_sided l =
+      let known : has_address carriers l.to ≡ carries files tag l.to = carriers_held files tag carriers members l.to in
+      let back_is : has_link links (back l) ≡ lists files tag l.to l.from = links_held files tag links listed (back l) in (
+        λ (there, passes). (let (to, alone) = and_parts (has_address carriers l.to) (not (has_link links (back l))) passes in
+            ((listed l).0 there, subst IsTrue known to, not_to (lists files tag l.to l.from) (subst (λ (b : Bool). IsTrue (not b)) back_is alone))),
+        λ (h, to, alone). (
+          (listed l).1 h,
+          and_from (has_address carriers l.to) (not (has_link links (back l))) (subst IsTrue (sym known) to)
+              (subst (λ (b : Bool). IsTrue (not b)) (sym back_is) (not_from (lists files tag l.to l.from) alone)),
+        ),
+      )
+
+  twins : (l : Link) → HasTwin (Contains carriers) l.from l.to ↔ AppliesTo files tag kinds.SameNetNode l
+  twins l = (twin_to files tag carriers links members listed l.from l.to, twin_from files tag carriers links members listed l.from l.to)
+
+  -- there are carriers where some file has the area
+  some_carried : not (length carriers == 0) ≡ list_any (λ file. has_area file tag) files
+  some_carried =
+      let empty = length carriers == 0 in
+      both_ways (not empty) (list_any (λ file. has_area file tag) files)
+      (λ some. is_carried files tag carriers links members listed empty refl (from_not empty some))
+      (λ carried. not_from empty (λ none. not_carried files tag carriers links members listed empty refl none carried))
+
+  -- the faults of an area that were added one kind after the other
+  pub all_of : IsStrictlySortedBy link_order links → (none one two all : List NetFault) → none ≡ [] → one ≡ none ++ fault_where (not (length carriers == 0)) →
+      AddsTwoFiles (systems files) one two → AddsLinkFaults carriers links two all → AreAllFaults files tag all
+  all_of up none one two all nothing begun shared added = record {
+    two_files = shared.found;
+    self_links = filter is_self_link links;
+    unknown = filter (is_unknown carriers) links;
+    one_sided = filter (is_one_sided carriers links) links;
+    same_net_nodes = added.twins;
+    are_two_files = shared.in_order;
+    are_self_links = kept_in_order is_self_link links (AppliesTo files tag kinds.SelfLink) up self_links;
+    are_unknown = kept_in_order (is_unknown carriers) links (AppliesTo files tag kinds.Unknown) up unknown;
+    are_one_sided = kept_in_order (is_one_sided carriers links) links (AppliesTo files tag kinds.OneSided) up one_sided;
+    are_same_net_nodes = retold (λ l. HasTwin (Contains carriers) l.from l.to) (AppliesTo files tag kinds.SameNetNode) added.twins added.are_twins twins;
+    whole =
+        let rest : List NetFault = map (fault_of kinds.SelfLink) (filter is_self_link links) ++ (map (fault_of kinds.Unknown) (filter (is_unknown carriers) links) ++ (map (fault_of kinds.OneSided) (filter (is_one_sided carriers links) links) ++ map (fault_of kinds.SameNetNode) added.twins)) in
+        let own : List NetFault = map (fault_of kinds.TwoFiles) shared.found in
+        added.whole ∙ (ap (λ (l : List NetFault). l ++ rest) (shared.whole ∙ ap (λ (l : List NetFault). l ++ own)
+        (begun ∙ (ap (λ (l : List NetFault). l ++ fault_where (not (length carriers == 0))) nothing ∙ ap fault_where some_carried)))
+        ∙ append_assoc (fault_where (list_any (λ file. has_area file tag) files)) own rest);
+  }
+
+-- no link, and a first link
+no_links : (P : Link → Type 0) (ls : List Link) → AreLinksInOrder P ls → ((l : Link) → P l → ⊥) → ls ≡ []
+no_links P [] order none = refl
+no_links P (l ∷ ls) order none = absurd (none l ((order.members l).0 (0, omega arith, refl)))
+
+starts : (P : Link → Type 0) (ls : List Link) (l : Link) → AreLinksInOrder P ls → P l → ((m : Link) → P m → pair_before m.from m.to l.from l.to ≡ false) →
+    (rest : List Link) × (ls ≡ l ∷ rest)
+starts P [] l order holds first = (let (k, lt, is) = (order.members l).1 holds in absurd (omega (arith, lt)))
+starts P (m ∷ ls) l order holds first =
+    let (k, lt, is) = (order.members l).1 holds in
+    elim (cases_lt 0 k) [
+      | inl above ↦ absurd (
+          let early : pair_before m.from m.to l.from l.to ≡ true =
+          subst (λ (n : Link). pair_before m.from m.to n.from n.to ≡ true) is (order.ascending 0 k l above lt) in
+          let late = first m ((order.members m).0 (0, omega arith, refl)) in cc)
+      | inr low ↦ (
+          let zero_is : k ≡ 0 = omega arith in
+          let same : m ≡ l = ap (λ (n : ℕ). get_or (m ∷ ls) n l) (sym zero_is) ∙ is in
+          (ls, ap (λ (n : Link). n ∷ ls) same))
+    ]
+
+not_true : (b : Bool) → (IsTrue b → ⊥) → b ≡ false
+not_true true none = absurd (none refl)
+not_true false none = refl
+
+neither : (p s q : Bool) → p ≡ false → q ≡ false → (p || (s && q)) ≡ false
+neither true s q no_p no_q = cc
+neither false true q no_p no_q = no_q
+neither false false q no_p no_q = refl
+
+-- no system that is alone comes before the smallest
+alone_first : (a : Address) (m : Link) → m.from ≡ m.to → address_before m.from a ≡ false → pair_before m.from m.to a a ≡ false
+alone_first a m same late =
+    neither (address_before m.from a) (same_address m.from a) (address_before m.to a) late (subst (λ (b : Address). address_before b a ≡ false) same late)
+
+-- what a verdict names
+one_named : (fault : NetFault) → names_fault (No fault) ≡ true → fault_named (No fault) ≡ fault ∷ []
+one_named NoSuchArea passes = refl
+one_named (TwoFiles a) passes = refl
+one_named (SelfLink a) passes = refl
+one_named (Unknown a b) passes = refl
+one_named (OneSided a b) passes = refl
+one_named (SameNetNode a b) passes = refl
+one_named (Apart a b) passes = absurd cc
+one_named (Loop loop) passes = absurd cc
+
+nothing_named : (verdict : Verdict) → names_fault verdict ≡ false → fault_named verdict ≡ []
+nothing_named (Yes s l) fails = refl
+nothing_named (No (Apart a b)) fails = refl
+nothing_named (No (Loop loop)) fails = refl
+nothing_named (No NoSuchArea) fails = absurd cc
+nothing_named (No (TwoFiles a)) fails = absurd cc
+nothing_named (No (SelfLink a)) fails = absurd cc
+nothing_named (No (Unknown a b)) fails = absurd cc
+nothing_named (No (OneSided a b)) fails = absurd cc
+nothing_named (No (SameNetNode a b)) fails = absurd cc
+
+-- the first of all faults is the one that a verdict names
+module _ (files : List LinkFile) (tag : List ℕ) (all : List NetFault) (r : AreAllFaults files tag all) where
+  no_two_files : HaveOneFileEach files → r.two_files ≡ []
+  no_two_files one_file = no_links (AppliesTo files tag kinds.TwoFiles) r.two_files r.are_two_files (λ l h.
+      let (i, j, lt, at_i, at_j) = h.1 in Different-apart (systems files) one_file i j l.from lt at_i at_j)
+
+  no_self_links : NoneListsItself files tag → r.self_links ≡ []
+  no_self_links none = no_links (AppliesTo files tag kinds.SelfLink) r.self_links r.are_self_links (λ l h. none l.from h.1)
+
+  no_unknown : AllAreKnown files tag → r.unknown ≡ []
+  no_unknown known = no_links (AppliesTo files tag kinds.Unknown) r.unknown r.are_unknown (λ l h. h.1 (known l.from l.to h.0))
+
+  no_one_sided : AllAreAnswered files tag → r.one_sided ≡ []
+  no_one_sided both = no_links (AppliesTo files tag kinds.OneSided) r.one_sided r.are_one_sided (λ l h. h.2 (both l.from l.to h.0))
+
+  abbrev behind_one_sided : List NetFault
+  behind_one_sided = map (fault_of kinds.SameNetNode) r.same_net_nodes
+
+  abbrev behind_unknown : List NetFault
+  behind_unknown = map (fault_of kinds.OneSided) r.one_sided ++ behind_one_sided
+
+  abbrev behind_self_links : List NetFault
+  behind_self_links = map (fault_of kinds.Unknown) r.unknown ++ behind_unknown
+
+  abbrev behind_two_files : List NetFault
+  behind_two_files = map (fault_of kinds.SelfLink) r.self_links ++ behind_self_links
+
+  first_named : (fault : NetFault) → IsFirstFault files tag fault → (rest : List NetFault) × (all ≡ fault_named (No fault) ++ rest)
+  first_named NoSuchArea h =
+      let none : list_any (λ file. has_area file tag) files ≡ false = not_true (list_any (λ file. has_area file tag) files) h in (
+        map (fault_of kinds.TwoFiles) r.two_files ++ behind_two_files,
+        r.whole ∙ ap (λ (b : Bool). in_preference b r.two_files r.self_links r.unknown r.one_sided r.same_net_nodes) none,
+      )
+  first_named (TwoFiles a) h =
+      let some : list_any (λ file. has_area file tag) files ≡ true = h.0 in
+      let (rest, is) = starts (AppliesTo files tag kinds.TwoFiles) r.two_files (link a a) r.are_two_files (refl, h.1.holds)
+      (λ m at_m. alone_first a m at_m.0 (h.1.first m.from at_m.1)) in (
+        map (fault_of kinds.TwoFiles) rest ++ behind_two_files,
+        r.whole ∙ (λ i. in_preference (some i) (is i) r.self_links r.unknown r.one_sided r.same_net_nodes),
+      )
+  first_named (SelfLink a) h =
+      let some : list_any (λ file. has_area file tag) files ≡ true = h.0 in
+      let none_twice = no_two_files h.1 in
+      let (rest, is) = starts (AppliesTo files tag kinds.SelfLink) r.self_links (link a a) r.are_self_links (refl, h.2.holds)
+      (λ m at_m. alone_first a m at_m.0 (h.2.first m.from at_m.1)) in (
+        map (fault_of kinds.SelfLink) rest ++ behind_self_links,
+        r.whole ∙ (λ i. in_preference (some i) (none_twice i) (is i) r.unknown r.one_sided r.same_net_nodes),
+      )
+  first_named (Unknown a b) h =
+      let some : list_any (λ file. has_area file tag) files ≡ true = h.0 in
+      let none_twice = no_two_files h.1 in
+      let none_self = no_self_links h.2 in
+      let (rest, is) = starts (AppliesTo files tag kinds.Unknown) r.unknown (link a b) r.are_unknown h.3.holds (λ m at_m. h.3.first m.from m.to at_m) in (
+        map (fault_of kinds.Unknown) rest ++ behind_unknown,
+        r.whole ∙ (λ i. in_preference (some i) (none_twice i) (none_self i) (is i) r.one_sided r.same_net_nodes),
+      )
+  first_named (OneSided a b) h =
+      let some : list_any (λ file. has_area file tag) files ≡ true = h.0 in
+      let none_twice = no_two_files h.1 in
+      let none_self = no_self_links h.2 in
+      let all_known = no_unknown h.3 in
+      let (rest, is) = starts (AppliesTo files tag kinds.OneSided) r.one_sided (link a b) r.are_one_sided (h.4.holds.0, h.3 a b h.4.holds.0, h.4.holds.1)
+      (λ m at_m. h.4.first m.from m.to (at_m.0, at_m.2)) in (
+        map (fault_of kinds.OneSided) rest ++ behind_one_sided,
+        r.whole ∙ (λ i. in_preference (some i) (none_twice i) (none_self i) (all_known i) (is i) r.same_net_nodes),
+      )
+  first_named (SameNetNode a b) h =
+      let some : list_any (λ file. has_area file tag) files ≡ true = h.0 in
+      let none_twice = no_two_files h.1 in
+      let none_self = no_self_links h.2 in
+      let all_known = no_unknown h.3 in
+      let all_answered = no_one_sided h.4 in
+      let (rest, is) = starts (AppliesTo files tag kinds.SameNetNode) r.same_net_nodes (link a b) r.are_same_net_nodes h.5.holds (λ m at_m. h.5.first m.from m.to at_m) in (
+        map (fault_of kinds.SameNetNode) rest,
+        r.whole ∙ (λ i. in_preference (some i) (none_twice i) (none_self i) (all_known i) (all_answered i) (is i)),
+      )
+  first_named (Apart a b) h = (all, refl)
+  first_named (Loop loop) h = (all, refl)
+
+  -- all but the first are the further ones
+  pub behind_named : (verdict : Verdict) → IfNo verdict (IsFirstFault files tag) → names_fault verdict ≡ true → (result : List NetFault) →
+      ((first : NetFault) (rest : List NetFault) → all ≡ first ∷ rest → result ≡ rest) → AreFurther files tag verdict result
+  behind_named (Yes s l) h passes result is = absurd cc
+  behind_named (No fault) h passes result is =
+      let (rest, whole) = first_named fault h in
+      let result_is : result ≡ rest = is fault rest (whole ∙ ap (λ (f : List NetFault). f ++ rest) (one_named fault passes)) in
+      record { all = all; are_all = r; whole = whole ∙ ap (λ (l : List NetFault). fault_named (No fault) ++ l) (sym result_is) }
+
+  -- all are, where none is named
+  pub none_named : (verdict : Verdict) → names_fault verdict ≡ false → AreFurther files tag verdict all
+  none_named verdict fails = record { all = all; are_all = r; whole = ap (λ (f : List NetFault). f ++ all) (sym (nothing_named verdict fails)) }

@@ -1,0 +1,17 @@
+use Rattle.std.proofs.Common.{◌≡◌, ◌∙◌, true, false, ap, not, sym}
+use Rattle.echo_net.specs.AllFaults.{is_unknown}
+use Rattle.echo_net.proofs.AllFaults.{one_kept, one_left}
+use Rattle.echo_net.proofs.each_fault.unknown_links.Goals as goal
+use Rattle.echo_net.proofs.each_fault.unknown_links.Goals.{then-not-has_address+in_ok-push, else-not-has_address}
+
+pub links-preserved : goal.links-preserved
+links-preserved c =
+    let test = is_unknown c.args.carriers.now in
+    elim c.if-not-has_address.branch [
+      | then-not-has_address+in_ok-push w ↦
+          one_kept test c.args.links.now c.links.link-index _ c.links-test.true c.links.found.items c.if-not-has_address.found.items c.links.invariant
+          (ap not (sym c.has_address.ensures ∙ w.if-not-has_address.true)) (ap (λ v. v.items) w.found-is ∙ w.in_ok-push.ensures.items)
+      | else-not-has_address w ↦
+          one_left test c.args.links.now c.links.link-index _ c.links-test.true c.links.found.items c.if-not-has_address.found.items c.links.invariant
+          (ap not (sym c.has_address.ensures ∙ w.if-not-has_address.false)) (ap (λ v. v.items) w.found-is)
+    ]

@@ -1,0 +1,6 @@
+use Rattle.echo_net.specs.declared.owners.Owner.{Owner}
+use Rattle.echo_net.proofs.Twins.{AreAlikeBefore}
+use Rattle.echo_net.proofs.owners.shared.Given as goal
+
+abbrev pub invariant-loop-place : goal.invariant-loop-place
+invariant-loop-place l = AreAlikeBefore (λ (o : Owner). o.system) (λ (o : Owner). o.system) l.owners l.place l.shared.items

@@ -1,0 +1,110 @@
+-- All faults of an area: which apply, in the order in which a verdict prefers them.
+use Rattle.std.specs.Prelude.{◌≡◌, ◌++◌, ◌&&◌, ℕ, Bool, true, false, IsTrue, List, [], ◌∷◌, Contains, filter, map, not}
+use Rattle.std.specs.List.{list_any}
+use Rattle.echo_addr.specs.declared.address.Address.{Address}
+use Rattle.echo_links.specs.Links.{LinkFile, has_area, same_address}
+use Rattle.model_run.specs.Tidy.{Carries, lists}
+use Rattle.echo_net.specs.declared.each_fault.Kind.{Kind}
+use Rattle.echo_net.specs.declared.each_fault.Kind.TheVariants as kinds
+use Rattle.echo_net.specs.declared.link.Link.{Link}
+use Rattle.echo_net.specs.declared.verdict.NetFault.{NetFault}
+use Rattle.echo_net.specs.declared.verdict.NetFault.TheVariants.{NoSuchArea, TwoFiles, SelfLink, Unknown, OneSided, SameNetNode, Apart, Loop}
+use Rattle.echo_net.specs.declared.verdict.Verdict.{Verdict}
+use Rattle.echo_net.specs.declared.verdict.Verdict.TheVariants.{Yes, No}
+use Rattle.echo_net.specs.Drawn.{AreLinksInOrder, back, has_address, has_link}
+use Rattle.echo_net.specs.Faults.{IsCarried, IsFirstFault}
+use Rattle.echo_net.specs.Firsts.{HasTwin, StandsTwice}
+use Rattle.echo_net.specs.Nets.{systems}
+
+-- the fault is one of the files or their links; apart and loop apply where they are the first fault
+abbrev pub Applies : List LinkFile → List ℕ → NetFault → Type 0
+Applies files tag NoSuchArea = ¬ IsCarried files tag
+Applies files tag (TwoFiles a) = StandsTwice (systems files) a
+Applies files tag (SelfLink a) = IsTrue (lists files tag a a)
+Applies files tag (Unknown a b) = IsTrue (lists files tag a b) × (¬ Carries files tag b)
+Applies files tag (OneSided a b) = IsTrue (lists files tag a b) × Carries files tag b × (¬ IsTrue (lists files tag b a))
+Applies files tag (SameNetNode a b) = HasTwin (Carries files tag) a b
+Applies files tag (Apart a b) = IsFirstFault files tag (Apart a b)
+Applies files tag (Loop loop) = IsFirstFault files tag (Loop loop)
+
+-- the fault of this kind between the two ends of a link
+abbrev pub fault_of : Kind → Link → NetFault
+fault_of kinds.TwoFiles l = TwoFiles l.from
+fault_of kinds.SelfLink l = SelfLink l.from
+fault_of kinds.Unknown l = Unknown l.from l.to
+fault_of kinds.OneSided l = OneSided l.from l.to
+fault_of kinds.SameNetNode l = SameNetNode l.from l.to
+
+-- the fault applies; one of a single system has this at both ends
+abbrev pub AppliesTo : List LinkFile → List ℕ → Kind → Link → Type 0
+AppliesTo files tag kinds.TwoFiles l = (l.from ≡ l.to) × Applies files tag (TwoFiles l.from)
+AppliesTo files tag kinds.SelfLink l = (l.from ≡ l.to) × Applies files tag (SelfLink l.from)
+AppliesTo files tag kinds.Unknown l = Applies files tag (Unknown l.from l.to)
+AppliesTo files tag kinds.OneSided l = Applies files tag (OneSided l.from l.to)
+AppliesTo files tag kinds.SameNetNode l = Applies files tag (SameNetNode l.from l.to)
+
+-- the fault of an area that no file has
+abbrev pub fault_where : Bool → List NetFault
+fault_where true = []
+fault_where false = NoSuchArea ∷ []
+
+-- the faults by kind, one kind after the other
+abbrev pub in_preference : Bool → List Link → List Link → List Link → List Link → List Link → List NetFault
+in_preference carried two_files self_links unknown one_sided same_net_nodes =
+    fault_where carried ++ (map (fault_of kinds.TwoFiles) two_files ++ (map (fault_of kinds.SelfLink) self_links ++ (map (fault_of kinds.Unknown) unknown ++ (map (fault_of kinds.OneSided) one_sided ++ map (fault_of kinds.SameNetNode) same_net_nodes))))
+
+-- every fault of the files and their links, each once, as a verdict prefers them: by kind, then by ascending addresses
+pub record AreAllFaults (files : List LinkFile) (tag : List ℕ) (all : List NetFault) : Type 0 where
+  pub two_files : List Link
+  pub self_links : List Link
+  pub unknown : List Link
+  pub one_sided : List Link
+  pub same_net_nodes : List Link
+  pub are_two_files : AreLinksInOrder (AppliesTo files tag kinds.TwoFiles) two_files
+  pub are_self_links : AreLinksInOrder (AppliesTo files tag kinds.SelfLink) self_links
+  pub are_unknown : AreLinksInOrder (AppliesTo files tag kinds.Unknown) unknown
+  pub are_one_sided : AreLinksInOrder (AppliesTo files tag kinds.OneSided) one_sided
+  pub are_same_net_nodes : AreLinksInOrder (AppliesTo files tag kinds.SameNetNode) same_net_nodes
+  pub whole : all ≡ in_preference (list_any (λ file. has_area file tag) files) two_files self_links unknown one_sided same_net_nodes
+
+-- the fault that a verdict names, if it is one of the files or their links
+abbrev pub fault_named : Verdict → List NetFault
+fault_named (Yes systems links) = []
+fault_named (No (Apart a b)) = []
+fault_named (No (Loop loop)) = []
+fault_named (No fault) = fault ∷ []
+
+-- whether it names one
+abbrev pub names_fault : Verdict → Bool
+names_fault (Yes systems links) = false
+names_fault (No (Apart a b)) = false
+names_fault (No (Loop loop)) = false
+names_fault (No fault) = true
+
+-- with the one that the verdict names first these are all of them
+pub record AreFurther (files : List LinkFile) (tag : List ℕ) (verdict : Verdict) (further : List NetFault) : Type 0 where
+  pub all : List NetFault
+  pub are_all : AreAllFaults files tag all
+  pub whole : all ≡ fault_named verdict ++ further
+
+-- the addresses that two systems have were added, in order
+pub record AddsTwoFiles (all : List Address) (old new : List NetFault) : Type 0 where
+  pub found : List Link
+  pub in_order : AreLinksInOrder (λ l. (l.from ≡ l.to) × StandsTwice all l.from) found
+  pub whole : new ≡ old ++ map (fault_of kinds.TwoFiles) found
+
+-- what is wrong with a link, by the carriers and the links
+abbrev pub is_self_link : Link → Bool
+is_self_link l = same_address l.from l.to
+
+abbrev pub is_unknown : List Address → Link → Bool
+is_unknown carriers l = not (has_address carriers l.to)
+
+abbrev pub is_one_sided : List Address → List Link → Link → Bool
+is_one_sided carriers links l = has_address carriers l.to && not (has_link links (back l))
+
+-- the faults of these links and carriers were added
+pub record AddsLinkFaults (carriers : List Address) (links : List Link) (old new : List NetFault) : Type 0 where
+  pub twins : List Link
+  pub are_twins : AreLinksInOrder (λ l. HasTwin (Contains carriers) l.from l.to) twins
+  pub whole : new ≡ old ++ (map (fault_of kinds.SelfLink) (filter is_self_link links) ++ (map (fault_of kinds.Unknown) (filter (is_unknown carriers) links) ++ (map (fault_of kinds.OneSided) (filter (is_one_sided carriers links) links) ++ map (fault_of kinds.SameNetNode) twins)))
