@@ -37,12 +37,20 @@ work=$(mktemp -d)
 trap 'rm -rf "$work"' EXIT
 trap 'exit 3' HUP INT TERM
 
+# Runs the program, and passes on what it prints on standard error, but for the note that the area is still empty.
+run_noted() {
+  ended=0
+  "$program" "$@" 2> "$work/notes" || ended=$?
+  grep -v '^echonet: note: no message of area ' "$work/notes" >&2 || true
+  return $ended
+}
+
 # Adds what is new in the base. Words: the folder or the JAM base, the file with the number of the next message.
 add_new() {
   if [ ! -e "$station/base" ]; then return; fi
   from=0
   if [ -e "$2" ]; then from=$(cat "$2"); fi
-  "$program" export --explain "$form" "$1" --area "$area" --from "$from" "$station/base" > "$work/told"
+  run_noted export --explain "$form" "$1" --area "$area" --from "$from" "$station/base" > "$work/told"
   next=$(sed -n 's/^exported [0-9]* messages, next \([0-9]*\)$/\1/p' "$work/told")
   if [ -z "$next" ]; then exit 3; fi
   printf '%s\n' "$next" > "$2.new"
@@ -70,7 +78,7 @@ read_base() {
   if [ ! -e "$station/base" ]; then return; fi
   {
     listed=0
-    "$program" list --explain --area "$area" "$station/base" || listed=$?
+    run_noted list --explain --area "$area" "$station/base" || listed=$?
     echo $listed > "$work/listed"
   } | awk '
     /^message / { head = $4 "\t" ($5 == "posted") }

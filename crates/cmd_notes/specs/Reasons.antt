@@ -138,6 +138,7 @@ reason_text (reason.TooLong long) = long_reason long
 reason_text (reason.Word wrong) = form_reason wrong
 reason_text (reason.NoArea tag links) = codes "no area " ++ (printed_word tag.now ++ (codes " in " ++ printed_word links.now))
 reason_text (reason.NoMessage number count) = codes "no message " ++ (decimal number ++ (codes ", the base has " ++ decimal count))
+reason_text (reason.NoneOfArea tag base) = codes "no message of area " ++ (printed_word tag.now ++ (codes " in " ++ printed_word base.now))
 
 -- The line of a note.
 abbrev pub reason_line : Reason → List ℕ

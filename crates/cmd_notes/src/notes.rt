@@ -8,7 +8,7 @@ use crate::packets::explain_packets;
 use crate::reasons::{PathState, Reason, State, WordForm, push_note};
 use crate::states::Usage;
 use crate::word_notes::{
-    explain_area, explain_fields, explain_index, explain_moment, explain_word,
+    explain_area, explain_fields, explain_index, explain_moment, explain_word, has_none_of,
 };
 use cmd_input::{MAX_TEXT_FILE, names_of, read_file};
 use cmd_status::{Fault, print_rest};
@@ -101,6 +101,7 @@ impl<'a> Noted<'a> {
         }
         if printed.is_empty() {
             self.tell_no_folder(errors);
+            tell_none_of_area(self.rt, self.words, errors);
         }
     }
 
@@ -117,6 +118,20 @@ impl<'a> Noted<'a> {
 /// Whether something has the path.
 pub(crate) fn is_there(rt: &HostRuntime, path: &str) -> bool {
     matches!(fs::exists(rt, path), Ok(true))
+}
+
+// Says that a command that ended well had no message of its area to print.
+fn tell_none_of_area<E: Sink>(rt: &HostRuntime, words: &Words<'_>, errors: &mut E) {
+    let (area, base) = match words {
+        Words::List(words) => (words.area, words.base),
+        Words::Export(words) => (words.area, words.base),
+        _ => return,
+    };
+    if let Some(tag) = area {
+        if has_none_of(rt, base, tag) {
+            tell(rt, Reason::NoneOfArea(tag, base), errors);
+        }
+    }
 }
 
 // The path, if nothing is there.

@@ -31,6 +31,8 @@ pub enum Reason<'a> {
     NoArea(&'a str, &'a str),
     /// The base has no message of this number, but so many messages.
     NoMessage(u64, u64),
+    /// No message of the base with this path, which comes second, has the area of this tag.
+    NoneOfArea(&'a str, &'a str),
 }
 
 /// A line of a link file with this path: its fault, which has its number, and the wrong word in it.
@@ -135,6 +137,7 @@ fn push_reason(lines: &mut Vec<u8>, why: Reason<'_>) -> Result<(), AllocError>
         Reason::Word(wrong) => push_form(lines, wrong),
         Reason::NoArea(tag, links) => push_no_area(lines, tag, links),
         Reason::NoMessage(number, count) => push_no_message(lines, number, count),
+        Reason::NoneOfArea(tag, base) => push_none_of_area(lines, tag, base),
     }
 }
 
@@ -336,4 +339,13 @@ fn push_no_message(lines: &mut Vec<u8>, number: u64, count: u64) -> Result<(), A
     ensures { OnOk result (lines.new.items ≡ lines.old.items ++ (codes "no message " ++ (decimal number ++ (codes ", the base has " ++ decimal count)))) }
 {
     written(write!(lines, "no message {number}, the base has {count}"))
+}
+
+fn push_none_of_area(lines: &mut Vec<u8>, tag: &str, base: &str) -> Result<(), AllocError>
+    ensures { OnOk result (lines.new.items ≡ lines.old.items ++ (codes "no message of area " ++ (printed_word tag.now ++ (codes " in " ++ printed_word base.now)))) }
+{
+    lines.extend_from_slice(b"no message of area ")?;
+    push_word(lines, tag.as_bytes())?;
+    lines.extend_from_slice(b" in ")?;
+    push_word(lines, base.as_bytes())
 }

@@ -8,7 +8,9 @@ use cmd_status::{Fault, number_of};
 use cmd_words::ReplyWords;
 use disk_io::Sink;
 use echo_packet::{Field, MAX_NAME, MAX_SUBJECT};
+use memchr::memmem;
 use model_steps::PostFault;
+use std::alloc::{AllocError, Global};
 use std::collections::hash_map::RandomState;
 
 /// A word of another form.
@@ -95,8 +97,50 @@ fn count_of(rt: &HostRuntime, path: &str) -> Option<u64> {
     if !is_there(rt, path) {
         return Some(0);
     }
+    Some(base_at(rt, path)?.len() as u64)
+}
+
+fn base_at(rt: &HostRuntime, path: &str) -> Option<Base<RandomState>> {
+    base_of(rt, &base_bytes(rt, path).ok()?)
+}
+
+// The base of a base file.
+fn base_of(rt: &HostRuntime, bytes: &[u8]) -> Option<Base<RandomState>> {
     let hasher = RandomState::new(rt).ok()?;
+    Base::load(rt.alloc(), &mut &*bytes, hasher).ok()
+}
+
+/// Whether a base that can be read has no message of an area, whose tag is in letters of either case.
+pub(crate) fn has_none_of(rt: &HostRuntime, path: &str, tag: &str) -> bool {
+    matches!(none_of(rt, path, tag), Some(true))
+}
+
+// The same. Most often the bytes have a line of the area, and the base is not read whole.
+fn none_of(rt: &HostRuntime, path: &str, tag: &str) -> Option<bool> {
+    let tag = tag.as_bytes().to_ascii_uppercase(rt.alloc()).ok()?;
     let bytes = base_bytes(rt, path).ok()?;
-    let base = Base::load(rt.alloc(), &mut bytes.as_slice(), hasher).ok()?;
-    Some(base.len() as u64)
+    let line = area_line(rt.alloc(), &tag).ok()?;
+    if memmem::find(&bytes, &line).is_some() {
+        return Some(false);
+    }
+    Some(lacks_area(&base_of(rt, &bytes)?, &tag))
+}
+
+// The line of a message that names its area.
+fn area_line(alloc: Global, tag: &[u8]) -> Result<Vec<u8>, AllocError> {
+    let mut line = Vec::from_slice(alloc, b"AREA:")?;
+    line.extend_from_slice(tag)?;
+    line.push(b'\r')?;
+    Ok(line)
+}
+
+fn lacks_area(base: &Base<RandomState>, tag: &[u8]) -> bool {
+    'messages: for i in 0..base.len() {
+        if let Some(message) = base.message(i) {
+            if message.echo.tag.as_slice() == tag {
+                return false;
+            }
+        }
+    }
+    true
 }
