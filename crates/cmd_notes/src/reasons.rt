@@ -329,10 +329,17 @@ fn form_expectation(form: WordForm) -> &'static [u8]
 fn push_no_area(lines: &mut Vec<u8>, tag: &str, links: &str) -> Result<(), AllocError>
     ensures { OnOk result (lines.new.items ≡ lines.old.items ++ (codes "no area " ++ (printed_word tag.now ++ (codes " in " ++ printed_word links.now)))) }
 {
-    lines.extend_from_slice(b"no area ")?;
+    push_area_in(lines, b"no area ", tag, links)
+}
+
+// These words, an area, and where it was looked for.
+fn push_area_in(lines: &mut Vec<u8>, words: &[u8], tag: &str, place: &str) -> Result<(), AllocError>
+    ensures { OnOk result (lines.new.items ≡ lines.old.items ++ (words.now ++ (printed_word tag.now ++ (codes " in " ++ printed_word place.now)))) }
+{
+    lines.extend_from_slice(words)?;
     push_word(lines, tag.as_bytes())?;
     lines.extend_from_slice(b" in ")?;
-    push_word(lines, links.as_bytes())
+    push_word(lines, place.as_bytes())
 }
 
 fn push_no_message(lines: &mut Vec<u8>, number: u64, count: u64) -> Result<(), AllocError>
@@ -344,8 +351,5 @@ fn push_no_message(lines: &mut Vec<u8>, number: u64, count: u64) -> Result<(), A
 fn push_none_of_area(lines: &mut Vec<u8>, tag: &str, base: &str) -> Result<(), AllocError>
     ensures { OnOk result (lines.new.items ≡ lines.old.items ++ (codes "no message of area " ++ (printed_word tag.now ++ (codes " in " ++ printed_word base.now)))) }
 {
-    lines.extend_from_slice(b"no message of area ")?;
-    push_word(lines, tag.as_bytes())?;
-    lines.extend_from_slice(b" in ")?;
-    push_word(lines, base.as_bytes())
+    push_area_in(lines, b"no message of area ", tag, base)
 }
