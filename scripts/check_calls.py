@@ -16,6 +16,7 @@ CHANGES = {
     "disk_system/owned": "the owner of a file that replaces another",
     "disk_system/writing": "whole new files",
     "cmd_base/base_files": "calls of RealDisk, passed on; mode and owner of a base file",
+    "cmd_base/outbound_note": "the note of the folder of packets, in a base folder",
     "cmd_base/hard_links": "copies of files that a snapshot shares, before a base folder is opened",
     "cmd_base/scan_files": "calls of RealDisk, passed on; packets under temporary names",
     "cmd_input/converting": "convert into a file",

@@ -474,5 +474,25 @@ done
 wait
 same "postings with two link files" "end 41 messages, 41 waiting" "$(end_of nine/base)"
 
+# A stopped scan left a packet. A base folder refuses a scan into another folder until one into the first finishes it.
+scan_into() { "$program" scan --at 2026-07-03T12:34:56 ten/links ten/base "ten/$1" > printed.txt 2>&1; }
+if [ "$kind" = folders ]; then
+  mkdir -p ten/base ten/first ten/second
+  cp one/links ten/links
+  post_at First ten/links ten/base > posted.txt
+  scan_into first
+  mv ten/first/1.10.2.0.pkt 'ten/first/1.10.2.0.pkt.~1.10.1~.new'
+  post_at Second ten/links ten/base > posted.txt
+  status=0
+  scan_into second || status=$?
+  same "a scan into another folder" "3 echonet: cannot use ten/second" "$status $(cat printed.txt)"
+  same "nothing is sent" "end 2 messages, 1 waiting 0" "$(end_of ten/base) $(ls ten/second | wc -l)"
+  scan_into ./first
+  same "the stopped scan is finished" "1.10.2.0.pkt 1.10.2.1.pkt" "$(ls ten/first | xargs)"
+  post_at Third ten/links ten/base > posted.txt
+  scan_into second
+  same "then the folder may change" 1.10.2.2.pkt "$(ls ten/second)"
+fi
+
 echo "$passed checks passed, $failed failed"
 [ $failed -eq 0 ]

@@ -1,5 +1,6 @@
 //! The files of the system for a command that replaces a base file. The staging file gets the mode and owner of the
-//! base file. It replaces no file except one that a stopped run left, and it is removed if the command fails.
+//! base file, and its own lock. It replaces no file except one that a stopped run left, and it is removed if the command
+//! fails. The lock of a file that became the base file is held as long as these files.
 
 use cmd_input::BASE_START;
 use disk_system::{Access, OutputFault, access_of, check_left, give_access, make_new};
@@ -19,6 +20,8 @@ pub struct BaseFiles<'r> {
     rt: &'r HostRuntime,
     // The staging file of the base file, until it replaces that.
     made: Cell<Option<Made>>,
+    // The file that replaced the base file. It stays open for its lock.
+    placed: Cell<Option<Made>>,
 }
 
 /// A file that was made, which stays open.
@@ -33,6 +36,7 @@ impl<'r> BaseFiles<'r> {
         BaseFiles {
             rt,
             made: Cell::new(None),
+            placed: Cell::new(None),
         }
     }
 
@@ -52,10 +56,12 @@ impl<'r> BaseFiles<'r> {
         access_of(self.rt, target).map_err(system_error)
     }
 
-    // Makes the staging file with the mode of another, and with its owner if that is allowed.
+    // Makes the staging file with the mode of another, and with its owner if that is allowed. No other run has this
+    // new file, so it is locked at once, where files have locks.
     fn make(&self, path: &str, target: &str) -> io::Result<File> {
         let access = self.access_at(target)?;
         let made = self.new_file(path)?;
+        let _ = made.file.try_lock();
         let file = made.opened_with(access);
         self.made.set(Some(made));
         file
@@ -158,10 +164,10 @@ impl Files for BaseFiles<'_> {
         self.rt.copy(from, to)
     }
 
-    // The new file replaces the old one.
+    // The new file replaces the old one, and is locked like that.
     fn rename(&self, from: &str, to: &str) -> io::Result<()> {
         self.rt.rename(from, to)?;
-        self.made.set(None);
+        self.placed.set(self.made.take());
         Ok(())
     }
 

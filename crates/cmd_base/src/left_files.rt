@@ -112,7 +112,12 @@ fn packets_staging(
     }
 }
 
-fn packets_in(rt: &HostRuntime, folder: &str, own: &str) -> Result<Vec<StagedPacket>, DiskError> {
+/// The packets of the system of this own name in staging files of the folder.
+pub(crate) fn packets_in(
+    rt: &HostRuntime,
+    folder: &str,
+    own: &str,
+) -> Result<Vec<StagedPacket>, DiskError> {
     let mut found = Vec::new(rt.alloc());
     push_packets(rt, folder, own, &mut found)?;
     Ok(found)

@@ -4,7 +4,7 @@
 //!
 //! `scan_files` adds the packets of a scan, `left_files` lists those of earlier scans. For a base folder, `hard_links`
 //! keeps snapshots unchanged, `found` is its state before it is opened, and `opened` is work on the open folder.
-//! `expecting` has the keys of the messages that `toss` will read.
+//! `expecting` has the keys of the messages that `toss` will read, `outbound_note` the folder of packets.
 #![tactic(auto)]
 
 mod base_files;
@@ -13,6 +13,7 @@ mod found;
 mod hard_links;
 mod left_files;
 mod opened;
+mod outbound_note;
 mod scan_files;
 
 pub use base_files::BaseFiles;

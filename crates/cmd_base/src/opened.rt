@@ -2,6 +2,7 @@
 ghost use Rattle.std.specs.Prelude.{◌≡◌, Some};
 
 use crate::expecting::expected_keys;
+use crate::outbound_note::note_outbound;
 use base_folder_store::FolderStore;
 use base_store::{SipDigest, Store};
 use cmd_input::{Tossing, flush_name, lead_to_one};
@@ -47,13 +48,27 @@ impl<'a, 'b, 'r> Opened<'a, 'b, 'r> {
     }
 
     // Whether the folder can be used: its name is synced if it has no messages, and packets do not go into it.
-    fn settle(&self, messages: usize) -> Result<(), Fault<'a>> {
+    fn settle(&self, messages: usize, owner: Option<u64>) -> Result<(), Fault<'a>> {
         if let Some(outbound) = self.outbound {
             if lead_to_one(self.rt, self.base, outbound) {
                 return Err(Fault::CannotUse(outbound));
             }
+            self.note(messages, owner, outbound)?;
         }
         flush_name(self.rt, self.base, messages)
+    }
+
+    // Notes the folder of packets, if there may be packets.
+    fn note(
+        &self,
+        messages: usize,
+        owner: Option<u64>,
+        outbound: &'a str,
+    ) -> Result<(), Fault<'a>> {
+        match owner {
+            Some(owner) if messages > 0 => note_outbound(self.rt, self.base, outbound, owner),
+            _ => Ok(()),
+        }
     }
 
     // The keys of the messages in the packets, if a folder with so many messages needs them.
@@ -75,7 +90,7 @@ impl<'a, D: Disk> BeforeCommand<'a, FolderStore<D, SipDigest>> for Opened<'a, '_
     fn prepare(&mut self, store: &mut FolderStore<D, SipDigest>) -> Result<(), Fault<'a>> {
         let keys = self.keys(store.len());
         store.expect(&keys);
-        match self.settle(store.len()) {
+        match self.settle(store.len(), store.owner()) {
             Ok(()) => Ok(()),
             Err(fault) => {
                 self.met = Some(fault);
