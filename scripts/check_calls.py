@@ -34,7 +34,7 @@ READS = {
     "cmd_base/left_files": "the list of earlier packets",
     "cmd_input/folders": "whether BASE is a folder, and the names in it",
     "cmd_input/locks": "locks",
-    "cmd_input/packets": "the packets of toss",
+    "cmd_input/packets": "large packets of toss",
     "cmd_notes/file_notes": "files read again for a note on them",
     "cmd_read/files": "the files of commands that read",
     "cmd_notes/notes": "the lists of files that a note is about",
@@ -46,6 +46,7 @@ READS = {
 OVER_ANY_DISK = {
     "run_command": "station",
     "run_scan": "station_scan",
+    "packets_on_disk": "station",
     "links_at": "station",
     "lock_links": "station",
     "log_end": "base_folder",

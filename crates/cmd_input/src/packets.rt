@@ -1,22 +1,22 @@
-//! The packet files of `toss`.
-
-ghost use Rattle.std.specs.Prelude.{map};
-ghost use Rattle.cmd_report.specs.Coming.{Unknown};
+//! The packet files of `toss`: their names, and the reader of those that are too large to be held in memory.
 
 use crate::inputs::input_fault;
 use crate::paths::PathName;
 use crate::progress::{Progress, share_of};
-use cmd_report::PacketFiles;
 use cmd_status::Fault;
 use disk_io::{Buffered, Watched};
 use disk_system::open_regular;
 use echo_packet::Limits;
+use station::StreamPackets;
 use std::fs::File;
 use std::io;
 use std::io::Read;
 
-/// The most bytes of a packet file that are read at once.
+/// The most bytes of a packet file that are read at once, if it is not read whole.
 const BUFFER: usize = 65_536;
+
+/// The percentage of a packet that was read whole.
+const WHOLE: u128 = 100;
 
 /// How packets are tossed: the names of their files, their limits, and whether each message that is not filed is
 /// printed.
@@ -27,51 +27,46 @@ pub struct Tossing<'a> {
     pub each: bool,
 }
 
-/// The packet files with these names, and their number in all. Each is opened when its turn comes.
+/// Packet files that are read piece by piece, and the progress of so many packets.
 #[derive(Drop)]
-pub struct PacketPaths<'r> {
+pub struct PacketStreams<'r> {
     pub rt: &'r HostRuntime,
-    pub names: &'r [PathName],
     pub packets: usize,
     pub progress: &'r Progress<'r>,
 }
 
-impl<'r> PacketFiles<'r> for PacketPaths<'r> {
+impl<'r> StreamPackets<'r> for PacketStreams<'r> {
     type Reader = Buffered<Watched<PacketInput<'r>>>;
 
-    ghost coming = { λ packets. map (λ _. Unknown) packets.names.now };
-
-    fn open_next(&mut self) -> Option<Result<Buffered<Watched<PacketInput<'r>>>, Fault<'r>>> {
-        let names: &'r [PathName] = self.names;
-        if names.is_empty() {
-            return None;
-        }
-        self.names = &names[1..];
-        Some(packet_reader(self, &names[0]))
+    fn open(
+        &self,
+        number: usize,
+        path: &'r str,
+    ) -> Result<Buffered<Watched<PacketInput<'r>>>, Fault<'r>> {
+        let input = packet_input(self, number, path)?;
+        Ok(Buffered::new(self.rt.alloc(), Watched::new(input), BUFFER)?)
     }
-}
 
-// A reader of the packet file with this name.
-fn packet_reader<'r>(
-    packets: &PacketPaths<'r>,
-    name: &'r PathName,
-) -> Result<Buffered<Watched<PacketInput<'r>>>, Fault<'r>> {
-    let input = packet_input(packets, name.path()?)?;
-    Ok(Buffered::new(packets.rt.alloc(), Watched::new(input), BUFFER)?)
+    fn tell(&self, number: usize) {
+        if self.progress.is_due() {
+            self.progress.tell_packet(number, self.packets, WHOLE);
+        }
+    }
 }
 
 // The packet file with this path, which must be a regular file.
 fn packet_input<'r>(
-    packets: &PacketPaths<'r>,
+    streams: &PacketStreams<'r>,
+    number: usize,
     path: &'r str,
 ) -> Result<PacketInput<'r>, Fault<'r>> {
-    match open_regular(packets.rt, path) {
+    match open_regular(streams.rt, path) {
         Ok(file) => Ok(PacketInput {
             file,
             read: 0,
-            number: packets.packets.saturating_sub(packets.names.len()),
-            packets: packets.packets,
-            progress: packets.progress,
+            number,
+            packets: streams.packets,
+            progress: streams.progress,
         }),
         Err(fault) => Err(input_fault(fault, path)),
     }

@@ -1,9 +1,11 @@
 //! The paths of files: words of the command line, or lines of a list.
+ghost use Rattle.std.specs.Prelude.{string_bytes};
 
 use crate::inputs::{MAX_INPUT, read_given};
 use cmd_status::Fault;
 use cmd_words::Paths;
 use echo_charset::push_word;
+use station::PacketName;
 use std::alloc::AllocError;
 use std::str;
 
@@ -25,6 +27,16 @@ impl PathName {
 
     /// The path to open.
     pub fn path(&self) -> Result<&str, Fault<'_>> {
+        PacketName::path(self)
+    }
+}
+
+impl PacketName for PathName {
+    ghost path = { λ name. string_bytes name.shown };
+
+    ghost is_usable = { λ name. name.is_text };
+
+    fn path(&self) -> Result<&str, Fault<'_>> {
         let path = self.shown.as_str();
         if self.is_text {
             Ok(path)

@@ -1,25 +1,30 @@
 -- Packet files that are opened one after the other.
 use Rattle.std.specs.Prelude.{◌≡◌, ℕ, ◌⊎◌, List, [], ◌∷◌, Option, Some, None, Result, Ok, Err}
 use Rattle.cmd_status.specs.declared.fault.Fault.{Fault}
-use Rattle.cmd_status.specs.declared.fault.Fault.TheVariants.{OutOfMemory}
+use Rattle.cmd_status.specs.declared.fault.Fault.TheVariants.{CannotUse, OutOfMemory}
 
--- The fact known of a packet file before it is opened: its bytes, or why it cannot be used, or neither.
+-- The file with this path cannot be used.
+abbrev pub IsCannotUse : List ℕ → Fault → Type 0
+IsCannotUse path (CannotUse other) = other.now ≡ path
+IsCannotUse path _ = ⊥
+
+-- The fact known of a packet file before it is opened: its bytes, or that it cannot be used at this path, or neither.
 pub data Coming : Type 0 where
   Holds : (bytes : List ℕ) → Coming
-  Fails : (why : Fault) → Coming
+  Fails : (path : List ℕ) → Coming
   Unknown : Coming
 
 -- A file is opened, and what reads it has just its bytes, or the file cannot be used. There may be no memory for that.
 abbrev pub Opens : {R : Type 0} → (R → Option (List ℕ)) → Coming → Result R Fault → Type 0
 Opens remaining (Holds bytes) (Ok reader) = remaining reader ≡ Some bytes
 Opens remaining (Holds bytes) (Err fault) = fault ≡ OutOfMemory
-Opens remaining (Fails why) (Ok reader) = ⊥
-Opens remaining (Fails why) (Err fault) = (fault ≡ why) ⊎ (fault ≡ OutOfMemory)
+Opens remaining (Fails path) (Ok reader) = ⊥
+Opens remaining (Fails path) (Err fault) = IsCannotUse path fault ⊎ (fault ≡ OutOfMemory)
 Opens remaining Unknown answer = Unit {0}
 
--- the first of the files that are to come is opened, and the later ones are still to come
-abbrev pub OpensNext : {R : Type 0} → (R → Option (List ℕ)) → List Coming → List Coming → Option (Result R Fault) → Type 0
-OpensNext remaining [] left None = left ≡ []
-OpensNext remaining [] left (Some answer) = ⊥
-OpensNext remaining (file ∷ later) left None = ⊥
-OpensNext remaining (file ∷ later) left (Some answer) = (left ≡ later) × Opens remaining file answer
+-- the first of the files that are to come is opened, as it is if the answers are honest, and the later ones are still to come
+abbrev pub OpensNext : {R : Type 0} → Type 0 → (R → Option (List ℕ)) → List Coming → List Coming → Option (Result R Fault) → Type 0
+OpensNext honest remaining [] left None = left ≡ []
+OpensNext honest remaining [] left (Some answer) = ⊥
+OpensNext honest remaining (file ∷ later) left None = ⊥
+OpensNext honest remaining (file ∷ later) left (Some answer) = (left ≡ later) × (honest → Opens remaining file answer)

@@ -4,13 +4,14 @@ ghost use Rattle.station.specs.Opening.{AreFree};
 
 use crate::place::{Place, Station, find_base, locks_of};
 use crate::running::{Before, by_name, run_on};
-use cmd_input::{PacketPaths, PathNames, Progress, Tossing, names_of};
+use cmd_input::{PacketStreams, PathNames, Progress, Tossing, names_of};
 use cmd_status::{Fault, LIMITS, Status, limits_for, number_of};
 use cmd_store::Toss;
 use cmd_words::TossWords;
 use disk_io::Sink;
+use disk_system::{RealDisk, Unknown};
 use echo_packet::Limits;
-use station::{FileLock, Locks};
+use station::{FileLock, Locks, packets_on_disk};
 
 /// `toss`: the limit of a text is judged first. A list of packets is read before the lock is taken, and each packet file
 /// is opened when its turn comes. A fault of a packet is reported once the base is committed.
@@ -73,12 +74,13 @@ fn toss_at<'a, L: FileLock, K: FileLock, W: Sink>(
     requires { AreFree (L.held locks.old.links) (K.held locks.old.base) }
     ensures passed { OnOk result (unread.entry ≡ None) }
 {
-    let packets = PacketPaths {
+    let streams = PacketStreams {
         rt: at.rt,
-        names: by.names,
         packets: by.names.len(),
         progress,
     };
+    let disk = RealDisk::new(at.rt, Unknown);
+    let packets = packets_on_disk(at.rt.alloc(), disk, by.names, streams);
     let before = Before {
         toss: if unread.is_none() { Some(by) } else { None },
         progress: Some(progress),

@@ -17,23 +17,25 @@ use Rattle.base_store.proofs.Runs.{commits_none, goes_on_twice, looks_commit, lo
 use Rattle.echo_toss.specs.PacketsIn.{state_in}
 use Rattle.cmd_store.specs.Tossed.{TossesFiles, TossesNext, run_at, stopped_in}
 
--- what the files that are left do at the base that the store holds, all files do at the base that it held first
-abbrev pub GoesTo : {R : Type 0} → Bool → Limits → (R → Device) → LinkFile → Base → Base → List Coming → List Coming → List ℕ → List ℕ → Type 0
-GoesTo noting limits device file base next files left lines more =
-    (stopped : Option Fault) (rest : List Coming) (new : TossRun) → TossesEachBy (TossesPacketBy noting) device left (run_at limits file next more) stopped rest new
-    → TossesEachBy (TossesPacketBy noting) device files (run_at limits file base lines) stopped rest new
+-- What the files that are left do at the base that the store holds, all files do at the base that it held first. This holds for
+-- any later files whose honesty is that of the present ones, too.
+abbrev pub GoesTo : {P R : Type 0} → (P → Type 0) → Bool → Limits → (R → Device) → LinkFile → Base → Base → List Coming → List Coming → List ℕ → List ℕ → P → Type 0
+GoesTo {P} honest noting limits device file base next files left lines more at =
+    (last : P) → (honest last → honest at) → (stopped : Option Fault) (rest : List Coming) (new : TossRun)
+    → TossesEachBy (honest last) (TossesPacketBy noting) device left (run_at limits file next more) stopped rest new
+    → TossesEachBy (honest last) (TossesPacketBy noting) device files (run_at limits file base lines) stopped rest new
 
 -- files were tossed into the store, which went on, and some are left
-pub record HasTossedFiles {R : Type 0} (noting : Bool) (limits : Limits) (device : R → Device) (file : LinkFile) (old mid : StoreState) (first now : ℕ) (files left : List Coming) (lines more : List ℕ) : Type 0 where
-  pub each : Honestly mid.disk ((base : Base) → old.keeps base → (next : Base) × mid.keeps next × GoesTo noting limits device file base next files left lines more)
+pub record HasTossedFiles {P R : Type 0} (honest : P → Type 0) (noting : Bool) (limits : Limits) (device : R → Device) (file : LinkFile) (old mid : StoreState) (first now : ℕ) (files left : List Coming) (lines more : List ℕ) (at : P) : Type 0 where
+  pub each : Honestly mid.disk ((base : Base) → old.keeps base → (next : Base) × mid.keeps next × GoesTo honest noting limits device file base next files left lines more at)
   pub on : GoesOn old mid
   pub commits : CommitsNothing old mid
   pub later : first ≤ now
 
-pub begun_files : {R : Type 0} (noting : Bool) (limits : Limits) (device : R → Device) (file : LinkFile) (old : StoreState) (first : ℕ) (files : List Coming) (lines : List ℕ) → old.is_ready
-    → HasTossedFiles noting limits device file old old first first files files lines lines
-begun_files noting limits device file old first files lines ready = record {
-  each = λ honest base kept. (base, kept, λ stopped rest new each. each);
+pub begun_files : {P R : Type 0} (honest : P → Type 0) (noting : Bool) (limits : Limits) (device : R → Device) (file : LinkFile) (old : StoreState) (first : ℕ) (files : List Coming) (lines : List ℕ) (at : P) → old.is_ready
+    → HasTossedFiles honest noting limits device file old old first first files files lines lines at
+begun_files honest noting limits device file old first files lines at ready = record {
+  each = λ is_honest base kept. (base, kept, λ last was stopped rest new each. each);
   on = looks_go_on old old (no_look old ready);
   commits = looks_commit old old ready (no_look old ready);
   later = omega arith;
@@ -46,65 +48,82 @@ run_is limits file next lines run one two three =
     ∙ ap (λ (l : List ℕ). record { limits = limits; system = state_in file next; lines = l }) three
 
 -- the packet of one file more was tossed whole
-pub more_files : {R : Type 0} (noting : Bool) (limits : Limits) (device : R → Device) (file : LinkFile) (old mid new : StoreState) (first now then : ℕ) (files left later : List Coming) (lines more all : List ℕ) (reader behind : R)
-    → HasTossedFiles noting limits device file old mid first now files left lines more → OpensNext (λ r. (device r).contents) left later (Some (Ok reader))
+pub more_files : {P R : Type 0} (honest : P → Type 0) (noting : Bool) (limits : Limits) (device : R → Device) (file : LinkFile) (old mid new : StoreState) (first now then : ℕ) (files left later : List Coming) (lines more all : List ℕ) (at opens : P) (reader behind : R)
+    → HasTossedFiles honest noting limits device file old mid first now files left lines more at → (honest opens → honest at)
+    → OpensNext (honest opens) (λ r. (device r).contents) left later (Some (Ok reader))
     → Honestly new.disk ((base : Base) → mid.keeps base → TossesNext noting limits file base (device reader) (device behind) more all (Ok None) new)
-    → GoesOn mid new → CommitsNothing mid new → now ≤ then → HasTossedFiles noting limits device file old new first then files later lines all
-more_files noting limits device file old mid new first now then files left later lines more all reader behind so opened tossed on commits le = record {
-  each = λ honest base kept.
-      let was = so.each (on.honest honest) base kept in
-      let t = tossed honest was.0 was.1 in
-      let whole = subst (λ (r : TossRun). TossesPacketBy noting (run_at limits file was.0 more) (device reader) (device behind) None r) (run_is limits file t.next all t.run t.same t.state t.added) t.packet in (
+    → GoesOn mid new → CommitsNothing mid new → now ≤ then → HasTossedFiles honest noting limits device file old new first then files later lines all opens
+more_files {P} honest noting limits device file old mid new first now then files left later lines more all at opens reader behind so was opened tossed on commits le = record {
+  each = λ is_honest base kept.
+      let kept_so = so.each (on.honest is_honest) base kept in
+      let t = tossed is_honest kept_so.0 kept_so.1 in
+      let whole = subst (λ (r : TossRun). TossesPacketBy noting (run_at limits file kept_so.0 more) (device reader) (device behind) None r) (run_is limits file t.next all t.run t.same t.state t.added) t.packet in (
         t.next,
         t.keeps,
-        λ stopped rest run each. was.2 stopped rest run
-            (each_more (TossesPacketBy noting) device left later reader behind (run_at limits file was.0 more) (run_at limits file t.next all) stopped rest run opened whole each),
+        λ last fit stopped rest run each. kept_so.2 last (λ is. was (fit is)) stopped rest run
+            (each_more (honest last) (honest opens) (TossesPacketBy noting) device left later reader behind
+            (run_at limits file kept_so.0 more) (run_at limits file t.next all) stopped rest run fit opened whole each),
       );
   on = goes_on_twice old mid new so.on on;
   commits = commits_none old mid new so.commits so.on commits;
-  later = let before = so.later in omega (arith, before, le);
+  later = let earlier = so.later in omega (arith, earlier, le);
 }
 
 -- the packet of the next file stopped the run
-pub stopped_files : {R : Type 0} (noting : Bool) (limits : Limits) (device : R → Device) (file : LinkFile) (old mid new : StoreState) (first now : ℕ) (files left later : List Coming) (lines more all : List ℕ) (reader behind : R)
-    (fault : Fault) (result : Result (Option Fault) StoreError) (base : Base) → HasTossedFiles noting limits device file old mid first now files left lines more → OpensNext (λ r. (device r).contents) left later (Some (Ok reader))
+pub stopped_files : {P R : Type 0} (honest : P → Type 0) (noting : Bool) (limits : Limits) (device : R → Device) (file : LinkFile) (old mid new : StoreState) (first now : ℕ) (files left later : List Coming) (lines more all : List ℕ) (at opens : P) (reader behind : R)
+    (fault : Fault) (result : Result (Option Fault) StoreError) (base : Base) → HasTossedFiles honest noting limits device file old mid first now files left lines more at → (honest opens → honest at)
+    → OpensNext (honest opens) (λ r. (device r).contents) left later (Some (Ok reader))
     → ((b : Base) → mid.keeps b → TossesNext noting limits file b (device reader) (device behind) more all result new) → stopped_in result ≡ Some fault
-    → mid.disk.is_honest → old.keeps base → TossesFiles noting limits device file base files later lines all result new
-stopped_files noting limits device file old mid new first now files left later lines more all reader behind fault result base so opened tossed is honest kept =
-    let was = so.each honest base kept in
-    let t = tossed was.0 was.1 in
-    let packet = subst (λ (s : Option Fault). TossesPacketBy noting (run_at limits file was.0 more) (device reader) (device behind) s t.run) is t.packet in
+    → mid.disk.is_honest → old.keeps base → TossesFiles (honest opens) noting limits device file base files later lines all result new
+stopped_files honest noting limits device file old mid new first now files left later lines more all at opens reader behind fault result base so was opened tossed is is_honest kept =
+    let kept_so = so.each is_honest base kept in
+    let t = tossed kept_so.0 kept_so.1 in
+    let packet = subst (λ (s : Option Fault). TossesPacketBy noting (run_at limits file kept_so.0 more) (device reader) (device behind) s t.run) is t.packet in
     record {
       next = t.next;
       run = t.run;
-      each = subst (λ (s : Option Fault). TossesEachBy (TossesPacketBy noting) device files (run_at limits file base lines) s later t.run) (sym is)
-          (was.2 (Some fault) later t.run (each_stopped (TossesPacketBy noting) device left later reader behind (run_at limits file was.0 more) t.run fault opened packet));
+      each = subst (λ (s : Option Fault). TossesEachBy (honest opens) (TossesPacketBy noting) device files (run_at limits file base lines) s later t.run) (sym is)
+          (kept_so.2 opens was (Some fault) later t.run
+          (each_stopped (honest opens) (honest opens) (TossesPacketBy noting) device left later reader behind (run_at limits file kept_so.0 more) t.run fault
+          (λ h. h) opened packet));
       state = t.state;
       added = t.added;
       keeps = t.keeps;
     }
 
 -- the next file cannot be used
-pub refused_files : {R : Type 0} (noting : Bool) (limits : Limits) (device : R → Device) (file : LinkFile) (old mid : StoreState) (first now : ℕ) (files left later : List Coming) (lines more : List ℕ) (fault : Fault) (base : Base)
-    → HasTossedFiles noting limits device file old mid first now files left lines more → OpensNext (λ (r : R). (device r).contents) left later (Some (Err fault))
-    → mid.disk.is_honest → old.keeps base → TossesFiles noting limits device file base files later lines more (Ok (Some fault)) mid
-refused_files noting limits device file old mid first now files left later lines more fault base so opened honest kept =
-    let was = so.each honest base kept in
-    let run = run_at limits file was.0 more in
+pub refused_files : {P R : Type 0} (honest : P → Type 0) (noting : Bool) (limits : Limits) (device : R → Device) (file : LinkFile) (old mid : StoreState) (first now : ℕ) (files left later : List Coming) (lines more : List ℕ) (at opens : P) (fault : Fault) (base : Base)
+    → HasTossedFiles honest noting limits device file old mid first now files left lines more at → (honest opens → honest at)
+    → OpensNext (honest opens) (λ (r : R). (device r).contents) left later (Some (Err fault))
+    → mid.disk.is_honest → old.keeps base → TossesFiles (honest opens) noting limits device file base files later lines more (Ok (Some fault)) mid
+refused_files honest noting limits device file old mid first now files left later lines more at opens fault base so was opened is_honest kept =
+    let kept_so = so.each is_honest base kept in
+    let run = run_at limits file kept_so.0 more in
     record {
-      next = was.0;
+      next = kept_so.0;
       run = run;
-      each = was.2 (Some fault) later run (each_refused (TossesPacketBy noting) device left later run fault opened);
+      each = kept_so.2 opens was (Some fault) later run
+          (each_refused (honest opens) (honest opens) (TossesPacketBy noting) device left later run fault
+          (λ h. h) opened);
       state = refl;
       added = refl;
-      keeps = was.1;
+      keeps = kept_so.1;
     }
 
 -- no file is left
-pub ended_files : {R : Type 0} (noting : Bool) (limits : Limits) (device : R → Device) (file : LinkFile) (old mid : StoreState) (first now : ℕ) (files left later : List Coming) (lines more : List ℕ) (base : Base)
-    → HasTossedFiles noting limits device file old mid first now files left lines more → OpensNext (λ (r : R). (device r).contents) left later None
-    → mid.disk.is_honest → old.keeps base → TossesFiles noting limits device file base files later lines more (Ok None) mid
-ended_files noting limits device file old mid first now files left later lines more base so opened honest kept =
-    let was = so.each honest base kept in
-    let run = run_at limits file was.0 more in
-    record { next = was.0; run = run; each = was.2 None later run (each_ended (TossesPacketBy noting) device left later run opened); state = refl; added = refl; keeps = was.1 }
+pub ended_files : {P R : Type 0} (honest : P → Type 0) (noting : Bool) (limits : Limits) (device : R → Device) (file : LinkFile) (old mid : StoreState) (first now : ℕ) (files left later : List Coming) (lines more : List ℕ) (at opens : P) (base : Base)
+    → HasTossedFiles honest noting limits device file old mid first now files left lines more at → (honest opens → honest at)
+    → OpensNext (honest opens) (λ (r : R). (device r).contents) left later None
+    → mid.disk.is_honest → old.keeps base → TossesFiles (honest opens) noting limits device file base files later lines more (Ok None) mid
+ended_files honest noting limits device file old mid first now files left later lines more at opens base so was opened is_honest kept =
+    let kept_so = so.each is_honest base kept in
+    let run = run_at limits file kept_so.0 more in
+    record {
+      next = kept_so.0;
+      run = run;
+      each = kept_so.2 opens was None later run
+          (each_ended (honest opens) (honest opens) (TossesPacketBy noting) device left later run opened);
+      state = refl;
+      added = refl;
+      keeps = kept_so.1;
+    }

@@ -2,7 +2,7 @@
 use Rattle.std.specs.Prelude.{◌≡◌, ℕ, List, Result, Ok, Err}
 use Rattle.base_file.specs.declared.fault.BaseFault.TheVariants.{TooMany}
 use Rattle.cmd_status.specs.declared.fault.Fault.{Fault}
-use Rattle.cmd_status.specs.declared.fault.Fault.TheVariants.{Base, CannotUse, OutOfMemory, Post, Scan}
+use Rattle.cmd_status.specs.declared.fault.Fault.TheVariants.{Base, OutOfMemory, Post, Scan}
 use Rattle.model_steps.specs.declared.fault.ScanFault.TheVariants as scan_fault
 use Rattle.base_store.specs.declared.store_error.StoreError.{StoreError}
 use Rattle.base_store.specs.declared.store_error.StoreError.TheVariants as error
@@ -10,6 +10,7 @@ use Rattle.echo_toss.specs.declared.step_error.PostStepError.{PostStepError}
 use Rattle.echo_toss.specs.declared.step_error.PostStepError.TheVariants as post
 use Rattle.echo_toss.specs.declared.step_error.ScanStepError.{ScanStepError}
 use Rattle.echo_toss.specs.declared.step_error.ScanStepError.TheVariants as scan
+use Rattle.cmd_report.specs.Coming.{IsCannotUse}
 use Rattle.cmd_store.specs.declared.command_error.CommandError.{CommandError}
 use Rattle.cmd_store.specs.declared.command_error.CommandError.TheVariants as stop
 
@@ -34,15 +35,10 @@ abbrev pub IsOfStore : CommandError → Type 0
 IsOfStore (stop.Met fault) = ⊥
 IsOfStore (stop.Store cause) = Unit {0}
 
--- The file at the path cannot be used.
-abbrev pub CannotUseAt : List ℕ → Fault → Type 0
-CannotUseAt path (CannotUse other) = other.now ≡ path
-CannotUseAt path _ = ⊥
-
 -- The fault that reports why a command stopped, with the store at the path.
 abbrev pub IsToldAs : List ℕ → CommandError → Fault → Type 0
 IsToldAs path (stop.Met fault) told = told ≡ fault
 IsToldAs path (stop.Store error.Memory) told = told ≡ OutOfMemory
 IsToldAs path (stop.Store error.TooMany) told = told ≡ Base TooMany
-IsToldAs path (stop.Store error.Device) told = CannotUseAt path told
-IsToldAs path (stop.Store error.Damaged) told = CannotUseAt path told
+IsToldAs path (stop.Store error.Device) told = IsCannotUse path told
+IsToldAs path (stop.Store error.Damaged) told = IsCannotUse path told

@@ -23,12 +23,13 @@ use Rattle.cmd_report.specs.Lines.{tally_line}
 use Rattle.cmd_store.specs.declared.command_error.CommandError.{CommandError}
 use Rattle.cmd_store.specs.declared.command_error.CommandError.TheVariants.{Met, Store}
 
--- The packet files, within these limits, are tossed at a system with this base, up to the first fault. Then it has the other base.
-pub record Tosses {R : Type 0} (noting : Bool) (limits : Limits) (device : R → Device) (file : LinkFile) (files : List Coming) (base next : Base) : Type 0 where
+-- The packet files, within these limits, are tossed at a system with this base, up to the first fault. Then it has the other base. They
+-- are the files that come if the answers of the files are honest.
+pub record Tosses {R : Type 0} (honest : Type 0) (noting : Bool) (limits : Limits) (device : R → Device) (file : LinkFile) (files : List Coming) (base next : Base) : Type 0 where
   pub stopped : Option Fault
   pub left : List Coming
   pub run : TossRun
-  pub each : TossesEachBy (TossesPacketBy noting) device files (run_begun limits (state_in file base)) stopped left run
+  pub each : TossesEachBy honest (TossesPacketBy noting) device files (run_begun limits (state_in file base)) stopped left run
   pub state : run.system ≡ state_in file next
 
 -- the lines of the run are out; where a fault stopped it, standard output may have failed after a beginning of them
@@ -79,10 +80,10 @@ pub record TossesNext (noting : Bool) (limits : Limits) (file : LinkFile) (base 
   pub keeps : OnOk result (new.keeps next)
 
 -- The same of packet files, up to the first fault.
-pub record TossesFiles {R : Type 0} (noting : Bool) (limits : Limits) (device : R → Device) (file : LinkFile) (base : Base) (files left : List Coming) (lines more : List ℕ) (result : Result (Option Fault) StoreError) (new : StoreState) : Type 0 where
+pub record TossesFiles {R : Type 0} (honest : Type 0) (noting : Bool) (limits : Limits) (device : R → Device) (file : LinkFile) (base : Base) (files left : List Coming) (lines more : List ℕ) (result : Result (Option Fault) StoreError) (new : StoreState) : Type 0 where
   pub next : Base
   pub run : TossRun
-  pub each : TossesEachBy (TossesPacketBy noting) device files (run_at limits file base lines) (stopped_in result) left run
+  pub each : TossesEachBy honest (TossesPacketBy noting) device files (run_at limits file base lines) (stopped_in result) left run
   pub state : run.system ≡ state_in file next
   pub added : OnOk result (run.lines ≡ more)
   pub keeps : OnOk result (new.keeps next)
@@ -93,23 +94,23 @@ HoldsCommitted s base = s.keeps base × s.committed base
 
 -- The packet files are tossed at a system with this base, some are left, and the lines of the packets are printed; the base after
 -- them is committed.
-pub record TossesOn {R : Type 0} (noting : Bool) (limits : Limits) (device : R → Device) (file : LinkFile) (base : Base) (files left : List Coming) (old new : Output) (result : Result (Option Fault) CommandError) (store : StoreState) : Type 0 where
+pub record TossesOn {R : Type 0} (honest : Type 0) (noting : Bool) (limits : Limits) (device : R → Device) (file : LinkFile) (base : Base) (files left : List Coming) (old new : Output) (result : Result (Option Fault) CommandError) (store : StoreState) : Type 0 where
   pub next : Base
   pub run : TossRun
   pub stopped : Option Fault
-  pub each : TossesEachBy (TossesPacketBy noting) device files (run_begun limits (state_in file base)) stopped left run
+  pub each : TossesEachBy honest (TossesPacketBy noting) device files (run_begun limits (state_in file base)) stopped left run
   pub state : run.system ≡ state_in file next
   pub ends : EndsOn run stopped old new result
   pub committed : OnOk result (HoldsCommitted store next)
 
 -- The packet files are tossed at a system with this base, some are left, and the lines of the packets are printed.
-pub record TossesIn {R : Type 0} (noting : Bool) (limits : Limits) (device : R → Device) (file : LinkFile) (base : Base) (files left : List Coming) (old new : Output) (result : Result (Option Fault) CommandError) : Type 0 where
+pub record TossesIn {R : Type 0} (honest : Type 0) (noting : Bool) (limits : Limits) (device : R → Device) (file : LinkFile) (base : Base) (files left : List Coming) (old new : Output) (result : Result (Option Fault) CommandError) : Type 0 where
   pub run : TossRun
   pub stopped : Option Fault
-  pub each : TossesEachBy (TossesPacketBy noting) device files (run_begun limits (state_in file base)) stopped left run
+  pub each : TossesEachBy honest (TossesPacketBy noting) device files (run_begun limits (state_in file base)) stopped left run
   pub ends : EndsOn run stopped old new result
 
 -- The same, and then the system has the other base.
-pub record TossesTo {R : Type 0} (noting : Bool) (limits : Limits) (device : R → Device) (file : LinkFile) (base : Base) (files left : List Coming) (old new : Output) (result : Result (Option Fault) CommandError) (next : Base) : Type 0 where
-  pub tossed : TossesIn noting limits device file base files left old new result
+pub record TossesTo {R : Type 0} (honest : Type 0) (noting : Bool) (limits : Limits) (device : R → Device) (file : LinkFile) (base : Base) (files left : List Coming) (old new : Output) (result : Result (Option Fault) CommandError) (next : Base) : Type 0 where
+  pub tossed : TossesIn honest noting limits device file base files left old new result
   pub state : tossed.run.system ≡ state_in file next

@@ -27,8 +27,8 @@ pub trait StoreCommand<'a> {
     // Which base it makes of this one, where it prints and answers this.
     ghost makes: { Self → Self → TheLinks → Base → Output → Output → Result Self.Answer TheStop → Base → Type 0 };
 
-    // Which base a crash may leave, if not the one that was committed before.
-    ghost may: { Self → TheLinks → Base → Base → Type 0 };
+    // Which base a crash may leave, if not the one that was committed before. The commands are that from before and after.
+    ghost may: { Self → Self → TheLinks → Base → Base → Type 0 };
 
     // Whether what the store held before may be committed where the command meets a fault.
     ghost commits_held: { Self → Bool };
@@ -48,6 +48,6 @@ pub trait StoreCommand<'a> {
             → OnOk result (HasCommitted (makes self.old self.new links.now base (output_of W.contents W.failures W.holds out.old) (output_of W.contents W.failures W.holds out.new) result) (T.state store.new))) }
         ensures ready { OnOk result (T.state store.new).is_ready }
         ensures met { IfErr result (StaysWhereMet (commits_held self.old) (T.state store.old) (T.state store.new)) }
-        ensures crash { MayMake (may self.old links.now) (T.state store.old) (T.state store.new) }
+        ensures crash { MayMake (may self.old self.new links.now) (T.state store.old) (T.state store.new) }
         ensures cause { HasStoreCause (T.state store.old) (T.state store.new) (T.failures store.old) (T.failures store.new) (store_answer result) };
 }

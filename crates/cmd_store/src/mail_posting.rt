@@ -40,7 +40,7 @@ impl<'a> StoreCommand<'a> for PostMail<'_> {
 
     ghost makes = { λ old new file base before after result. Mails file old.letter old.asked base };
 
-    ghost may = { λ self file. Mails file self.letter self.asked };
+    ghost may = { λ self _ file. Mails file self.letter self.asked };
 
     ghost commits_held = { λ self. false };
 

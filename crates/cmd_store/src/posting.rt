@@ -37,7 +37,7 @@ impl<'a> StoreCommand<'a> for Post<'_> {
 
     ghost makes = { λ old new file base before after result. PostsAs old.free file old.words old.body.now base };
 
-    ghost may = { λ self file. PostsAs self.free file self.words self.body.now };
+    ghost may = { λ self _ file. PostsAs self.free file self.words self.body.now };
 
     ghost commits_held = { λ self. false };
 

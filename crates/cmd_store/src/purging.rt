@@ -28,7 +28,7 @@ impl<'a> StoreCommand<'a> for Purge {
 
     ghost makes = { λ old new file base before after result. Purges base };
 
-    ghost may = { λ self file. HoldsOrPurges };
+    ghost may = { λ self _ file. HoldsOrPurges };
 
     ghost commits_held = { λ self. true };
 

@@ -34,7 +34,7 @@ impl<'a> StoreCommand<'a> for Reply<'_> {
 
     ghost makes = { λ old new file base before after result. Replies file old.index old.answer old.body.now base };
 
-    ghost may = { λ self file. Replies file self.index self.answer self.body.now };
+    ghost may = { λ self _ file. Replies file self.index self.answer self.body.now };
 
     ghost commits_held = { λ self. false };
 

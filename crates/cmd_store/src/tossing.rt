@@ -50,11 +50,11 @@ impl<'a, P: PacketFiles<'a>> Toss<'a, P> {
 impl<'a, P: PacketFiles<'a>> StoreCommand<'a> for Toss<'a, P> {
     type Answer = Option<Fault<'a>>;
 
-    ghost answers = { λ old new file base before after result. TossesIn old.noting old.limits (device_of P.Reader.remaining P.Reader.failures) file base (P.coming old.packets) (P.coming new.packets) before after result };
+    ghost answers = { λ old new file base before after result. TossesIn (P.is_honest new.packets) old.noting old.limits (device_of P.Reader.remaining P.Reader.failures) file base (P.coming old.packets) (P.coming new.packets) before after result };
 
-    ghost makes = { λ old new file base before after result. TossesTo old.noting old.limits (device_of P.Reader.remaining P.Reader.failures) file base (P.coming old.packets) (P.coming new.packets) before after result };
+    ghost makes = { λ old new file base before after result. TossesTo (P.is_honest new.packets) old.noting old.limits (device_of P.Reader.remaining P.Reader.failures) file base (P.coming old.packets) (P.coming new.packets) before after result };
 
-    ghost may = { λ self file. Tosses self.noting self.limits (device_of P.Reader.remaining P.Reader.failures) file (P.coming self.packets) };
+    ghost may = { λ old new file. Tosses (P.is_honest new.packets) old.noting old.limits (device_of P.Reader.remaining P.Reader.failures) file (P.coming old.packets) };
 
     ghost commits_held = { λ self. false };
 
@@ -92,11 +92,11 @@ fn toss_on<'a, T: Store, P: PacketFiles<'a>, W: Sink>(
 ) -> Result<Option<Fault<'a>>, CommandError<'a>>
     requires { (T.state store.old).is_ready }
     ensures answers { Honestly (T.state store.new).disk ((base : Base) → (T.state store.old).keeps base
-        → TossesOn noting limits (device_of P.Reader.remaining P.Reader.failures) links.now base (P.coming packets.old) (P.coming packets.new)
+        → TossesOn (P.is_honest packets.new) noting limits (device_of P.Reader.remaining P.Reader.failures) links.now base (P.coming packets.old) (P.coming packets.new)
         (output_of W.contents W.failures W.holds out.old) (output_of W.contents W.failures W.holds out.new) result (T.state store.new)) }
     ensures ready { OnOk result (T.state store.new).is_ready }
     ensures met { IfErr result (CommitsNoneWhereMet (T.state store.old) (T.state store.new)) }
-    ensures crash { MayMake (Tosses noting limits (device_of P.Reader.remaining P.Reader.failures) links.now (P.coming packets.old)) (T.state store.old) (T.state store.new) }
+    ensures crash { MayMake (Tosses (P.is_honest packets.new) noting limits (device_of P.Reader.remaining P.Reader.failures) links.now (P.coming packets.old)) (T.state store.old) (T.state store.new) }
     ensures cause { HasStoreCause (T.state store.old) (T.state store.new) (T.failures store.old) (T.failures store.new) (store_answer result) }
 {
     let mut lines = Vec::new(alloc);
@@ -133,7 +133,7 @@ fn toss_files<'a, T: Store, P: PacketFiles<'a>>(
 ) -> Result<Option<Fault<'a>>, StoreError>
     requires { (T.state store.old).is_ready }
     ensures tossed { Honestly (T.state store.new).disk ((base : Base) → (T.state store.old).keeps base
-        → TossesFiles noting limits (device_of P.Reader.remaining P.Reader.failures) links.now base (P.coming packets.old) (P.coming packets.new) lines.old.items lines.new.items result (T.state store.new)) }
+        → TossesFiles (P.is_honest packets.new) noting limits (device_of P.Reader.remaining P.Reader.failures) links.now base (P.coming packets.old) (P.coming packets.new) lines.old.items lines.new.items result (T.state store.new)) }
     ensures goes_on { OnOk result (GoesOn (T.state store.old) (T.state store.new)) }
     ensures commits { CommitsNothing (T.state store.old) (T.state store.new) }
     ensures cause { HasStoreCause (T.state store.old) (T.state store.new) (T.failures store.old) (T.failures store.new) result }

@@ -60,7 +60,7 @@ partly-cursor : (files : List Coming) (old new : SystemState) → AreAnyFiles fi
 partly-cursor [] old new any same = ap (λ (s : SystemState). s.cursor) same
 partly-cursor (Holds bytes ∷ files) old new any (inl same) = ap (λ (s : SystemState). s.cursor) same
 partly-cursor (Holds bytes ∷ files) old new any (inr front) = ap (λ (s : SystemState). s.cursor) front.state
-partly-cursor (Fails why ∷ files) old new any same = ap (λ (s : SystemState). s.cursor) same
+partly-cursor (Fails path ∷ files) old new any same = ap (λ (s : SystemState). s.cursor) same
 partly-cursor (Unknown ∷ files) old new any partly = absurd any
 
 tossed-cursor : (n : ℕ) (files : List Coming) (old new : SystemState) → AreAnyFiles files → TossedFiles n files old new → new.cursor ≡ old.cursor
@@ -68,7 +68,7 @@ tossed-cursor zero files old new any partly = partly-cursor files old new any pa
 tossed-cursor (suc n) [] old new any tossed = absurd tossed
 tossed-cursor (suc n) (Holds bytes ∷ files) old new any (mid, whole, more) =
     tossed-cursor n files mid new any more ∙ ap (λ (s : SystemState). s.cursor) whole.tossed_front.state
-tossed-cursor (suc n) (Fails why ∷ files) old new any tossed = absurd tossed.1
+tossed-cursor (suc n) (Fails path ∷ files) old new any tossed = absurd tossed.1
 tossed-cursor (suc n) (Unknown ∷ files) old new any tossed = absurd any
 
 -- a toss of any files

@@ -20,14 +20,14 @@ use Rattle.law_stations.proofs.Readings.{TossesFront, TossesPacketThere, TossesS
 -- the file was tossed whole
 abbrev pub IsWholly : Coming → SystemState → SystemState → Type 0
 IsWholly (Holds bytes) old new = TossesPacketThere bytes old new
-IsWholly (Fails why) old new = ⊥
+IsWholly (Fails path) old new = ⊥
 IsWholly Unknown old new = Unit {0}
 
 -- the first of the files, if there is one, stopped the run
 abbrev pub IsPartly : List Coming → SystemState → SystemState → Type 0
 IsPartly [] old new = new ≡ old
 IsPartly (Holds bytes ∷ later) old new = (new ≡ old) ⊎ TossesFront bytes old new
-IsPartly (Fails why ∷ later) old new = new ≡ old
+IsPartly (Fails path ∷ later) old new = new ≡ old
 IsPartly (Unknown ∷ later) old new = Unit {0}
 
 -- so many files were tossed whole, and then the run ended
@@ -67,14 +67,14 @@ same-run old new e = ap (λ (r : TossRun). r.system) e
 
 module _ (noting : Bool) where
   -- a file after which the run went on
-  went-on : (file : Coming) (old new : TossRun) → TossesFileBy (TossesPacketBy noting) itself file old None new → IsWholly file old.system new.system
+  went-on : (file : Coming) (old new : TossRun) → TossesFileBy (Unit {0}) (TossesPacketBy noting) itself file old None new → IsWholly file old.system new.system
   went-on Unknown old new tossed = tt
-  went-on (Fails why) old new (inl opened) = opened.opened
-  went-on (Fails why) old new (inr unopened) = none_some unopened.is
+  went-on (Fails path) old new (inl opened) = opened.opened tt
+  went-on (Fails path) old new (inr unopened) = none_some unopened.is
   went-on (Holds bytes) old new (inr unopened) = absurd (none_some unopened.is)
   went-on (Holds bytes) old new (inl opened) = elim (answered noting old opened.reader opened.left None new opened.packet) [
     | inl none ↦ absurd (none_some none.0)
-    | inr h ↦ by h.answer h.noted h.line (packet-so bytes old new None opened.reader opened.left opened.opened h)
+    | inr h ↦ by h.answer h.noted h.line (packet-so bytes old new None opened.reader opened.left (opened.opened tt) h)
   ]
     where
       by : (answer : Result Tally TossFault) (noted : List ℕ) → ReportsPacket noted new.lines answer None → TossesSo bytes old.system new.system answer
@@ -83,15 +83,15 @@ module _ (noting : Bool) where
       by (Err f) noted told so = absurd (none_some told.0)
 
   -- and one that stopped it
-  stopped-at : (file : Coming) (later : List Coming) (old new : TossRun) (fault : Fault) → TossesFileBy (TossesPacketBy noting) itself file old (Some fault) new
+  stopped-at : (file : Coming) (later : List Coming) (old new : TossRun) (fault : Fault) → TossesFileBy (Unit {0}) (TossesPacketBy noting) itself file old (Some fault) new
       → IsPartly (file ∷ later) old.system new.system
   stopped-at Unknown later old new fault tossed = tt
-  stopped-at (Fails why) later old new fault (inl opened) = absurd opened.opened
-  stopped-at (Fails why) later old new fault (inr unopened) = same-run old new unopened.same
+  stopped-at (Fails path) later old new fault (inl opened) = absurd (opened.opened tt)
+  stopped-at (Fails path) later old new fault (inr unopened) = same-run old new unopened.same
   stopped-at (Holds bytes) later old new fault (inr unopened) = inl (same-run old new unopened.same)
   stopped-at (Holds bytes) later old new fault (inl opened) = elim (answered noting old opened.reader opened.left (Some fault) new opened.packet) [
     | inl none ↦ inl (same-run old new none.1)
-    | inr h ↦ by h.answer h.noted h.line (packet-so bytes old new (Some fault) opened.reader opened.left opened.opened h)
+    | inr h ↦ by h.answer h.noted h.line (packet-so bytes old new (Some fault) opened.reader opened.left (opened.opened tt) h)
   ]
     where
       by : (answer : Result Tally TossFault) (noted : List ℕ) → ReportsPacket noted new.lines answer (Some fault) → TossesSo bytes old.system new.system answer
@@ -101,18 +101,18 @@ module _ (noting : Bool) where
 
   -- as many files are left as stand behind the last that was opened
   left-behind : (files : List Coming) (old : TossRun) (fault : Fault) (left : List Coming) (new : TossRun)
-      → TossesEachBy (TossesPacketBy noting) itself files old (Some fault) left new → length left + 1 ≤ length files
+      → TossesEachBy (Unit {0}) (TossesPacketBy noting) itself files old (Some fault) left new → length left + 1 ≤ length files
   left-behind [] old fault left new (none, rest, end) = absurd (none_some (sym none))
   left-behind (file ∷ files) old fault left new (inl (run, first, more)) = let less = left-behind files run fault left new more in omega (arith, less)
   left-behind (file ∷ files) old fault left new (inr (why, is, same, last)) = omega (arith, ap (λ (l : List Coming). length l) same)
 
   one-more : (files : List Coming) (old : TossRun) (stopped : Option Fault) (left : List Coming) (new : TossRun)
-      → TossesEachBy (TossesPacketBy noting) itself files old stopped left new → wholes (suc (length files)) stopped left ≡ suc (wholes (length files) stopped left)
+      → TossesEachBy (Unit {0}) (TossesPacketBy noting) itself files old stopped left new → wholes (suc (length files)) stopped left ≡ suc (wholes (length files) stopped left)
   one-more files old None left new each = refl
   one-more files old (Some fault) left new each = let less = left-behind files old fault left new each in omega (arith, less)
 
   pub each-tossed : (files : List Coming) (old : TossRun) (stopped : Option Fault) (left : List Coming) (new : TossRun)
-      → TossesEachBy (TossesPacketBy noting) itself files old stopped left new → TossedFiles (wholes (length files) stopped left) files old.system new.system
+      → TossesEachBy (Unit {0}) (TossesPacketBy noting) itself files old stopped left new → TossedFiles (wholes (length files) stopped left) files old.system new.system
   each-tossed [] old stopped left new (ended, none, end) =
       let T : Option Fault → Type 0 = λ o. TossedFiles (wholes 0 o left) [] old.system new.system in
       subst T (sym ended) (same-run old new end)
@@ -121,7 +121,7 @@ module _ (noting : Bool) where
       subst T (sym (one-more files mid stopped left new more)) (mid.system, went-on file old mid first, each-tossed files mid stopped left new more)
   each-tossed (file ∷ files) old stopped left new (inr (fault, is, rest, last)) =
       let T : ℕ → Type 0 = λ n. TossedFiles n (file ∷ files) old.system new.system in
-      let F : Option Fault → Type 0 = λ o. TossesFileBy (TossesPacketBy noting) itself file old o new in
+      let F : Option Fault → Type 0 = λ o. TossesFileBy (Unit {0}) (TossesPacketBy noting) itself file old o new in
       let W : Option Fault → Type 0 = λ o. wholes (suc (length files)) o left ≡ 0 in
       let none : wholes (suc (length files)) stopped left ≡ 0 = subst W (sym is) (omega (arith, ap (λ (l : List Coming). length l) rest)) in
       subst T (sym none) (stopped-at file files old new fault (subst F is last))

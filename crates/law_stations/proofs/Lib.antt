@@ -43,3 +43,4 @@ pub mod Seated
 pub mod Sequence
 pub mod GoingOn
 pub mod ScanSteps
+pub mod ShownPackets

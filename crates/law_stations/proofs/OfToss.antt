@@ -133,7 +133,7 @@ last-file i k later (Holds bytes) files net run new h at (inr t) =
       agrees = subst (Agrees (with_tossed net i (base_in new) [])) (sym becomes) (took.agrees []);
       as_filed = λ j at. subst (λ (r : Run). AsFiledAt j r.systems) (sym becomes) (took.as_filed j at);
     }
-last-file i k later (Fails why) files net run new h at same = nothing (AreTossesOf (k ∷ later)) (none-tossed (k ∷ later)) i net run new h same
+last-file i k later (Fails path) files net run new h at same = nothing (AreTossesOf (k ∷ later)) (none-tossed (k ∷ later)) i net run new h same
 last-file i k later Unknown files net run new h at same = absurd at
 
 -- all packet files of a toss
@@ -144,7 +144,7 @@ each-toss n i (k ∷ later) [] net run new h are tossed = absurd are
 each-toss zero i [] [] net run new h are same = nothing (AreTossesOf []) refl i net run new h same
 each-toss (suc n) i [] [] net run new h are tossed = absurd tossed
 each-toss zero i (k ∷ later) (file ∷ files) net run new h are partly = last-file i k later file files net run new h are.0 partly
-each-toss (suc n) i (k ∷ later) (Fails why ∷ files) net run new h are tossed = absurd tossed.1
+each-toss (suc n) i (k ∷ later) (Fails path ∷ files) net run new h are tossed = absurd tossed.1
 each-toss (suc n) i (k ∷ later) (Unknown ∷ files) net run new h are tossed = absurd are.0
 each-toss (suc n) i (k ∷ later) (Holds bytes ∷ files) net run new h are (mid, w, more) =
     let (p, there, is) = paired-nth IsPacketFile k bytes net.packets run.packets h.agrees.packets are.0 in

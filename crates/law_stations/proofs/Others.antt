@@ -94,7 +94,7 @@ is-placed packets named places j bytes paired at =
 -- the files that `toss` is given are those of the places
 file-at : (packets named : List (List ℕ)) (places : List ℕ) (j : ℕ) (file : Coming) → Paired (IsItem packets) named places → IsPacketAt named j file → IsPacketAt packets (place_at places j) file
 file-at packets named places j (Holds bytes) paired at = let p = is-placed packets named places j bytes paired at in p.there
-file-at packets named places j (Fails why) paired at = tt
+file-at packets named places j (Fails path) paired at = tt
 file-at packets named places j Unknown paired at = absurd at
 
 files-at : (packets named : List (List ℕ)) (places indexes : List ℕ) (files : List Coming) → Paired (IsItem packets) named places → Paired (IsPacketAt named) indexes files
@@ -111,7 +111,7 @@ partly-cursor : (packets : List (List ℕ)) (indexes : List ℕ) (files : List C
 partly-cursor packets indexes [] old new are same = ap (λ (s : SystemState). s.cursor) same
 partly-cursor packets indexes (Holds bytes ∷ files) old new are (inl same) = ap (λ (s : SystemState). s.cursor) same
 partly-cursor packets indexes (Holds bytes ∷ files) old new are (inr front) = ap (λ (s : SystemState). s.cursor) front.state
-partly-cursor packets indexes (Fails why ∷ files) old new are same = ap (λ (s : SystemState). s.cursor) same
+partly-cursor packets indexes (Fails path ∷ files) old new are same = ap (λ (s : SystemState). s.cursor) same
 partly-cursor packets [] (Unknown ∷ files) old new are partly = absurd are
 partly-cursor packets (k ∷ indexes) (Unknown ∷ files) old new are partly = absurd are.0
 
@@ -122,7 +122,7 @@ tossed-cursor (suc n) packets indexes [] old new are tossed = absurd tossed
 tossed-cursor (suc n) packets [] (file ∷ files) old new are tossed = absurd are
 tossed-cursor (suc n) packets (k ∷ indexes) (Holds bytes ∷ files) old new are (mid, whole, more) =
     tossed-cursor n packets indexes files mid new are.1 more ∙ ap (λ (s : SystemState). s.cursor) whole.tossed_front.state
-tossed-cursor (suc n) packets (k ∷ indexes) (Fails why ∷ files) old new are tossed = absurd tossed.1
+tossed-cursor (suc n) packets (k ∷ indexes) (Fails path ∷ files) old new are tossed = absurd tossed.1
 tossed-cursor (suc n) packets (k ∷ indexes) (Unknown ∷ files) old new are tossed = absurd are.0
 
 -- and those that it tossed whole are there
@@ -135,7 +135,7 @@ tossed-there (suc n) packets (k ∷ indexes) (Holds bytes ∷ files) old new are
   | inl e ↦ (bytes, ap (λ (i : ℕ). nth i packets) e ∙ are.0)
   | inr t ↦ tossed-there n packets indexes files mid new are.1 more j t
 ]
-tossed-there (suc n) packets (k ∷ indexes) (Fails why ∷ files) old new are tossed j h = absurd tossed.1
+tossed-there (suc n) packets (k ∷ indexes) (Fails path ∷ files) old new are tossed j h = absurd tossed.1
 tossed-there (suc n) packets (k ∷ indexes) (Unknown ∷ files) old new are tossed j h = absurd are.0
 
 -- the places of those that were tossed whole

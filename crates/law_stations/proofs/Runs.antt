@@ -85,14 +85,14 @@ module _ (place : Place) (Reads : LinkFile → Type 0) (IsShut Stops : Fault →
       (λ file base. MailsOn letter asked (state_in file base) out out_now result) (λ file. Mails file letter asked) (λ file. Mails file letter asked)
       Reads read IsShut Stops failed result (λ file next says mails. inr (leads file next says mails)) leads out out_now runs
 
-  module _ {R : Type 0} (noting : Bool) (limits : Limits) (device : R → Device)
-      (known : (file : LinkFile) (files : List Coming) (base next : Base) → Tosses noting limits device file files base next → TossesAll files file base next)
-      (answered : (file : LinkFile) (files left : List Coming) (base next : Base) (answer : Option Fault) → TossesTo noting limits device file base files left out out_now (Ok answer) next
+  module _ {R : Type 0} (honest : Type 0) (noting : Bool) (limits : Limits) (device : R → Device)
+      (known : (file : LinkFile) (files : List Coming) (base next : Base) → Tosses honest noting limits device file files base next → TossesAll files file base next)
+      (answered : (file : LinkFile) (files left : List Coming) (base next : Base) (answer : Option Fault) → TossesTo honest noting limits device file base files left out out_now (Ok answer) next
       → (all : TossesAll files file base next) × (all.stopped ≡ answer) × (all.left ≡ left)) (files left : List Coming) (result : Result (Option Fault) CommandError) where
     -- a toss that was run
     abbrev TossRuns : Type 0
     TossRuns =
-        RunsIn (λ file base. TossesIn noting limits device file base files left out out_now result) (λ file base. TossesTo noting limits device file base files left out out_now result) (λ file. Tosses noting limits device file files)
+        RunsIn (λ file base. TossesIn honest noting limits device file base files left out out_now result) (λ file base. TossesTo honest noting limits device file base files left out out_now result) (λ file. Tosses honest noting limits device file files)
         place Reads IsShut Stops failed old new out out_now result
 
     module _ (indexes : List ℕ) (i : ℕ) (d : Disks) (links : List ℕ) (are : Paired (IsPacketAt d.net.packets) indexes files) (read : ReadsLinks Reads links old) (at : IsStationAt place links i old d) where
@@ -104,10 +104,10 @@ module _ (place : Place) (Reads : LinkFile → Type 0) (IsShut Stops : Fault →
       ended answer ok (inl run) =
           let says = says-so place links i d old new at kept Reads read run.file run.read in
           let on = run.runs base at.shows.stands in
-          let it : IsKept place (TossesTo noting limits device run.file base files left out out_now result) new =
-          subst (λ (r : Result (Option Fault) CommandError). OnOk r (IsKept place (TossesTo noting limits device run.file base files left out out_now result) new)) ok on.kept in
+          let it : IsKept place (TossesTo honest noting limits device run.file base files left out out_now result) new =
+          subst (λ (r : Result (Option Fault) CommandError). OnOk r (IsKept place (TossesTo honest noting limits device run.file base files left out out_now result) new)) ok on.kept in
           let (all, stopped, behind) =
-          answered run.file files left base it.next answer (subst (λ (r : Result (Option Fault) CommandError). TossesTo noting limits device run.file base files left out out_now r it.next) ok it.made) in
+          answered run.file files left base it.next answer (subst (λ (r : Result (Option Fault) CommandError). TossesTo honest noting limits device run.file base files left out out_now r it.next) ok it.made) in
           record {
             at = is-after place links i d old new at kept (IsToss indexes) it.next (tossing at.shows.station run.file i d at.shows.there says files indexes it.next are all) it.seen it.stands;
             delivered = delivered-so indexes d.net.delivered all.stopped answer all.left left stopped behind;
@@ -117,12 +117,12 @@ module _ (place : Place) (Reads : LinkFile → Type 0) (IsShut Stops : Fault →
 
       toss-at : TossRuns → TossesAsEvent indexes left place links i d old new result
       toss-at runs =
-          let leads = λ (file : LinkFile) (next : Base) (says : LinksOf at.shows.station.links (Ok file)) (tosses : Tosses noting limits device file files base next).
+          let leads = λ (file : LinkFile) (next : Base) (says : LinksOf at.shows.station.links (Ok file)) (tosses : Tosses honest noting limits device file files base next).
           tossing at.shows.station file i d at.shows.there says files indexes next are (known file files base next tosses) in
           record {
             does =
                 does place links i d old new at kept (IsToss indexes)
-                (λ file b. TossesIn noting limits device file b files left out out_now result) (λ file b. TossesTo noting limits device file b files left out out_now result) (λ file. Tosses noting limits device file files)
+                (λ file b. TossesIn honest noting limits device file b files left out out_now result) (λ file b. TossesTo honest noting limits device file b files left out out_now result) (λ file. Tosses honest noting limits device file files)
                 Reads read IsShut Stops failed result
                 (λ file next says tosses. inr (leads file next says tosses))
                 (λ file next says to. leads file next says (record { stopped = to.tossed.stopped; left = left; run = to.tossed.run; each = to.tossed.each; state = to.state })) out out_now runs;

@@ -150,7 +150,7 @@ last-file : (files : List Coming) (z : System) (new : SystemState) → AreAnyFil
     → TossesFrom (held_in files) [] z new
 last-file [] z new any fits base same = nothing [] z new base same
 last-file (Unknown ∷ files) z new any fits base partly = absurd any
-last-file (Fails why ∷ files) z new any fits base same = nothing (held_in files) z new base same
+last-file (Fails path ∷ files) z new any fits base same = nothing (held_in files) z new base same
 last-file (Holds bytes ∷ files) z new any fits base (inl same) = nothing (bytes ∷ held_in files) z new base same
 last-file (Holds bytes ∷ files) z new any fits base (inr t) = fronted bytes (held_in files) [] z new fits base t (λ b h. absurd h)
 
@@ -159,7 +159,7 @@ pub files-tossed : (n : ℕ) (files : List Coming) (z : System) (new : SystemSta
 files-tossed zero files z new any fits base partly = last-file files z new any fits base partly
 files-tossed (suc n) [] z new any fits base tossed = absurd tossed
 files-tossed (suc n) (Unknown ∷ files) z new any fits base tossed = absurd any
-files-tossed (suc n) (Fails why ∷ files) z new any fits base tossed = absurd tossed.1
+files-tossed (suc n) (Fails path ∷ files) z new any fits base tossed = absurd tossed.1
 files-tossed (suc n) (Holds bytes ∷ files) z new any fits base (mid, whole, more) =
     let front = whole.tossed_front in
     let events = TossHere (sender_of z.file front.header) front.messages ∷ [] in

@@ -67,7 +67,7 @@ itself reader = reader
 -- An input of `toss` is the packet file of the index, or cannot be used.
 abbrev pub IsPacketAt : List (List ℕ) → ℕ → Coming → Type 0
 IsPacketAt packets k (Holds bytes) = nth k packets ≡ Some bytes
-IsPacketAt packets k (Fails why) = Unit {0}
+IsPacketAt packets k (Fails path) = Unit {0}
 IsPacketAt packets k Unknown = ⊥
 
 -- The indexes of the packets that were tossed whole: all if nothing stopped the run, otherwise those before the one
@@ -76,14 +76,15 @@ abbrev pub whole_of : List ℕ → Option Fault → List Coming → List ℕ
 whole_of indexes None left = indexes
 whole_of indexes (Some fault) left = take (length indexes - (length left + 1)) indexes
 
--- Files are tossed at a system with this base, in order, with notes or without, up to the first fault; then it has the other.
+-- Files are tossed at a system with this base, in order, with notes or without, up to the first fault; then it has the other. The files
+-- are what is known of them.
 pub record TossesAll (files : List Coming) (file : LinkFile) (base next : Base) : Type 0 where
   pub noting : Bool
   pub limits : Limits
   pub run : TossRun
   pub stopped : Option Fault
   pub left : List Coming
-  pub each : TossesEachBy (TossesPacketBy noting) itself files (run_begun limits (state_in file base)) stopped left run
+  pub each : TossesEachBy (Unit {0}) (TossesPacketBy noting) itself files (run_begun limits (state_in file base)) stopped left run
   pub state : run.system ≡ state_in file next
 
 -- `toss` commits the filed messages, even if a fault ended its run

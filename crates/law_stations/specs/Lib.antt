@@ -20,3 +20,4 @@ pub mod Steps
 pub mod Asked
 pub mod Scanned
 pub mod Sequences
+pub mod ShownPackets

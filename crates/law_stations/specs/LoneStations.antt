@@ -25,14 +25,14 @@ lone_station_at_first links = record { net = first_net (links ∷ []); came = []
 abbrev pub held_in : List Coming → List (List ℕ)
 held_in [] = []
 held_in (Holds bytes ∷ later) = bytes ∷ held_in later
-held_in (Fails why ∷ later) = held_in later
+held_in (Fails path ∷ later) = held_in later
 held_in (Unknown ∷ later) = held_in later
 
 -- Each file holds some bytes, whichever, or cannot be used.
 abbrev pub AreAnyFiles : List Coming → Type 0
 AreAnyFiles [] = Unit {0}
 AreAnyFiles (Holds bytes ∷ later) = AreAnyFiles later
-AreAnyFiles (Fails why ∷ later) = AreAnyFiles later
+AreAnyFiles (Fails path ∷ later) = AreAnyFiles later
 AreAnyFiles (Unknown ∷ later) = ⊥
 
 -- The files that were tossed whole: all where nothing stopped the run, else those before the one that did.

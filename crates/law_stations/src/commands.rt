@@ -5,7 +5,6 @@ ghost use Rattle.law_stations.specs.Kinds.{IsPurge};
 ghost use Rattle.law_stations.specs.DiskKinds.{IsMail, IsPostAs, IsReplyAs};
 ghost use Rattle.law_stations.specs.OnDisks.{AsMay, StaysWhereMet, TossesAsMay};
 
-use crate::{tosses_answer_what_stopped_them, tosses_are_what_is_known};
 use cmd_report::PacketFiles;
 use cmd_status::Fault;
 use cmd_store::{Post, PostMail, Purge, Reply, Toss};
@@ -123,8 +122,8 @@ pub fn mail_as_may<
     run_command(alloc, disk, locks, station, before, command, out)
 }
 
-/// The same for `toss` of packet files of the net, with or without notes, whatever reads them. If it ended well, it
-/// tossed whole exactly the packets before the one that its answer names.
+/// The same for `toss` of packet files of the net, with or without notes, whatever reads them, if the files were honest.
+/// If it ended well, it tossed whole exactly the packets before the one that its answer names.
 pub fn toss_as_may<
     'a,
     D: Disk,
@@ -145,11 +144,9 @@ pub fn toss_as_may<
 ) -> Ended<'a, D, Option<Fault<'a>>>
     requires free { AreFree (L.held locks.old.links) (K.held locks.old.base) }
     requires can { Honestly (D.state disk) (P.can_open station (D.state disk)) }
-    ensures does { Honestly (D.state result.disk) (TossesAsMay (F.coming command.old.packets) (F.coming command.new.packets) (P.place station) (P.reads station (D.state disk)) (D.state disk) (D.state result.disk) result.done) }
+    ensures does { Honestly (D.state result.disk) (F.is_honest command.new.packets → TossesAsMay (F.coming command.old.packets) (F.coming command.new.packets) (P.place station) (P.reads station (D.state disk)) (D.state disk) (D.state result.disk) result.done) }
     ensures stays { let failed = HaveFailed (D.failures disk) (D.failures result.disk) (L.failures locks.old.links) (L.failures locks.new.links) (K.failures locks.old.base) (K.failures locks.new.base) in
         Honestly (D.state result.disk) (StaysWhereMet (P.place station) (P.is_shut station failed (D.state disk) (D.state result.disk)) (D.state disk) (D.state result.disk) result.done) }
 {
-    tosses_are_what_is_known::<F::Reader>();
-    tosses_answer_what_stopped_them::<F::Reader>();
     run_command(alloc, disk, locks, station, before, command, out)
 }

@@ -1,10 +1,15 @@
-//! What holds of stations that share a disk. The law is the contract of a function that does nothing.
+//! What holds of files on disks: stations that share one, and packet files. Each law is the contract of a function that
+//! does nothing.
 ghost use Rattle.std.specs.Prelude.{ℕ, List};
+ghost use Rattle.law_stations.specs.Commands.{IsPacketAt};
+ghost use Rattle.law_stations.specs.Nets.{Paired};
+ghost use Rattle.law_stations.specs.ShownPackets.{IsShownAt};
 ghost use Rattle.law_stations.specs.Neighbours.{OthersStay};
 ghost use Rattle.law_stations.specs.Scans.{with_packets_in};
 
+use cmd_report::PacketFiles;
 use disk_io::Disk;
-use station::OpenStation;
+use station::{OpenStation, PacketName, PacketsOnDisk, StreamPackets};
 
 /// A command on a station leaves the rest of the disk as it was. So another station of the net keeps its place: its
 /// link file and base are elsewhere and synced, and a crash at any time leaves them there. The same holds for a scan,
@@ -17,4 +22,13 @@ pub fn others_stay<'a, D: Disk, P: OpenStation<'a, D>, O: OpenStation<'a, D>>(
 )
     ensures command { OthersStay (P.place _station.now) (O.place _other.now) (D.state _old.now) (D.state _new.now) }
     ensures scan { (outbound : List ℕ) → OthersStay (with_packets_in outbound (P.place _station.now)) (O.place _other.now) (D.state _old.now) (D.state _new.now) }
+{}
+
+/// Packet files on a disk are packets of a net if the disk shows just their bytes, at most a MiB each. Some may be missing.
+/// This is the premise of `toss_as_may`.
+pub fn shown_packets_are_known<'a, D: Disk + Drop, N: PacketName, S: StreamPackets<'a>>(
+    _files: &PacketsOnDisk<'a, D, N, S>,
+)
+    ensures { (packets : List (List ℕ)) (indexes : List ℕ) → Paired (λ k name. IsShownAt packets (D.state _files.now.disk).seen k (N.is_usable name) (N.path name)) indexes _files.now.names.now
+        → Paired (IsPacketAt packets) indexes (⟦<PacketsOnDisk<'a, D, N, S> as PacketFiles<'a>>⟧.coming _files.now) }
 {}

@@ -12,20 +12,20 @@ ghost use Rattle.law_stations.specs.Agreement.{EventIsEvents, EventsAreARun};
 ghost use Rattle.law_stations.specs.Commands.{TossesAll};
 ghost use Rattle.law_stations.specs.InOrder.{HeadlineOnNets, NetsAreSound};
 
-use disk_io::Source;
+use cmd_report::PacketFiles;
 
-/// `toss` does the same over any readers as over the known bytes of them: the same fault stops it, and the same
-/// files remain.
-pub fn tosses_are_what_is_known<R: Source>()
-    ensures { (noting : Bool) (limits : Limits) (file : LinkFile) (files : List Coming) (base next : Base) →
-        (toss : Tosses noting limits (device_of R.remaining R.failures) file files base next) →
+/// `toss` of files that are honest at the end does the same over any readers as over the known bytes of them: the same
+/// fault stops it, and the same files remain.
+pub fn tosses_are_what_is_known<'a, F: PacketFiles<'a>>(_files: &F)
+    ensures { F.is_honest _files.now → (noting : Bool) (limits : Limits) (file : LinkFile) (files : List Coming) (base next : Base) →
+        (toss : Tosses (F.is_honest _files.now) noting limits (device_of F.Reader.remaining F.Reader.failures) file files base next) →
         (known : TossesAll files file base next) × (known.stopped ≡ toss.stopped) × (known.left ≡ toss.left) }
 {}
 
 /// The answer of `toss`, if its store did not fail, is the fault that stopped it.
-pub fn tosses_answer_what_stopped_them<R: Source>()
-    ensures { (noting : Bool) (limits : Limits) (file : LinkFile) (files left : List Coming) (base next : Base) (old new : Output) (answer : Option Fault) →
-        TossesTo noting limits (device_of R.remaining R.failures) file base files left old new (Ok answer) next →
+pub fn tosses_answer_what_stopped_them<'a, F: PacketFiles<'a>>(_files: &F)
+    ensures { F.is_honest _files.now → (noting : Bool) (limits : Limits) (file : LinkFile) (files left : List Coming) (base next : Base) (old new : Output) (answer : Option Fault) →
+        TossesTo (F.is_honest _files.now) noting limits (device_of F.Reader.remaining F.Reader.failures) file base files left old new (Ok answer) next →
         (known : TossesAll files file base next) × (known.stopped ≡ answer) × (known.left ≡ left) }
 {}
 

@@ -15,9 +15,9 @@
 //! For commands on disks: a crash leaves of a command what the law over crashes allows (`commands`, `scanning`,
 //! `disk_laws`). After any steps of a sequence, the disks show a net of the headline over crashes (`sequence_laws`).
 //! Begin with specs/: `DiskKinds` (which command events a command may be), `OnDisks` (a link file and a base on a disk
-//! as those of a station), `Scans` (the same with the packets of a scan) and `Neighbours` (other stations on the same
-//! disk). Then `Seats` (stations on disks), `Steps` (the effect of a step), `Asked` and `Scanned` (which steps commands
-//! are) and `Sequences` (the promise).
+//! as those of a station), `Scans` (the same with the packets of a scan), `ShownPackets` (the packet files of `toss`) and
+//! `Neighbours` (other stations on the same disk). Then `Seats` (stations on disks), `Steps` (the effect of a step),
+//! `Asked` and `Scanned` (which steps commands are) and `Sequences` (the promise).
 #![tactic(auto)]
 
 mod commands;
@@ -33,7 +33,7 @@ pub use crash_laws::{
     crashes_are_none, left_packets_can_end, nets_are_in_order_over_crashes,
     nets_are_sound_over_crashes, whole_commands_are_among_them,
 };
-pub use disk_laws::others_stay;
+pub use disk_laws::{others_stay, shown_packets_are_known};
 pub use laws::{
     command_is_events, commands_are_a_run, nets_are_in_order, nets_are_sound,
     tosses_answer_what_stopped_them, tosses_are_what_is_known,

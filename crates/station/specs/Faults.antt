@@ -5,12 +5,8 @@ use Rattle.disk_io.specs.Disk.{DiskState, bytes_in}
 use Rattle.disk_io.specs.declared.disk_error.DiskError.{DiskError}
 use Rattle.disk_io.specs.declared.disk_error.DiskError.TheVariants as disk_error
 use Rattle.cmd_status.specs.declared.fault.Fault.{Fault}
-use Rattle.cmd_status.specs.declared.fault.Fault.TheVariants.{CannotUse, OutOfMemory, TooLarge}
-
--- The file with this path cannot be used.
-abbrev pub IsCannotUse : List ℕ → Fault → Type 0
-IsCannotUse path (CannotUse other) = other.now ≡ path
-IsCannotUse path _ = ⊥
+use Rattle.cmd_status.specs.declared.fault.Fault.TheVariants.{OutOfMemory, TooLarge}
+use Rattle.cmd_report.specs.Coming.{IsCannotUse}
 
 -- The file with this path has more bytes than allowed.
 abbrev pub IsTooLarge : List ℕ → Fault → Type 0

@@ -5,3 +5,6 @@ pub mod Beneath
 pub mod Opening
 pub mod Place
 pub mod Running
+pub mod PacketReader
+pub mod PacketsOnDisk
+pub mod PacketsFound

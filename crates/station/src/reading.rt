@@ -24,7 +24,7 @@ pub(crate) fn fault_at(cause: DiskError, path: &str) -> Fault<'_>
 }
 
 // The size of the file; none if it does not exist.
-fn size_of<D: Disk>(disk: &mut D, path: &[u8]) -> Result<Option<usize>, DiskError>
+pub(crate) fn size_of<D: Disk>(disk: &mut D, path: &[u8]) -> Result<Option<usize>, DiskError>
     ensures size { Honestly (D.state disk.new) (IfOk result (HasSize ((D.state disk.old).seen path.now))) }
     ensures quiet { ChangesNothing (D.state disk.old) (D.state disk.new) }
     ensures cause { HasCause (D.failures disk.old) (D.failures disk.new) result }

@@ -48,7 +48,7 @@ pub fn run_command<
         Honestly (D.state result.disk) (RunsIn
         (λ file base. C.answers command.old command.new file base (output_of W.contents W.failures W.holds out.old) (output_of W.contents W.failures W.holds out.new) result.done)
         (λ file base. C.makes command.old command.new file base (output_of W.contents W.failures W.holds out.old) (output_of W.contents W.failures W.holds out.new) result.done)
-        (C.may command.old)
+        (C.may command.old command.new)
         (P.place station)
         (P.reads station (D.state disk))
         (P.is_shut station failed (D.state disk) (D.state result.disk))

@@ -19,9 +19,10 @@ fn packets_in_memory(rt: HostRuntime) -> Result<(), Fail> {
     let links = LinkFile::read(alloc, b"SYSTEM 1:10/2\n")?;
     let hasher: BuildHasherDefault<FoldHasher> = BuildHasherDefault::default();
     let mut store = MemoryStore::new(Base::new(alloc, hasher));
-    tosses_are_what_is_known::<&[u8]>();
     let packets = [EMPTY];
-    let mut toss = Toss::new(Limits::NONE, false, packets.as_slice());
+    let packets = packets.as_slice();
+    tosses_are_what_is_known(&packets);
+    let mut toss = Toss::new(Limits::NONE, false, packets);
     let stopped = toss.run(alloc, &links, &mut store, &mut out)?;
     let mut file = Watched::new(Vec::new(alloc));
     store.base().save(&mut file)?;

@@ -4,32 +4,32 @@ use Rattle.cmd_store.proofs.tossing.toss_files.Goals as goal
 
 pub files-init : goal.files-init
 files-init g c =
-    begun_files c.args.noting c.args.limits (device_of g.P.Reader.Read.remaining g.P.Reader.Source.failures) c.args.links.now (g.T.Store.state c.args.store.now) (g.T.Store.failures c.args.store.now)
-    (g.P.PacketFiles.coming c.args.packets.now) c.args.lines.now.items c.requires
+    begun_files g.P.PacketFiles.is_honest c.args.noting c.args.limits (device_of g.P.Reader.Read.remaining g.P.Reader.Source.failures) c.args.links.now (g.T.Store.state c.args.store.now) (g.T.Store.failures c.args.store.now)
+    (g.P.PacketFiles.coming c.args.packets.now) c.args.lines.now.items c.args.packets.now c.requires
 
 pub files-preserved : goal.files-preserved
 files-preserved g c =
-    more_files c.args.noting c.args.limits (device_of g.P.Reader.Read.remaining g.P.Reader.Source.failures) c.args.links.now (g.T.Store.state c.args.store.now) (g.T.Store.state c.files.store) (g.T.Store.state c.toss_next.new.store)
+    more_files g.P.PacketFiles.is_honest c.args.noting c.args.limits (device_of g.P.Reader.Read.remaining g.P.Reader.Source.failures) c.args.links.now (g.T.Store.state c.args.store.now) (g.T.Store.state c.files.store) (g.T.Store.state c.toss_next.new.store)
     _ _ _ (g.P.PacketFiles.coming c.args.packets.now) (g.P.PacketFiles.coming c.files.packets) (g.P.PacketFiles.coming c.open_next.new.self) c.args.lines.now.items c.files.lines.items c.toss_next.new.lines.items
-    c.in-Ok.reader c.toss_next.new.reader c.files.invariant (rw c.in-Ok.is at c.in-Some.ensures) (λ honest b h. rw c.in_default-stopped.is at (c.in_ok-stopped-in-Ok.ensures.tossed honest b h))
+    c.files.packets c.open_next.new.self c.in-Ok.reader c.toss_next.new.reader c.files.invariant c.open_next.ensures.honest (rw c.in-Ok.is at c.in-Some.ensures.next) (λ honest b h. rw c.in_default-stopped.is at (c.in_ok-stopped-in-Ok.ensures.tossed honest b h))
     c.in_ok-stopped-in-Ok.ensures.goes_on c.toss_next.ensures.commits c.toss_next.ensures.cause.later
 
 pub returns-in-Some-stopped-clause-tossed : goal.returns-in-Some-stopped-clause-tossed
 returns-in-Some-stopped-clause-tossed g c = λ honest base kept.
     rw (← c.in-Some-stopped.is)
-    (stopped_files c.args.noting c.args.limits (device_of g.P.Reader.Read.remaining g.P.Reader.Source.failures) c.args.links.now (g.T.Store.state c.args.store.now) (g.T.Store.state c.files.store) (g.T.Store.state c.toss_next.new.store)
+    (stopped_files g.P.PacketFiles.is_honest c.args.noting c.args.limits (device_of g.P.Reader.Read.remaining g.P.Reader.Source.failures) c.args.links.now (g.T.Store.state c.args.store.now) (g.T.Store.state c.files.store) (g.T.Store.state c.toss_next.new.store)
     _ _ (g.P.PacketFiles.coming c.args.packets.now) (g.P.PacketFiles.coming c.files.packets) (g.P.PacketFiles.coming c.open_next.new.self) c.args.lines.now.items c.files.lines.items c.toss_next.new.lines.items
-    c.in-Ok.reader c.toss_next.new.reader c.in-Some-stopped.fault _ base c.files.invariant (rw c.in-Ok.is at c.in-Some.ensures) (c.in_ok-stopped-in-Ok.ensures.tossed honest) c.in-Some-stopped.is
+    c.files.packets c.open_next.new.self c.in-Ok.reader c.toss_next.new.reader c.in-Some-stopped.fault _ base c.files.invariant c.open_next.ensures.honest (rw c.in-Ok.is at c.in-Some.ensures.next) (c.in_ok-stopped-in-Ok.ensures.tossed honest) c.in-Some-stopped.is
     (c.toss_next.ensures.commits.beside.honest honest) kept)
 
 pub returns-in-Err-clause-tossed : goal.returns-in-Err-clause-tossed
 returns-in-Err-clause-tossed g c = λ honest base kept.
-    refused_files c.args.noting c.args.limits (device_of g.P.Reader.Read.remaining g.P.Reader.Source.failures) c.args.links.now (g.T.Store.state c.args.store.now) (g.T.Store.state c.files.store)
-    _ _ (g.P.PacketFiles.coming c.args.packets.now) (g.P.PacketFiles.coming c.files.packets) (g.P.PacketFiles.coming c.open_next.new.self) c.args.lines.now.items c.files.lines.items c.in-Err.fault base c.files.invariant
-    (rw c.in-Err.is at c.in-Some.ensures) honest kept
+    refused_files g.P.PacketFiles.is_honest c.args.noting c.args.limits (device_of g.P.Reader.Read.remaining g.P.Reader.Source.failures) c.args.links.now (g.T.Store.state c.args.store.now) (g.T.Store.state c.files.store)
+    _ _ (g.P.PacketFiles.coming c.args.packets.now) (g.P.PacketFiles.coming c.files.packets) (g.P.PacketFiles.coming c.open_next.new.self) c.args.lines.now.items c.files.lines.items c.files.packets c.open_next.new.self c.in-Err.fault base c.files.invariant
+    c.open_next.ensures.honest (rw c.in-Err.is at c.in-Some.ensures.next) honest kept
 
 pub returns-clause-tossed : goal.returns-clause-tossed
 returns-clause-tossed g c = λ honest base kept.
-    ended_files c.args.noting c.args.limits (device_of g.P.Reader.Read.remaining g.P.Reader.Source.failures) c.args.links.now (g.T.Store.state c.args.store.now) (g.T.Store.state c.files.store)
-    _ _ (g.P.PacketFiles.coming c.args.packets.now) (g.P.PacketFiles.coming c.files.packets) (g.P.PacketFiles.coming c.open_next.new.self) c.args.lines.now.items c.files.lines.items base c.files.invariant c.in_default.ensures
+    ended_files g.P.PacketFiles.is_honest c.args.noting c.args.limits (device_of g.P.Reader.Read.remaining g.P.Reader.Source.failures) c.args.links.now (g.T.Store.state c.args.store.now) (g.T.Store.state c.files.store)
+    _ _ (g.P.PacketFiles.coming c.args.packets.now) (g.P.PacketFiles.coming c.files.packets) (g.P.PacketFiles.coming c.open_next.new.self) c.args.lines.now.items c.files.lines.items c.files.packets c.open_next.new.self base c.files.invariant c.open_next.ensures.honest c.in_default.ensures.next
     honest kept

@@ -1,0 +1,18 @@
+-- The packet files of `toss` on a disk.
+use Rattle.std.specs.Prelude.{ℕ, Bool, true, false, List, length, Option, Some, None, if◌then◌else◌, nat_lt}
+use Rattle.disk_io.specs.Disk.{Files}
+use Rattle.cmd_report.specs.Coming.{Coming, Fails, Holds, Unknown}
+
+-- The most bytes of a packet file that is held in memory.
+abbrev pub most_held : ℕ
+most_held = 1048576
+
+-- The fact known of a packet file that the path has. One that is too large to be held is read by a reader of which nothing is known.
+abbrev pub coming_of : List ℕ → Option (List ℕ) → Coming
+coming_of path None = Fails path
+coming_of path (Some bytes) = if nat_lt most_held (length bytes) then Unknown else Holds bytes
+
+-- The same of one by its name, which may be none that can be opened.
+abbrev pub coming_at : Files → Bool → List ℕ → Coming
+coming_at seen true path = coming_of path (seen path)
+coming_at seen false path = Fails path

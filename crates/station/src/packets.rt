@@ -1,0 +1,157 @@
+//! The packet files of `toss` on a disk: each is opened when its turn comes.
+ghost use Rattle.std.specs.Prelude.{◌≡◌, ◌≤◌, ℕ, Bool, true, false, List, map, IfErr, IfOk};
+ghost use Rattle.disk_io.specs.Disk.{Honestly};
+ghost use Rattle.disk_io.specs.Runs.{ChangesNothing, HasCause};
+ghost use Rattle.cmd_report.specs.Coming.{IsCannotUse, Opens};
+ghost use Rattle.station.specs.PacketReader.{held_remaining};
+ghost use Rattle.station.specs.PacketsFound.{IsFound};
+ghost use Rattle.station.specs.PacketsOnDisk.{coming_at};
+
+use crate::held_bytes::HeldBytes;
+use crate::packet_reader::PacketReader;
+use crate::reading::size_of;
+use cmd_report::PacketFiles;
+use cmd_status::Fault;
+use disk_io::{Disk, DiskError, Source, read_part};
+use std::alloc::{AllocError, Global};
+
+/// The most bytes of a packet file that is held in memory.
+const MOST_HELD: usize = 1_048_576;
+
+/// The name of a packet file.
+pub trait PacketName {
+    // The path, as it is printed.
+    ghost path: { Self → List ℕ };
+
+    // Whether a file can have the path.
+    ghost is_usable: { Self → Bool };
+
+    /// The path to open.
+    fn path(&self) -> Result<&str, Fault<'_>>
+        ensures path { IfOk result (λ found. (is_usable self.now ≡ true) × (found.now ≡ path self.now)) }
+        ensures none { IfErr result (λ fault. (is_usable self.now ≡ false) × IsCannotUse (path self.now) fault) };
+}
+
+/// Reads packet files that are too large to be held in memory, and reports progress. Packet files have numbers from 1 on.
+pub trait StreamPackets<'a> {
+    type Reader: Source + Drop;
+
+    /// Opens the packet file of this number and path, to be read piece by piece.
+    fn open(&self, number: usize, path: &'a str) -> Result<Self::Reader, Fault<'a>>;
+
+    /// The packet file of this number was read whole.
+    fn tell(&self, number: usize);
+}
+
+/// Packet files with these names. Those of at most a MiB are read whole, the others as they are tossed.
+#[derive(Drop)]
+pub struct PacketsOnDisk<'a, D, N, S> {
+    pub disk: D,
+    /// Of those that are not yet opened.
+    pub names: &'a [N],
+    alloc: Global,
+    opened: usize,
+    streams: S,
+}
+
+/// The packet files that this disk has under these names.
+pub fn packets_on_disk<'a, D: Disk, N: PacketName, S: StreamPackets<'a>>(
+    alloc: Global,
+    disk: D,
+    names: &'a [N],
+    streams: S,
+) -> PacketsOnDisk<'a, D, N, S>
+    ensures disk { result.disk ≡ disk }
+    ensures names { result.names.now ≡ names.now }
+{
+    PacketsOnDisk {
+        disk,
+        names,
+        alloc,
+        opened: 0,
+        streams,
+    }
+}
+
+impl<'a, D: Disk + Drop, N: PacketName, S: StreamPackets<'a>> PacketFiles<'a>
+    for PacketsOnDisk<'a, D, N, S> {
+    type Reader = PacketReader<S::Reader>;
+
+    ghost coming = { λ packets. map (λ name. coming_at (D.state packets.disk).seen (N.is_usable name) (N.path name)) packets.names.now };
+
+    ghost is_honest = { λ packets. (D.state packets.disk).is_honest × (D.failures packets.disk ≡ 0) };
+
+    fn open_next(&mut self) -> Option<Result<PacketReader<S::Reader>, Fault<'a>>> {
+        let names: &'a [N] = self.names;
+        if names.is_empty() {
+            return None;
+        }
+        self.names = &names[1..];
+        self.opened = self.opened.saturating_add(1);
+        let number = self.opened;
+        Some(open_packet(self.alloc, &mut self.disk, &self.streams, number, &names[0]))
+    }
+}
+
+// Opens the packet file with this name.
+fn open_packet<'a, D: Disk, N: PacketName, S: StreamPackets<'a>>(
+    alloc: Global,
+    disk: &mut D,
+    streams: &S,
+    number: usize,
+    name: &'a N,
+) -> Result<PacketReader<S::Reader>, Fault<'a>>
+    ensures opens { Honestly (D.state disk.new) (D.failures disk.new ≡ 0 → Opens (held_remaining S.Reader.remaining)
+        (coming_at (D.state disk.old).seen (N.is_usable name.now) (N.path name.now)) result) }
+    ensures quiet { ChangesNothing (D.state disk.old) (D.state disk.new) }
+    ensures later { D.failures disk.old ≤ D.failures disk.new }
+{
+    let path = name.path()?;
+    match hold_packet(alloc, disk, path)? {
+        Found::Whole(bytes) => {
+            streams.tell(number);
+            Ok(PacketReader::Held(HeldBytes::new(bytes)))
+        }
+        Found::Unheld => Ok(PacketReader::Streamed(streams.open(number, path)?)),
+        Found::Missing => Err(Fault::CannotUse(path)),
+    }
+}
+
+// A packet file on the disk.
+#[derive(Drop)]
+enum Found {
+    Missing,
+    // It is too large to be held in memory, or the disk failed.
+    Unheld,
+    // Its bytes.
+    Whole(Vec<u8>),
+}
+
+// The packet file with this path. If the disk fails, the program reads the file as a large one, and reports its fault.
+fn hold_packet<D: Disk>(alloc: Global, disk: &mut D, path: &str) -> Result<Found, AllocError>
+    ensures found { Honestly (D.state disk.new) (D.failures disk.new ≡ 0 → IfOk result (IsFound ((D.state disk.old).seen path.now))) }
+    ensures quiet { ChangesNothing (D.state disk.old) (D.state disk.new) }
+    ensures later { D.failures disk.old ≤ D.failures disk.new }
+{
+    match find_packet(alloc, disk, path.as_bytes()) {
+        Ok(found) => Ok(found),
+        Err(DiskError::Memory) => Err(AllocError),
+        Err(DiskError::Device) => Ok(Found::Unheld),
+    }
+}
+
+fn find_packet<D: Disk>(alloc: Global, disk: &mut D, path: &[u8]) -> Result<Found, DiskError>
+    ensures found { Honestly (D.state disk.new) (IfOk result (IsFound ((D.state disk.old).seen path.now))) }
+    ensures quiet { ChangesNothing (D.state disk.old) (D.state disk.new) }
+    ensures cause { HasCause (D.failures disk.old) (D.failures disk.new) result }
+{
+    match size_of(disk, path)? {
+        Some(size) => {
+            if size > MOST_HELD {
+                return Ok(Found::Unheld);
+            }
+            Ok(Found::Whole(read_part(alloc, disk, path, 0, size)?))
+        }
+        None => Ok(Found::Missing),
+    }
+}
