@@ -11,8 +11,10 @@
 //! `purging`, `storing` (the base is written and read), `fault`, and `laws`.
 #![tactic(auto)]
 
+mod counting;
 mod drafting;
 mod fault;
+mod grouping;
 mod laws;
 mod moment;
 mod outgoing;
@@ -32,9 +34,11 @@ mod tosser;
 mod tossing;
 
 pub use base_file::BaseFault;
+pub use counting::{CountedPacket, count_step};
 pub use echo_filed::Filed;
 pub use echo_links::{LinkFault, LinkFile};
 pub use fault::{TossCause, TossFault};
+pub use grouping::{Group, copies_in, group_from};
 pub use laws::packet_laws;
 pub use model_steps::{Draft, Outcome, Packet, PostFault, ScanFault, Stamp};
 pub use packets::{check_destination, toss_packet_in};
