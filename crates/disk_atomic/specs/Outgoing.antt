@@ -1,5 +1,5 @@
 -- Packets on the way to their paths.
-use Rattle.std.specs.Prelude.{◌≡◌, ◌≢◌, ◌⊎◌, ℕ, List, [], All, AllPairs, Contains, Some, None}
+use Rattle.std.specs.Prelude.{◌≡◌, ◌≢◌, ◌⊎◌, ℕ, List, [], All, AllPairs, Contains, IsSome, Some, None}
 use Rattle.disk_io.specs.Fixed.{AreBytes}
 use Rattle.disk_io.specs.Disk.{DiskState, IsIn}
 use Rattle.disk_atomic.specs.Changes.{HasOnDisk}
@@ -55,6 +55,14 @@ IsStagingGone disk p = disk.seen p.staging.now ≡ None
 pub record IsMade (disk : DiskState) (p : Outgoing) : Type 0 where
   pub empty : disk.seen p.staging.now ≡ Some []
   pub alone : disk.is_alone p.staging.now
+
+-- Its staging file exists.
+abbrev pub HasStagingFile : DiskState → Outgoing → Type 0
+HasStagingFile disk p = IsSome (disk.seen p.staging.now)
+
+-- Its staging file has all its bytes on the disk.
+abbrev pub IsStagingFlushed : DiskState → Outgoing → Type 0
+IsStagingFlushed disk p = disk.is_flushed p.staging.now
 
 -- The packet is in its staging file, on the disk.
 abbrev pub IsFilled : DiskState → Outgoing → Type 0

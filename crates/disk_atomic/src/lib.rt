@@ -6,6 +6,7 @@
 //! left.
 #![tactic(auto)]
 
+mod appending;
 mod dropping;
 mod filling;
 mod finishing;
@@ -17,12 +18,13 @@ mod staged;
 mod staging;
 mod trying;
 
+pub use appending::{append_piece, sync_packets};
 pub use dropping::drop_staging;
 pub use finishing::{Left, finish_stopped};
 pub use naming::{name_packet, name_packets};
 pub use outgoing::Outgoing;
 pub use placing_error::PlacingError;
 pub use replacing::replace_file;
-pub use staged::stage_packets;
+pub use staged::{make_packets, stage_packets};
 pub use staging::{fill_file, stage_file};
 pub use trying::try_link;
