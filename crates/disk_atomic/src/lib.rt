@@ -18,7 +18,7 @@ mod staged;
 mod staging;
 mod trying;
 
-pub use appending::{append_piece, sync_packets};
+pub use appending::{Pieces, append_each, append_piece, sync_packets};
 pub use dropping::drop_staging;
 pub use finishing::{Left, finish_stopped};
 pub use naming::{name_packet, name_packets};
