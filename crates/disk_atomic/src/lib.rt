@@ -1,9 +1,9 @@
 //! Files that are written whole: a crash leaves the old file or the new one, and packets together with a commit.
 //!
 //! Begin with `replacing` (a file is replaced whole), then `filling`, `outgoing` and `staged` (packets in staging
-//! files) and `naming` (packets get their paths). `staging` writes and syncs one file. `trying` finds out whether a
-//! packet can get a second path. `dropping` removes staging files of packets, and `finishing` ends what a stopped scan
-//! left.
+//! files) and `naming` (packets get their paths). `appending` lets staging files grow piece by piece. `staging` writes
+//! and syncs one file. `trying` finds out whether a packet can get a second path. `dropping` removes staging files of
+//! packets, and `finishing` ends what a stopped scan left.
 #![tactic(auto)]
 
 mod appending;

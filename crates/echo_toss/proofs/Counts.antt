@@ -1,24 +1,22 @@
 -- Packets that are counted group by group are those that a scan makes.
-use Rattle.std.proofs.Common.{◌≡◌, ◌∙◌, ◌⊎◌, ⊎_elim, ℕ, zero, suc, ◌+◌, ◌<◌, Bool, true, false, true≢false, List, [], ◌∷◌, ◌++◌, map, drop, length, Option, Some, None, inl, inr, refl, sym, ap, subst, arith, append_assoc, length-append}
+use Rattle.std.proofs.Common.{◌≡◌, ◌∙◌, ⊎_elim, ℕ, zero, suc, ◌+◌, ◌<◌, Bool, true, false, true≢false, List, [], ◌∷◌, ◌++◌, map, drop, length, Option, Some, None, inl, inr, refl, sym, ap, subst, arith, append_assoc, length-append}
 use Rattle.std.specs.Prelude.{filter, find, nat_lt, bytes_eq, get_or, slice_get, option_map, unwrap_or}
-use Rattle.std.specs.List.{AllByRecursion, flat_map, list_any}
+use Rattle.std.specs.List.{AllByRecursion, flat_map}
 use Rattle.std.proofs.lemmas.Bool.{cases_Bool, cond-false, cond-true, lt-ltb}
 use Rattle.std.proofs.lemmas.List.{append-nil, map-append}
 use Rattle.std.proofs.lemmas.List.Elements.{filter-append}
 use Rattle.std.specs.Cmp.Lexicographic.{bytes_decides}
 use Rattle.echo_addr.specs.declared.address.Address.{Address}
-use Rattle.echo_packet.specs.Header.{header_bytes}
 use Rattle.echo_packet.specs.Message.{Message, message_bytes, messages_bytes, numbers, readdressed}
 use Rattle.echo_packet.specs.Packet.{packet_bytes}
-use Rattle.echo_links.specs.Links.{Area, LinkFile, area_of, links_of, same_address}
+use Rattle.echo_links.specs.Links.{Area, LinkFile, area_of, links_of}
 use Rattle.echo_filed.specs.Filed.{Filed}
 use Rattle.echo_filed.specs.Sets.{address_before, address_set}
 use Rattle.echo_filed.proofs.Choices.{IsIn}
 use Rattle.echo_filed.proofs.Orders.{address_order}
 use Rattle.echo_filed.proofs.Sets.{Ascending, same_set, set_ascending, set_keeps, set_only}
-use Rattle.model_steps.specs.declared.packet.Packet.{Packet}
 use Rattle.model_steps.specs.declared.stamp.Stamp.{Stamp}
-use Rattle.model_steps.specs.Scanning.{header_to, is_seen_by, is_sender, scanned, targets}
+use Rattle.model_steps.specs.Scanning.{header_to, scanned, targets}
 use Rattle.model_steps.proofs.Encoding.{header_size, packet_size}
 use Rattle.echo_toss.specs.declared.counting.CountedPacket.{CountedPacket}
 use Rattle.echo_toss.specs.Counts.{copies_out, counted_in, counted_more, counted_of, has_messages, linked}

@@ -7,7 +7,8 @@
 //!
 //! Begin with `tosser` (the type) and `tossing` (one received message; `receiving` reads it). `packets` tosses
 //! a whole packet, `tally` counts outcomes. `posting` files a draft; `refusing`, `drafting`, `moment` and
-//! `step_error` are its parts. `scanning` exports by `outgoing`, `packing` and `sets`; so does `resending`. Then
+//! `step_error` are its parts. `scanning` exports by `outgoing`, `packing` and `sets`; so does `resending`.
+//! `counting` counts the packets of a scan and holds none, by `grouping`, which makes their messages in groups. Then
 //! `purging`, `storing` (the base is written and read), `fault`, and `laws`.
 #![tactic(auto)]
 

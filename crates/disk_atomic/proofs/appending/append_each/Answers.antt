@@ -1,7 +1,6 @@
-use Rattle.std.proofs.Common.{◌≡◌, ◌∙◌, ◌<◌, ◌++◌, List, ℕ, ap, arith, get_or, length, sym}
+use Rattle.std.proofs.Common.{◌∙◌, ◌<◌, ◌++◌, List, ℕ, ap, arith, get_or, length, sym}
 use Rattle.std.proofs.lemmas.List.{get_or_default}
 use Rattle.disk_io.specs.Disk.{bytes_in}
-use Rattle.disk_atomic.specs.Changes.{ChangesOnly}
 use Rattle.disk_atomic.specs.Outgoing.{IsStagingOne}
 use Rattle.disk_atomic.proofs.Behind.{all_grow, one_longer, still_same}
 use Rattle.disk_atomic.proofs.Changes.{then_only}

@@ -1,9 +1,6 @@
-use Rattle.std.proofs.Common.{◌≡◌, ◌∙◌, List, ℕ, arith, ap, length, refl, sym}
-use Rattle.disk_io.specs.Disk.{bytes_in}
+use Rattle.std.proofs.Common.{◌≡◌, List, ℕ, length, refl}
 use Rattle.disk_io.specs.Steps.{TornWrite}
-use Rattle.disk_atomic.specs.Changes.{ChangesOnly}
 use Rattle.disk_atomic.proofs.Changes.{only_call, only_nothing, then_only}
-use Rattle.disk_atomic.proofs.Growing.{written_behind}
 use Rattle.disk_atomic.proofs.appending.append_piece.Goals as goal
 
 pub returns-clause-changes : goal.returns-clause-changes

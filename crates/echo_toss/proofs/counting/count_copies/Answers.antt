@@ -1,4 +1,4 @@
-use Rattle.std.proofs.Common.{◌≡◌, ◌∙◌, ◌<◌, ◌+◌, [], ◌∷◌, List, ap, arith, drop, length, sym}
+use Rattle.std.proofs.Common.{◌∙◌, ◌<◌, ◌+◌, [], ◌∷◌, List, ap, arith, drop, length, sym}
 use Rattle.std.proofs.lemmas.List.{drop_more}
 use Rattle.echo_toss.specs.Counts.{counted_more}
 use Rattle.echo_toss.specs.Exports.{Outgoing}

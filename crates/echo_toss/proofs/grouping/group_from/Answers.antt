@@ -1,4 +1,4 @@
-use Rattle.std.proofs.Common.{◌≡◌, ◌++◌, List, ap, arith, drop, sym}
+use Rattle.std.proofs.Common.{◌++◌, List, ap, arith, drop, sym}
 use Rattle.base_store.proofs.Runs.{looks_twice}
 use Rattle.echo_toss.specs.Exports.{Outgoing, is_sent, outgoing_of, sent_of}
 use Rattle.echo_toss.proofs.Exports.{next_waits}
