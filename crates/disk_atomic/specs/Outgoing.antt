@@ -66,8 +66,8 @@ AreLonger more packets old new = (k : ℕ) (p : Outgoing) → k < length packets
     → bytes_in (new.seen (get_or packets k p).staging.now) ≡ bytes_in (old.seen (get_or packets k p).staging.now) ++ more k
 
 -- Its staging file exists.
-abbrev pub HasStagingFile : DiskState → Outgoing → Type 0
-HasStagingFile disk p = IsSome (disk.seen p.staging.now)
+abbrev pub HasStaging : DiskState → Outgoing → Type 0
+HasStaging disk p = IsSome (disk.seen p.staging.now)
 
 -- Its staging file has all its bytes on the disk.
 abbrev pub IsStagingFlushed : DiskState → Outgoing → Type 0

@@ -4,7 +4,7 @@ ghost use Rattle.disk_io.specs.Fixed.{AreBytes};
 ghost use Rattle.disk_io.specs.Disk.{Honestly, bytes_in};
 ghost use Rattle.disk_io.specs.Runs.{ChangesNothing, HasCause, KeepsNamed};
 ghost use Rattle.disk_atomic.specs.Changes.{CanGrow, ChangesOnly};
-ghost use Rattle.disk_atomic.specs.Outgoing.{AreApart, AreLonger, CanGrowStaging, HasStagingFile, IsStagingFlushed, IsStagingOne};
+ghost use Rattle.disk_atomic.specs.Outgoing.{AreApart, AreLonger, CanGrowStaging, HasStaging, IsStagingFlushed, IsStagingOne};
 
 use crate::outgoing::Outgoing;
 use disk_io::{Disk, DiskError, are_bytes};
@@ -64,7 +64,7 @@ pub fn append_each<D: Disk, P: Pieces>(
 
 /// Syncs the staging file of each packet.
 pub fn sync_packets<D: Disk>(disk: &mut D, packets: &[Outgoing<'_>]) -> Result<(), DiskError>
-    requires { Honestly (D.state disk.old) (All (HasStagingFile (D.state disk.old)) packets.now) }
+    requires { Honestly (D.state disk.old) (All (HasStaging (D.state disk.old)) packets.now) }
     ensures flushed { OnOk result (All (IsStagingFlushed (D.state disk.new)) packets.now) }
     ensures quiet { ChangesNothing (D.state disk.old) (D.state disk.new) }
     ensures cause { HasCause (D.failures disk.old) (D.failures disk.new) result }

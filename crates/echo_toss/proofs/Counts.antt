@@ -19,7 +19,7 @@ use Rattle.model_steps.specs.declared.stamp.Stamp.{Stamp}
 use Rattle.model_steps.specs.Scanning.{header_to, scanned, targets}
 use Rattle.model_steps.proofs.Encoding.{header_size, packet_size}
 use Rattle.echo_toss.specs.declared.counting.CountedPacket.{CountedPacket}
-use Rattle.echo_toss.specs.Counts.{copies_out, counted_in, counted_more, counted_of, has_messages, linked}
+use Rattle.echo_toss.specs.Counts.{copies_out, counted_to, counted_with, counted_of, has_messages, link_set}
 use Rattle.echo_toss.specs.Exports.{Outgoing, copy_out, goes_out, outgoing_of, packet_out, packets_out, sent_of}
 use Rattle.echo_toss.proofs.AscendingSets.{in_back, in_either, in_front}
 use Rattle.echo_toss.proofs.Exports.{kept_targets, scan_made}
@@ -35,7 +35,7 @@ pub copies_append : (a : Address) (one other : List Outgoing) → copies_out a (
 copies_append a one other = ap (map (copy_out a)) (filter-append (goes_out a) one other) ∙ map-append (copy_out a) (filter (goes_out a) one) (filter (goes_out a) other)
 
 -- more, and then more
-pub more_twice : (p : CountedPacket) (one other : List Outgoing) → counted_more other (counted_more one p) ≡ counted_more (one ++ other) p
+pub more_twice : (p : CountedPacket) (one other : List Outgoing) → counted_with other (counted_with one p) ≡ counted_with (one ++ other) p
 more_twice p one other =
     let copies = copies_append p.to one other in
     let count : p.messages + length (copies_out p.to one) + length (copies_out p.to other) ≡ p.messages + length (copies_out p.to (one ++ other)) =
@@ -49,7 +49,7 @@ more_twice p one other =
     ) in
     λ i. record { to = p.to; messages = count i; bytes = size i }
 
-more_in : (sent more : List Outgoing) (a : Address) → counted_more more (counted_in sent a) ≡ counted_in (sent ++ more) a
+more_in : (sent more : List Outgoing) (a : Address) → counted_with more (counted_to sent a) ≡ counted_to (sent ++ more) a
 more_in sent more a =
     let copies = copies_append a sent more in
     let count : length (copies_out a sent) + length (copies_out a more) ≡ length (copies_out a (sent ++ more)) =
@@ -63,7 +63,7 @@ more_in sent more a =
     ) in
     λ i. record { to = a; messages = count i; bytes = size i }
 
-pub group_counted : (sent more : List Outgoing) (all : List Address) → map (counted_more more) (map (counted_in sent) all) ≡ map (counted_in (sent ++ more)) all
+pub group_counted : (sent more : List Outgoing) (all : List Address) → map (counted_with more) (map (counted_to sent) all) ≡ map (counted_to (sent ++ more)) all
 group_counted sent more [] = refl
 group_counted sent more (a ∷ all) = let one = more_in sent more a in let rest = group_counted sent more all in λ i. one i ∷ rest i
 
@@ -140,7 +140,7 @@ filter_map p f (x ∷ xs) = elim (cases_Bool (p (f x))) [
 -- ---- who gets some
 
 abbrev gets : List Outgoing → Address → Bool
-gets sent a = has_messages (counted_in sent a)
+gets sent a = has_messages (counted_to sent a)
 
 one_copy : (a : Address) (o : Outgoing) (sent : List Outgoing) → goes_out a o ≡ true → copies_out a (o ∷ sent) ≡ copy_out a o ∷ copies_out a sent
 one_copy a o sent goes = ap (map (copy_out a)) (cond-true (goes_out a o) (o ∷ filter (goes_out a) sent) (filter (goes_out a) sent) goes)
@@ -154,7 +154,7 @@ same_size m node net = refl
 
 -- one message more
 pub one_counted : (p : CountedPacket) (o : Outgoing) (count size n : ℕ) → goes_out p.to o ≡ true → count ≡ p.messages + 1 → n ≡ length (message_bytes o.message) → size ≡ p.bytes + n
-    → record { to = p.to; messages = count; bytes = size } ≡ counted_more (o ∷ []) p
+    → record { to = p.to; messages = count; bytes = size } ≡ counted_with (o ∷ []) p
 one_counted p o count size n goes counted long sum =
     let copies = one_copy p.to o [] goes in
     let more : count ≡ p.messages + length (copies_out p.to (o ∷ [])) = omega (arith, counted, ap length copies) in
@@ -208,25 +208,25 @@ link_found file tag x (Some area) is h =
     let there = found_is (λ (a : Area). bytes_eq a.tag tag) file.areas area is in
     (area, there.0, (bytes_decides area.tag tag).0 there.1)
 
-link_among : (file : LinkFile) (tag : List ℕ) (x : Address) → IsIn x (links_of file tag) → IsIn x (linked file)
+link_among : (file : LinkFile) (tag : List ℕ) (x : Address) → IsIn x (links_of file tag) → IsIn x (link_set file)
 unfolding links_of address_set
 link_among file tag x h =
     let there = link_found file tag x (area_of file tag) refl h in
     set_keeps address_before address_order x (flat_map (λ area. links_of file area.tag) file.areas)
     (in_flat_map (λ (area : Area). links_of file area.tag) there.0 x file.areas there.1 (subst (λ (t : List ℕ). IsIn x (links_of file t)) (sym there.2) h))
 
-target_linked : (file : LinkFile) (m : Filed) (x : Address) → IsIn x (address_set (targets file m)) → IsIn x (linked file)
+target_linked : (file : LinkFile) (m : Filed) (x : Address) → IsIn x (address_set (targets file m)) → IsIn x (link_set file)
 unfolding targets address_set
 target_linked file m x h = link_among file m.echo.tag x (in_filter _ x (links_of file m.echo.tag) (set_only address_before x (targets file m) h)).0
 
-targets_linked : (file : LinkFile) (ms : List Filed) (x : Address) → IsIn x (all_targets (map (outgoing_of file) ms)) → IsIn x (linked file)
+targets_linked : (file : LinkFile) (ms : List Filed) (x : Address) → IsIn x (all_targets (map (outgoing_of file) ms)) → IsIn x (link_set file)
 targets_linked file [] x h = absurd h
 targets_linked file (m ∷ ms) x h =
     ⊎_elim (λ here. target_linked file m x here) (λ later. targets_linked file ms x later) (in_either x (address_set (targets file m)) (all_targets (map (outgoing_of file) ms)) h)
 
 -- ---- the packets
 
-out_counted : (file : LinkFile) (stamp : Stamp) (sent : List Outgoing) (a : Address) → counted_of (packet_out file stamp sent a) ≡ counted_in sent a
+out_counted : (file : LinkFile) (stamp : Stamp) (sent : List Outgoing) (a : Address) → counted_of (packet_out file stamp sent a) ≡ counted_to sent a
 unfolding header_to
 out_counted file stamp sent a =
     let ms = copies_out a sent in
@@ -234,18 +234,18 @@ out_counted file stamp sent a =
     omega (arith, packet_size (header_to file stamp a) ms, header_size (header_to file stamp a) refl refl) in
     λ i. record { to = a; messages = length ms; bytes = size i }
 
-outs_counted : (file : LinkFile) (stamp : Stamp) (sent : List Outgoing) (all : List Address) → map counted_of (map (packet_out file stamp sent) all) ≡ map (counted_in sent) all
+outs_counted : (file : LinkFile) (stamp : Stamp) (sent : List Outgoing) (all : List Address) → map counted_of (map (packet_out file stamp sent) all) ≡ map (counted_to sent) all
 outs_counted file stamp sent [] = refl
 outs_counted file stamp sent (a ∷ all) = let one = out_counted file stamp sent a in let rest = outs_counted file stamp sent all in λ i. one i ∷ rest i
 
 -- those of all links that have messages are the packets of a scan
 pub all_counted : (file : LinkFile) (messages : List Filed) (cursor : ℕ) (sent : List Outgoing) (packets : List CountedPacket) → sent ≡ sent_of file (drop cursor messages)
-    → packets ≡ map (counted_in sent) (linked file) → (stamp : Stamp) → filter has_messages packets ≡ map counted_of (scanned file messages cursor stamp)
+    → packets ≡ map (counted_to sent) (link_set file) → (stamp : Stamp) → filter has_messages packets ≡ map counted_of (scanned file messages cursor stamp)
 all_counted file messages cursor sent packets is all stamp =
     let outs = map (outgoing_of file) (drop cursor messages) in
-    let inside : (x : Address) → IsIn x (all_targets sent) → IsIn x (linked file) =
+    let inside : (x : Address) → IsIn x (all_targets sent) → IsIn x (link_set file) =
     λ x h. targets_linked file (drop cursor messages) x (subst (IsIn x) (ap all_targets is ∙ kept_targets outs) h) in
-    ap (filter has_messages) all ∙ filter_map has_messages (counted_in sent) (linked file)
-    ∙ ap (map (counted_in sent)) (those_that_get sent (flat_map (λ area. links_of file area.tag) file.areas) inside)
+    ap (filter has_messages) all ∙ filter_map has_messages (counted_to sent) (link_set file)
+    ∙ ap (map (counted_to sent)) (those_that_get sent (flat_map (λ area. links_of file area.tag) file.areas) inside)
     ∙ sym (outs_counted file stamp sent (address_set (all_targets sent)))
     ∙ ap (map counted_of) (scan_made file stamp messages cursor (packets_out file stamp sent) sent is refl)

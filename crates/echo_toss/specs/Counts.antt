@@ -25,8 +25,8 @@ abbrev pub copies_out : Address → List Outgoing → List Message
 copies_out address sent = map (copy_out address) (filter (goes_out address) sent)
 
 -- the addresses of all links
-abbrev pub linked : LinkFile → List Address
-linked file = address_set (flat_map (λ area. links_of file area.tag) file.areas)
+abbrev pub link_set : LinkFile → List Address
+link_set file = address_set (flat_map (λ area. links_of file area.tag) file.areas)
 
 -- a packet's address, and how large it is
 abbrev pub counted_of : Packet → CountedPacket
@@ -37,12 +37,12 @@ counted_of p = record {
 }
 
 -- the packet of outgoing messages to an address, counted
-abbrev pub counted_in : List Outgoing → Address → CountedPacket
-counted_in sent address = record { to = address; messages = length (copies_out address sent); bytes = 60 + length (messages_bytes (copies_out address sent)) }
+abbrev pub counted_to : List Outgoing → Address → CountedPacket
+counted_to sent address = record { to = address; messages = length (copies_out address sent); bytes = 60 + length (messages_bytes (copies_out address sent)) }
 
 -- and more of them
-abbrev pub counted_more : List Outgoing → CountedPacket → CountedPacket
-counted_more sent packet = record {
+abbrev pub counted_with : List Outgoing → CountedPacket → CountedPacket
+counted_with sent packet = record {
   to = packet.to;
   messages = packet.messages + length (copies_out packet.to sent);
   bytes = packet.bytes + length (messages_bytes (copies_out packet.to sent));

@@ -8,7 +8,7 @@ ghost use Rattle.echo_packet.specs.Message.{message_bytes};
 ghost use Rattle.echo_links.specs.Links.{Area, links_of};
 ghost use Rattle.model_steps.specs.Scanning.{scanned};
 ghost use Rattle.model_steps.specs.Stamps.{is_stamp};
-ghost use Rattle.echo_toss.specs.Counts.{counted_in, counted_more, counted_of, has_messages, linked};
+ghost use Rattle.echo_toss.specs.Counts.{counted_to, counted_with, counted_of, has_messages, link_set};
 ghost use Rattle.echo_toss.specs.Stores.{IsScanStop, scan_answer};
 
 use crate::grouping::group_from;
@@ -72,7 +72,7 @@ fn counted<T: Store>(
     ensures looks { LooksOn (T.state store.old) (T.state store.new) }
     ensures cause { HasStoreCause (T.state store.old) (T.state store.new) (T.failures store.old) (T.failures store.new) result }
 {
-    let addresses = linked(alloc, links)?;
+    let addresses = link_set(alloc, links)?;
     let mut packets = none_counted(alloc, &addresses)?;
     let end = store.len();
     let mut at = store.cursor();
@@ -85,8 +85,8 @@ fn counted<T: Store>(
 }
 
 // The links of all areas, ascending.
-fn linked(alloc: Global, links: &LinkFile) -> Result<Vec<Address>, AllocError>
-    ensures { IfOk result (λ all. all.items ≡ linked links.now) }
+fn link_set(alloc: Global, links: &LinkFile) -> Result<Vec<Address>, AllocError>
+    ensures { IfOk result (λ all. all.items ≡ link_set links.now) }
 {
     let mut all = Vec::new(alloc);
     'areas: for i in 0..links.areas() {
@@ -110,7 +110,7 @@ const BESIDE: usize = 60;
 
 // A packet without messages for each address.
 fn none_counted(alloc: Global, addresses: &[Address]) -> Result<Vec<CountedPacket>, AllocError>
-    ensures { IfOk result (λ all. all.items ≡ map (counted_in []) addresses.now) }
+    ensures { IfOk result (λ all. all.items ≡ map (counted_to []) addresses.now) }
 {
     let mut all = Vec::with_capacity(alloc, addresses.len())?;
     'addresses: for to in addresses {
@@ -129,7 +129,7 @@ fn count_group(
     packets: &[CountedPacket],
     sent: &[Outgoing],
 ) -> Result<Vec<CountedPacket>, AllocError>
-    ensures { IfOk result (λ all. all.items ≡ map (counted_more sent.now) packets.now) }
+    ensures { IfOk result (λ all. all.items ≡ map (counted_with sent.now) packets.now) }
 {
     let mut all = Vec::with_capacity(alloc, packets.len())?;
     'packets: for packet in packets {
@@ -140,7 +140,7 @@ fn count_group(
 
 // The packet, with the copies of these messages.
 fn count_copies(packet: CountedPacket, sent: &[Outgoing]) -> Result<CountedPacket, AllocError>
-    ensures { IfOk result (λ more. more ≡ counted_more sent.now packet) }
+    ensures { IfOk result (λ more. more ≡ counted_with sent.now packet) }
 {
     let mut more = packet;
     'sent: for one in sent {
@@ -151,7 +151,7 @@ fn count_copies(packet: CountedPacket, sent: &[Outgoing]) -> Result<CountedPacke
 
 // The packet, with the copy of the message, if its address receives it.
 fn count_copy(packet: CountedPacket, one: &Outgoing) -> Result<CountedPacket, AllocError>
-    ensures { IfOk result (λ more. more ≡ counted_more (one.now ∷ []) packet) }
+    ensures { IfOk result (λ more. more ≡ counted_with (one.now ∷ []) packet) }
 {
     if !goes_to(one, packet.to) {
         return Ok(packet);

@@ -1,7 +1,7 @@
 use Rattle.std.proofs.Common.{◌≡◌, ◌≤◌, ◌∙◌, ◌++◌, List, ap, arith, append_assoc, drop, filter, length, map, sym}
 use Rattle.std.proofs.lemmas.List.{append-nil, drop_all}
 use Rattle.base_store.proofs.Runs.{looks_twice}
-use Rattle.echo_toss.specs.Counts.{counted_more, has_messages, linked}
+use Rattle.echo_toss.specs.Counts.{counted_with, has_messages, link_set}
 use Rattle.echo_toss.specs.Exports.{Outgoing, sent_of}
 use Rattle.echo_toss.proofs.Counts.{all_counted, group_counted}
 use Rattle.echo_toss.proofs.counting.counted.Goals as goal
@@ -19,7 +19,7 @@ groups-preserved g c =
             was.0,
             (
               sent ++ more,
-              c.in_ok-packets-2.ensures ∙ (λ i. map (counted_more (c.sent.ensures i)) (c.deref-in-groups.ensures.value i)) ∙ ap (map (counted_more more)) was.1.1 ∙ group_counted sent more (linked file),
+              c.in_ok-packets-2.ensures ∙ (λ i. map (counted_with (c.sent.ensures i)) (c.deref-in-groups.ensures.value i)) ∙ ap (map (counted_with more)) was.1.1 ∙ group_counted sent more (link_set file),
               ap (λ (n : _). sent ++ more ++ sent_of file (drop n base.messages)) c.next-at.ensures ∙ append_assoc sent more rest
                   ∙ ap (λ (l : List Outgoing). sent ++ l) (c.in_ok-group.ensures.group honest base (so.1.keeps base kept)) ∙ was.1.2,
             ),

@@ -4,7 +4,7 @@ use Rattle.std.proofs.lemmas.List.{drop_more}
 use Rattle.echo_addr.specs.declared.address.Address.{Address}
 use Rattle.echo_links.specs.Links.{Area, links_of}
 use Rattle.echo_toss.proofs.Counts.{no_area, there_at}
-use Rattle.echo_toss.proofs.counting.linked.Goals as goal
+use Rattle.echo_toss.proofs.counting.link_set.Goals as goal
 
 pub areas-preserved : goal.areas-preserved
 areas-preserved c =

@@ -2,7 +2,7 @@
 use Rattle.std.proofs.Common.{◌≡◌, ◌++◌, drop}
 use Rattle.std.specs.List.{flat_map}
 use Rattle.echo_links.specs.Links.{links_of}
-use Rattle.echo_toss.proofs.counting.linked.Given as goal
+use Rattle.echo_toss.proofs.counting.link_set.Given as goal
 
 abbrev pub invariant-areas : goal.invariant-areas
 invariant-areas l =
