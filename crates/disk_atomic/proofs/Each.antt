@@ -14,7 +14,7 @@ module _ {X : Type 0} (R : X → X → Type 0) (flip : (x y : X) → R x y → R
   at P now = at_read xs P i x lt (get_or_default xs i z x lt) now
 
   -- each other element is apart from it
-  apart : (k : ℕ) (d : X) → k ≢ i → k < length xs → R x (get_or xs k d)
+  pub apart : (k : ℕ) (d : X) → k ≢ i → k < length xs → R x (get_or xs k d)
   apart k d other within =
       let there : R (get_or xs i d) (get_or xs k d) =
       ⊎_elim (λ (e : k < i). flip (get_or xs k d) (get_or xs i d) (pairs k i d e lt)) (λ (le : i ≤ k). pairs i k d (omega arith) within) (cases_lt k i) in

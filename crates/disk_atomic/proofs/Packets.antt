@@ -2,8 +2,9 @@
 use Rattle.std.proofs.Common.{◌≡◌, ◌⊎◌, ⊎_elim, ◌∙◌, ◌<◌, ℕ, List, [], ap, get_or, length, refl, sym}
 use Rattle.std.proofs.lemmas.Bool.{cases_order}
 use Rattle.std.proofs.lemmas.List.Elements.{at_read}
-use Rattle.std.specs.Prelude.{Contains}
+use Rattle.std.specs.Prelude.{All, Contains}
 use Rattle.disk_io.specs.Disk.{DiskState}
+use Rattle.disk_io.specs.Runs.{ChangesNothing}
 use Rattle.disk_atomic.specs.Changes.{ChangesOnly, HasOnDisk}
 use Rattle.disk_atomic.specs.Outgoing.{AreApart, ArePlaced, IsStagingOne, IsStagingGone, IsMade, IsStagingNamed, IsOfOne}
 use Rattle.disk_atomic.specs.declared.outgoing.Outgoing.{Outgoing}
@@ -52,6 +53,13 @@ module _ (d e : DiskState) (x : Outgoing) (run : ChangesOnly (At x) d e) (y : Ou
 
   pub filled_stays : HasOnDisk d y.staging.now y.file.now.bytes → HasOnDisk e y.staging.now y.file.now.bytes
   filled_stays was = stays_on_disk (At x) d e y.staging.now y.file.now.bytes run (λ at. apart.stagings (sym at)) was
+
+-- a run that changes nothing
+pub made_through : (d e : DiskState) → ChangesNothing d e → (packets : List Outgoing) → All (IsMade d) packets → All (IsMade e) packets
+made_through d e quiet packets all k z lt = record {
+  empty = quiet.seen (get_or packets k z).staging.now ∙ (all k z lt).empty;
+  alone = quiet.alone (get_or packets k z).staging.now (λ h. h) (all k z lt).alone;
+}
 
 -- no packet's path is one that is beside another
 pub path_not_staging : (folder : List ℕ) (packets : List Outgoing) → ArePlaced folder packets → (k : ℕ) (z : Outgoing) → k < length packets → IsStagingOne packets (get_or packets k z).path.now → ⊥

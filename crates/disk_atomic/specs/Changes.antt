@@ -30,3 +30,9 @@ pub record IsGrowing (disk : DiskState) (path : List ℕ) (at : ℕ) : Type 0 wh
   pub bytes : AreBytes (bytes_in (disk.seen path))
   pub named : disk.is_named path
   pub alone : disk.is_alone path
+
+-- The path leads to a file, and no other path does. The path is on the disk.
+pub record CanGrow (disk : DiskState) (path : List ℕ) : Type 0 where
+  pub there : IsSome (disk.seen path)
+  pub named : disk.is_named path
+  pub alone : disk.is_alone path

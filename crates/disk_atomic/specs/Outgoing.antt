@@ -1,8 +1,8 @@
 -- Packets on the way to their paths.
-use Rattle.std.specs.Prelude.{◌≡◌, ◌≢◌, ◌⊎◌, ℕ, List, [], All, AllPairs, Contains, Some, None}
+use Rattle.std.specs.Prelude.{◌≡◌, ◌≢◌, ◌⊎◌, ◌<◌, ◌++◌, ℕ, List, [], length, get_or, All, AllPairs, Contains, IsSome, Some, None}
 use Rattle.disk_io.specs.Fixed.{AreBytes}
-use Rattle.disk_io.specs.Disk.{DiskState, IsIn}
-use Rattle.disk_atomic.specs.Changes.{HasOnDisk}
+use Rattle.disk_io.specs.Disk.{DiskState, IsIn, bytes_in}
+use Rattle.disk_atomic.specs.Changes.{CanGrow, HasOnDisk}
 use Rattle.disk_atomic.specs.declared.outgoing.Outgoing.{Outgoing}
 
 -- The staging path of one of these packets.
@@ -55,6 +55,23 @@ IsStagingGone disk p = disk.seen p.staging.now ≡ None
 pub record IsMade (disk : DiskState) (p : Outgoing) : Type 0 where
   pub empty : disk.seen p.staging.now ≡ Some []
   pub alone : disk.is_alone p.staging.now
+
+-- Its staging file can grow.
+abbrev pub CanGrowStaging : DiskState → Outgoing → Type 0
+CanGrowStaging disk p = CanGrow disk p.staging.now
+
+-- Each staging file has these bytes behind those that it had; the packets are numbered.
+abbrev pub AreLonger : (ℕ → List ℕ) → List Outgoing → DiskState → DiskState → Type 0
+AreLonger more packets old new = (k : ℕ) (p : Outgoing) → k < length packets
+    → bytes_in (new.seen (get_or packets k p).staging.now) ≡ bytes_in (old.seen (get_or packets k p).staging.now) ++ more k
+
+-- Its staging file exists.
+abbrev pub HasStaging : DiskState → Outgoing → Type 0
+HasStaging disk p = IsSome (disk.seen p.staging.now)
+
+-- Its staging file has all its bytes on the disk.
+abbrev pub IsStagingFlushed : DiskState → Outgoing → Type 0
+IsStagingFlushed disk p = disk.is_flushed p.staging.now
 
 -- The packet is in its staging file, on the disk.
 abbrev pub IsFilled : DiskState → Outgoing → Type 0

@@ -60,6 +60,30 @@ fn fill_files<D: Disk>(
     Ok(())
 }
 
+/// Makes an empty staging file for each packet, and syncs the folder. If a packet's path is in use it returns `false`,
+/// and makes no file.
+pub fn make_packets<D: Disk>(
+    disk: &mut D,
+    folder: &[u8],
+    packets: &[Outgoing<'_>],
+) -> Result<bool, DiskError>
+    requires { ArePlaced folder.now packets.now }
+    ensures made { IfOk result (λ free. free ≡ true → All (IsMade (D.state disk.new)) packets.now) }
+    ensures named { IfOk result (λ free. free ≡ true → (m : List ℕ) → IsIn folder.now m → (D.state disk.new).is_named m) }
+    ensures free { Honestly (D.state disk.new) (IfOk result (λ free. free ≡ true → All (IsFree (D.state disk.new)) packets.now)) }
+    ensures taken { Honestly (D.state disk.new) (IfOk result (λ free. free ≡ false → All (IsFree (D.state disk.old)) packets.now → ⊥)) }
+    ensures changes { ChangesOnly (IsStagingOne packets.now) (D.state disk.old) (D.state disk.new) }
+    ensures cause { HasCause (D.failures disk.old) (D.failures disk.new) result }
+{
+    sync_folder_of(disk, folder)?;
+    if !are_free(disk, packets)? {
+        return Ok(false);
+    }
+    make_files(disk, packets)?;
+    sync_folder_of(disk, folder)?;
+    Ok(true)
+}
+
 /// Writes each packet into its staging file, and syncs it. If a packet's path is in use it returns `false`, and
 /// writes no packet.
 pub fn stage_packets<D: Disk>(
@@ -77,12 +101,9 @@ pub fn stage_packets<D: Disk>(
     ensures changes { ChangesOnly (IsStagingOne packets.now) (D.state disk.old) (D.state disk.new) }
     ensures cause { HasCause (D.failures disk.old) (D.failures disk.new) result }
 {
-    sync_folder_of(disk, folder)?;
-    if !are_free(disk, packets)? {
+    if !make_packets(disk, folder, packets)? {
         return Ok(false);
     }
-    make_files(disk, packets)?;
-    sync_folder_of(disk, folder)?;
     fill_files(alloc, disk, packets)?;
     Ok(true)
 }

@@ -88,15 +88,15 @@ same_members one other there back =
     (λ z i. set_keeps address_before address_order z other (there z (set_only address_before z one i)))
     (λ z i. set_keeps address_before address_order z one (back z (set_only address_before z other i)))
 
-in_front : {X : Type 0} (x : X) (xs ys : List X) → IsIn x xs → IsIn x (xs ++ ys)
+pub in_front : {X : Type 0} (x : X) (xs ys : List X) → IsIn x xs → IsIn x (xs ++ ys)
 in_front x [] ys h = absurd h
 in_front x (y ∷ xs) ys h = elim h [ inl here ↦ inl here | inr later ↦ inr (in_front x xs ys later) ]
 
-in_back : {X : Type 0} (x : X) (xs ys : List X) → IsIn x ys → IsIn x (xs ++ ys)
+pub in_back : {X : Type 0} (x : X) (xs ys : List X) → IsIn x ys → IsIn x (xs ++ ys)
 in_back x [] ys h = h
 in_back x (y ∷ xs) ys h = inr (in_back x xs ys h)
 
-in_either : {X : Type 0} (x : X) (xs ys : List X) → IsIn x (xs ++ ys) → IsIn x xs ⊎ IsIn x ys
+pub in_either : {X : Type 0} (x : X) (xs ys : List X) → IsIn x (xs ++ ys) → IsIn x xs ⊎ IsIn x ys
 in_either x [] ys h = inr h
 in_either x (y ∷ xs) ys h = elim h [
   | inl here ↦ inl (inl here)

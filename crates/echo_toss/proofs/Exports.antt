@@ -87,7 +87,7 @@ no_targets : (l : List Address) → has_some l ≡ false → l ≡ []
 no_targets [] lacks = refl
 no_targets (a ∷ more) lacks = absurd (true≢false lacks)
 
-kept_targets : (all : List Outgoing) → flat_map (λ o. o.targets) (filter is_sent all) ≡ flat_map (λ o. o.targets) all
+pub kept_targets : (all : List Outgoing) → flat_map (λ o. o.targets) (filter is_sent all) ≡ flat_map (λ o. o.targets) all
 kept_targets [] = refl
 kept_targets (o ∷ all) = elim (cases_Bool (is_sent o)) [
   | inl sent ↦ ap (flat_map (λ o. o.targets)) (cond-true (is_sent o) (o ∷ filter is_sent all) (filter is_sent all) sent) ∙ ap (λ l. o.targets ++ l) (kept_targets all)

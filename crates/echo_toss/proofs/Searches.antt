@@ -63,14 +63,14 @@ searched all x (Err at) same within parted =
       | inr behind ↦ other x (get_or all k d) (ap is_eq (parts.1 k d (ltb-false k at behind) inside))
     ]))
 
-found_in : (x : Address) (xs : List Address) → list_any (same_address x) xs ≡ true → IsIn x xs
+pub found_in : (x : Address) (xs : List Address) → list_any (same_address x) xs ≡ true → IsIn x xs
 found_in x [] h = absurd (true≢false (sym h))
 found_in x (y ∷ ys) h = elim (or_cases (same_address x y) (list_any (same_address x) ys) h) [
   | inl here ↦ inl ((same_address_decides x y).0 here)
   | inr later ↦ inr (found_in x ys later)
 ]
 
-in_found : (x : Address) (xs : List Address) → IsIn x xs → list_any (same_address x) xs ≡ true
+pub in_found : (x : Address) (xs : List Address) → IsIn x xs → list_any (same_address x) xs ≡ true
 in_found x [] h = absurd h
 in_found x (y ∷ ys) h = elim h [
   | inl here ↦ or_left (same_address x y) (list_any (same_address x) ys) ((same_address_decides x y).1 here)

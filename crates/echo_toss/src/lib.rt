@@ -7,12 +7,15 @@
 //!
 //! Begin with `tosser` (the type) and `tossing` (one received message; `receiving` reads it). `packets` tosses
 //! a whole packet, `tally` counts outcomes. `posting` files a draft; `refusing`, `drafting`, `moment` and
-//! `step_error` are its parts. `scanning` exports by `outgoing`, `packing` and `sets`; so does `resending`. Then
+//! `step_error` are its parts. `scanning` exports by `outgoing`, `packing` and `sets`; so does `resending`.
+//! `counting` counts the packets of a scan and holds none, by `grouping`, which makes their messages in groups. Then
 //! `purging`, `storing` (the base is written and read), `fault`, and `laws`.
 #![tactic(auto)]
 
+mod counting;
 mod drafting;
 mod fault;
+mod grouping;
 mod laws;
 mod moment;
 mod outgoing;
@@ -32,9 +35,11 @@ mod tosser;
 mod tossing;
 
 pub use base_file::BaseFault;
+pub use counting::{CountedPacket, count_step};
 pub use echo_filed::Filed;
 pub use echo_links::{LinkFault, LinkFile};
 pub use fault::{TossCause, TossFault};
+pub use grouping::{Group, copies_in, group_from};
 pub use laws::packet_laws;
 pub use model_steps::{Draft, Outcome, Packet, PostFault, ScanFault, Stamp};
 pub use packets::{check_destination, toss_packet_in};

@@ -63,8 +63,8 @@ pub(crate) fn waiting<T: Store>(
     Ok(all)
 }
 
-// Appends the outgoing form of the message of this number, if it has receivers. It is copied while it is the current one.
-fn push_message<T: Store>(
+/// Appends the outgoing form of the message of this number, if it has receivers. It is copied while it is the current one.
+pub(crate) fn push_message<T: Store>(
     alloc: Global,
     links: &LinkFile,
     store: &mut T,
@@ -142,9 +142,9 @@ fn has_some(targets: &[Address]) -> bool
     }
 }
 
-// The links of the area; without such an area there are none.
+/// The links of the area; without such an area there are none.
 #[tactic(auto, unfolding(echo_links::specs::Links::links_of))]
-fn links_of<'a>(links: &'a LinkFile, tag: &[u8]) -> &'a [Address]
+pub(crate) fn links_of<'a>(links: &'a LinkFile, tag: &[u8]) -> &'a [Address]
     ensures { result.now ≡ links_of links.now tag.now }
 {
     match links.links(tag) {

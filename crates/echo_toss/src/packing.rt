@@ -110,7 +110,8 @@ pub(crate) fn push_copy(
     Ok(())
 }
 
-fn goes_to(one: &Outgoing, address: Address) -> bool
+/// Whether the address receives the message.
+pub(crate) fn goes_to(one: &Outgoing, address: Address) -> bool
     ensures { result ≡ goes_out address one.now }
 {
     one.targets.as_slice().binary_search(&address).is_ok()

@@ -1,41 +1,22 @@
 use Rattle.std.proofs.Common.{◌∙◌, get_or}
-use Rattle.disk_atomic.specs.Changes.{ChangesOnly}
 use Rattle.disk_atomic.specs.Outgoing.{IsStagingOne}
-use Rattle.disk_atomic.proofs.Changes.{only_nothing, then_only}
+use Rattle.disk_atomic.proofs.Changes.{then_only}
 use Rattle.disk_atomic.proofs.Packets.{path_not_staging}
-use Rattle.disk_atomic.proofs.staged.stage_packets.Given as given
-use Rattle.disk_atomic.proofs.staged.stage_packets.Goals.{After-fill_files}
 use Rattle.disk_atomic.proofs.staged.stage_packets.Goals as goal
 
-changes : (g : given.Over) (c : After-fill_files g) → ChangesOnly (IsStagingOne c.args.packets.now) (g.D.Disk.state c.args.disk.now) (g.D.Disk.state c.fill_files.new.disk)
-changes g c =
-    let at = IsStagingOne c.args.packets.now in
-    let d0 = g.D.Disk.state c.args.disk.now in
-    let d1 = g.D.Disk.state c.sync_folder_of.new.disk in
-    let d2 = g.D.Disk.state c.are_free.new.disk in
-    let d3 = g.D.Disk.state c.make_files.new.disk in
-    let d4 = g.D.Disk.state c.sync_folder_of-2.new.disk in
-    let d5 = g.D.Disk.state c.fill_files.new.disk in
-    then_only at d0 d1 d5 (only_nothing at d0 d1 c.sync_folder_of.ensures.quiet)
-    (then_only at d1 d2 d5 (only_nothing at d1 d2 c.are_free.ensures.quiet)
-    (then_only at d2 d3 d5 c.make_files.ensures.changes
-    (then_only at d3 d4 d5 (only_nothing at d3 d4 c.sync_folder_of-2.ensures.quiet) c.fill_files.ensures.changes)))
-
 pub returns-in_err-fill_files-clause-changes : goal.returns-in_err-fill_files-clause-changes
-returns-in_err-fill_files-clause-changes g c = changes g (goal.at.returns-in_err-fill_files-clause-changes g c).After-fill_files
+returns-in_err-fill_files-clause-changes g c =
+    then_only (IsStagingOne c.args.packets.now) (g.D.Disk.state c.args.disk.now) (g.D.Disk.state c.make_packets.new.disk) (g.D.Disk.state c.fill_files.new.disk) c.make_packets.ensures.changes c.fill_files.ensures.changes
 
 pub returns-clause-changes : goal.returns-clause-changes
-returns-clause-changes g c = changes g (goal.at.returns-clause-changes g c).After-fill_files
+returns-clause-changes g c =
+    then_only (IsStagingOne c.args.packets.now) (g.D.Disk.state c.args.disk.now) (g.D.Disk.state c.make_packets.new.disk) (g.D.Disk.state c.fill_files.new.disk) c.make_packets.ensures.changes c.fill_files.ensures.changes
 
 pub returns-clause-free : goal.returns-clause-free
 returns-clause-free g c honest is k z lt =
     let path = (get_or c.args.packets.now k z).path.now in
     let not = path_not_staging c.args.folder.now c.args.packets.now c.requires k z lt in
-    let h4 = c.fill_files.ensures.changes.honest honest in
-    let h3 = c.sync_folder_of-2.ensures.quiet.honest h4 in
-    let h2 = c.make_files.ensures.changes.honest h3 in
-    c.fill_files.ensures.changes.seen path not ∙ c.sync_folder_of-2.ensures.quiet.seen path ∙ c.make_files.ensures.changes.seen path not ∙ c.are_free.ensures.quiet.seen path
-    ∙ c.in_ok-are_free.ensures.free h2 c.if-not-branch.false k z lt
+    c.fill_files.ensures.changes.seen path not ∙ c.in_ok-make_packets.ensures.free (c.fill_files.ensures.changes.honest honest) c.if-not-branch.false k z lt
 
 pub returns-clause-named : goal.returns-clause-named
-returns-clause-named g c is m inside = c.fill_files.ensures.named m (λ h. h) (c.in_ok-sync_folder_of-2.ensures.durable m inside)
+returns-clause-named g c is m inside = c.fill_files.ensures.named m (λ h. h) (c.in_ok-make_packets.ensures.named c.if-not-branch.false m inside)

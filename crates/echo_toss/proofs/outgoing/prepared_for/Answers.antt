@@ -1,4 +1,4 @@
-use Rattle.std.proofs.Common.{◌≡◌, ◌∙◌, subst, sym}
+use Rattle.std.proofs.Common.{◌≡◌, subst, sym}
 use Rattle.echo_filed.specs.Sets.{address_set}
 use Rattle.model_steps.specs.Scanning.{targets}
 use Rattle.echo_toss.proofs.AscendingSets.{set_again}

@@ -1,4 +1,4 @@
-use Rattle.std.proofs.Common.{◌≡◌, ◌∙◌, ◌++◌, List, ap}
+use Rattle.std.proofs.Common.{◌∙◌, ◌++◌, List, ap}
 use Rattle.echo_addr.specs.declared.address.Address.{Address}
 use Rattle.echo_filed.specs.Sets.{address_set}
 use Rattle.echo_toss.proofs.AscendingSets.{set_twice}

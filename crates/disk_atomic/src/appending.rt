@@ -1,0 +1,76 @@
+//! Files that grow at their end, piece by piece, while their length is asked of the disk.
+ghost use Rattle.std.specs.Prelude.{◌≡◌, ◌<◌, ◌++◌, ℕ, List, length, All, AllPairs, IfOk, OnOk};
+ghost use Rattle.disk_io.specs.Fixed.{AreBytes};
+ghost use Rattle.disk_io.specs.Disk.{Honestly, bytes_in};
+ghost use Rattle.disk_io.specs.Runs.{ChangesNothing, HasCause, KeepsNamed};
+ghost use Rattle.disk_atomic.specs.Changes.{CanGrow, ChangesOnly};
+ghost use Rattle.disk_atomic.specs.Outgoing.{AreApart, AreLonger, CanGrowStaging, HasStaging, IsStagingFlushed, IsStagingOne};
+
+use crate::outgoing::Outgoing;
+use disk_io::{Disk, DiskError, are_bytes};
+use std::alloc::{AllocError, Global};
+
+/// The next piece of each of some packets.
+pub trait Pieces {
+    // How many packets there are.
+    ghost many: { Self → ℕ };
+
+    // The bytes that come next in the packet of this number.
+    ghost bytes: { Self → ℕ → List ℕ };
+
+    /// The bytes that come next in the packet of this number, counted from 0.
+    fn piece(&self, alloc: Global, number: usize) -> Result<Vec<u8>, AllocError>
+        requires { number < many self.now }
+        ensures { IfOk result (λ piece. piece.items ≡ bytes self.now number) };
+}
+
+/// Writes the bytes behind those that the file has.
+pub fn append_piece<D: Disk>(disk: &mut D, path: &[u8], bytes: &[u8]) -> Result<(), DiskError>
+    requires { CanGrow (D.state disk.old) path.now }
+    ensures bytes { AreBytes bytes.now }
+    ensures grows { OnOk result (CanGrow (D.state disk.new) path.now) }
+    ensures more { Honestly (D.state disk.new) (OnOk result (bytes_in ((D.state disk.new).seen path.now) ≡ bytes_in ((D.state disk.old).seen path.now) ++ bytes.now)) }
+    ensures named { KeepsNamed (λ m. ⊥) (D.state disk.old) (D.state disk.new) }
+    ensures changes { ChangesOnly (λ m. m ≡ path.now) (D.state disk.old) (D.state disk.new) }
+    ensures cause { HasCause (D.failures disk.old) (D.failures disk.new) result }
+{
+    are_bytes(bytes);
+    let end = disk.len(path)?;
+    disk.write_at(path, end, bytes)
+}
+
+/// Writes to each staging file the piece that comes next there.
+pub fn append_each<D: Disk, P: Pieces>(
+    alloc: Global,
+    disk: &mut D,
+    packets: &[Outgoing<'_>],
+    pieces: &P,
+) -> Result<(), DiskError>
+    requires apart { AllPairs AreApart packets.now }
+    requires many { P.many pieces.now ≡ length packets.now }
+    requires grow { All (CanGrowStaging (D.state disk.old)) packets.now }
+    ensures grow { OnOk result (All (CanGrowStaging (D.state disk.new)) packets.now) }
+    ensures longer { Honestly (D.state disk.new) (OnOk result (AreLonger (P.bytes pieces.now) packets.now (D.state disk.old) (D.state disk.new))) }
+    ensures named { KeepsNamed (λ m. ⊥) (D.state disk.old) (D.state disk.new) }
+    ensures changes { ChangesOnly (IsStagingOne packets.now) (D.state disk.old) (D.state disk.new) }
+    ensures cause { HasCause (D.failures disk.old) (D.failures disk.new) result }
+{
+    'packets: for i in 0..packets.len() {
+        let piece = pieces.piece(alloc, i)?;
+        append_piece(disk, packets[i].staging, &piece)?;
+    }
+    Ok(())
+}
+
+/// Syncs the staging file of each packet.
+pub fn sync_packets<D: Disk>(disk: &mut D, packets: &[Outgoing<'_>]) -> Result<(), DiskError>
+    requires { Honestly (D.state disk.old) (All (HasStaging (D.state disk.old)) packets.now) }
+    ensures flushed { OnOk result (All (IsStagingFlushed (D.state disk.new)) packets.now) }
+    ensures quiet { ChangesNothing (D.state disk.old) (D.state disk.new) }
+    ensures cause { HasCause (D.failures disk.old) (D.failures disk.new) result }
+{
+    'packets: for packet in packets {
+        disk.sync(packet.staging)?;
+    }
+    Ok(())
+}

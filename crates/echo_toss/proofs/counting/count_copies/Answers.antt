@@ -1,0 +1,17 @@
+use Rattle.std.proofs.Common.{◌∙◌, ◌<◌, ◌+◌, [], ◌∷◌, List, ap, arith, drop, length, sym}
+use Rattle.std.proofs.lemmas.List.{drop_more}
+use Rattle.echo_toss.specs.Counts.{counted_with}
+use Rattle.echo_toss.specs.Exports.{Outgoing}
+use Rattle.echo_toss.proofs.Counts.{more_twice}
+use Rattle.echo_toss.proofs.counting.count_copies.Goals as goal
+
+pub sent-preserved : goal.sent-preserved
+sent-preserved c =
+    let sent = c.args.sent.now in
+    let i = c.sent.one-index in
+    let one = c.one-item.result in
+    let rest = drop (i + 1) sent in
+    let within : i < length sent = omega arith in
+    ap (counted_with rest) c.in_ok-more.ensures ∙ more_twice c.sent.more (one ∷ []) rest
+    ∙ ap (λ (l : List Outgoing). counted_with l c.sent.more) (ap (λ (o : Outgoing). o ∷ rest) c.one-item.is ∙ sym (drop_more sent i one within))
+    ∙ c.sent.invariant

@@ -1,0 +1,30 @@
+use Rattle.std.proofs.Common.{◌++◌, List, ap, arith, drop, sym}
+use Rattle.base_store.proofs.Runs.{looks_twice}
+use Rattle.echo_toss.specs.Exports.{Outgoing, is_sent, outgoing_of, sent_of}
+use Rattle.echo_toss.proofs.Exports.{next_waits}
+use Rattle.echo_toss.proofs.grouping.group_from.Goals as goal
+
+pub group-init : goal.group-init
+group-init g c = (
+  λ honest base kept.
+      let found = c.in_ok-push_message.ensures.grown honest base kept in
+      let rest = sent_of c.args.links.now (drop c.args.from base.messages) in
+      next_waits is_sent (outgoing_of c.args.links.now) base.messages c.args.from found.0 _ _ _ (sym found.1) (ap (λ (l : List Outgoing). l ++ rest) c.new-sent.ensures.items) found.2,
+  c.push_message.ensures.looks,
+  c.push_message.ensures.cause.later,
+  omega arith,
+  omega (arith, c.requires.some),
+)
+
+pub group-preserved : goal.group-preserved
+group-preserved g c =
+    let so = c.group.invariant in (
+      λ honest base kept.
+          let was = so.0 (c.push_message-in-group.ensures.looks.quiet.honest honest) base kept in
+          let found = c.in_ok-push_message-2.ensures.grown honest base (so.1.keeps base kept) in
+          next_waits is_sent (outgoing_of c.args.links.now) base.messages c.group.at found.0 _ _ _ (sym found.1) was found.2,
+      looks_twice _ _ _ so.1 c.push_message-in-group.ensures.looks,
+      omega (arith, so.2, c.push_message-in-group.ensures.cause.later),
+      omega (arith, so.3),
+      omega (arith, c.group-test.true),
+    )

@@ -1,0 +1,53 @@
+-- The packets of a scan, counted group by group.
+use Rattle.std.specs.Prelude.{◌≡◌, ℕ, ◌+◌, nat_lt, Bool, List, ◌++◌, map, filter, length, drop}
+use Rattle.std.specs.List.{flat_map}
+use Rattle.echo_addr.specs.declared.address.Address.{Address}
+use Rattle.echo_packet.specs.Message.{Message, messages_bytes}
+use Rattle.echo_packet.specs.Packet.{packet_bytes}
+use Rattle.echo_links.specs.Links.{LinkFile, links_of}
+use Rattle.echo_filed.specs.Filed.{Filed}
+use Rattle.echo_filed.specs.Sets.{address_set}
+use Rattle.model_steps.specs.declared.packet.Packet.{Packet}
+use Rattle.echo_toss.specs.Exports.{Outgoing, copy_out, goes_out, sent_of}
+use Rattle.echo_toss.specs.declared.counting.CountedPacket.{CountedPacket}
+
+-- outgoing messages in order, and the number of the first message after them
+pub record Group : Type 0 where
+  pub sent : List Outgoing
+  pub next : ℕ
+
+-- the group has what goes out of the messages from a number on, as far as it reaches
+abbrev pub IsGroupFrom : LinkFile → List Filed → ℕ → Group → Type 0
+IsGroupFrom file messages from group = group.sent ++ sent_of file (drop group.next messages) ≡ sent_of file (drop from messages)
+
+-- the copies for an address
+abbrev pub copies_out : Address → List Outgoing → List Message
+copies_out address sent = map (copy_out address) (filter (goes_out address) sent)
+
+-- the addresses of all links
+abbrev pub link_set : LinkFile → List Address
+link_set file = address_set (flat_map (λ area. links_of file area.tag) file.areas)
+
+-- a packet's address, and how large it is
+abbrev pub counted_of : Packet → CountedPacket
+counted_of p = record {
+  to = record { zone = p.header.dest_zone; net = p.header.dest_net; node = p.header.dest_node };
+  messages = length p.messages;
+  bytes = length (packet_bytes p.header p.messages);
+}
+
+-- the packet of outgoing messages to an address, counted
+abbrev pub counted_to : List Outgoing → Address → CountedPacket
+counted_to sent address = record { to = address; messages = length (copies_out address sent); bytes = 60 + length (messages_bytes (copies_out address sent)) }
+
+-- and more of them
+abbrev pub counted_with : List Outgoing → CountedPacket → CountedPacket
+counted_with sent packet = record {
+  to = packet.to;
+  messages = packet.messages + length (copies_out packet.to sent);
+  bytes = packet.bytes + length (messages_bytes (copies_out packet.to sent));
+}
+
+-- whether it has some
+abbrev pub has_messages : CountedPacket → Bool
+has_messages packet = nat_lt 0 packet.messages

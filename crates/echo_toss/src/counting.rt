@@ -1,0 +1,198 @@
+//! The packets of a scan, counted and not held: whom each is for, and how large it will be.
+ghost use Rattle.std.specs.Prelude.{◌≡◌, ◌+◌, [], ◌∷◌, true, length, map, filter, slice_get, Some, IfErr, IfOk, OnErr, OnOk};
+ghost use Rattle.disk_io.specs.Disk.{Honestly};
+ghost use Rattle.disk_io.specs.Runs.{ChangesNothing};
+ghost use Rattle.base_file.specs.Base.{Base};
+ghost use Rattle.base_store.specs.Store.{CommitsNothing, GoesOn, HasStoreCause, LooksOn, Undoes, all_scanned};
+ghost use Rattle.echo_packet.specs.Message.{message_bytes};
+ghost use Rattle.echo_links.specs.Links.{Area, links_of};
+ghost use Rattle.model_steps.specs.Scanning.{scanned};
+ghost use Rattle.model_steps.specs.Stamps.{is_stamp};
+ghost use Rattle.echo_toss.specs.Counts.{counted_to, counted_with, counted_of, has_messages, link_set};
+ghost use Rattle.echo_toss.specs.Stores.{IsScanStop, scan_answer};
+
+use crate::grouping::group_from;
+use crate::moment::is_stamp;
+use crate::outgoing::{Outgoing, links_of};
+use crate::packing::goes_to;
+use crate::sets::address_set;
+use crate::step_error::ScanStepError;
+use base_store::{Store, StoreError};
+use echo_addr::Address;
+use echo_links::LinkFile;
+use echo_packet::PackedCopy;
+use model_steps::Stamp;
+use std::alloc::{AllocError, Global};
+
+/// A packet that a scan will make: its address, and how many messages and bytes it will have.
+#[derive(Clone, Copy, Debug, PartialEq, Eq)]
+pub struct CountedPacket {
+    pub to: Address,
+    pub messages: usize,
+    pub bytes: usize,
+}
+
+/// Counts the packets of the store's waiting messages: one for each address that gets some of them, ascending. Then
+/// no message waits. Nothing is committed. It holds a group of messages at a time.
+pub fn count_step<T: Store>(
+    alloc: Global,
+    links: &LinkFile,
+    store: &mut T,
+    stamp: Stamp,
+) -> Result<Vec<CountedPacket>, ScanStepError>
+    requires { (T.state store.old).is_ready }
+    ensures stamp { OnOk result (is_stamp stamp ≡ true) }
+    ensures packets { Honestly (T.state store.new).disk ((base : Base) → (T.state store.old).keeps base
+        → IfOk result (λ all. all.items ≡ map counted_of (scanned links.now base.messages base.cursor stamp))) }
+    ensures moved { Honestly (T.state store.new).disk ((base : Base) → (T.state store.old).keeps base → OnOk result ((T.state store.new).keeps (all_scanned base))) }
+    ensures stop { IfErr result (IsScanStop stamp (T.state store.old) (T.state store.new)) }
+    ensures goes_on { OnOk result (GoesOn (T.state store.old) (T.state store.new)) }
+    ensures undone { OnErr result (Undoes (T.state store.old) (T.state store.new)) }
+    ensures quiet { ChangesNothing (T.state store.old).disk (T.state store.new).disk }
+    ensures commits { CommitsNothing (T.state store.old) (T.state store.new) }
+    ensures cause { HasStoreCause (T.state store.old) (T.state store.new) (T.failures store.old) (T.failures store.new) (scan_answer result) }
+{
+    if !is_stamp(stamp) {
+        return Err(ScanStepError::BadStamp);
+    }
+    let packets = counted(alloc, links, store)?;
+    store.move_to_end()?;
+    Ok(packets)
+}
+
+// Counts the packets of the messages from the cursor on.
+fn counted<T: Store>(
+    alloc: Global,
+    links: &LinkFile,
+    store: &mut T,
+) -> Result<Vec<CountedPacket>, StoreError>
+    requires { (T.state store.old).is_ready }
+    ensures packets { Honestly (T.state store.new).disk ((base : Base) → (T.state store.old).keeps base
+        → IfOk result (λ all. (stamp : Stamp) → all.items ≡ map counted_of (scanned links.now base.messages base.cursor stamp))) }
+    ensures looks { LooksOn (T.state store.old) (T.state store.new) }
+    ensures cause { HasStoreCause (T.state store.old) (T.state store.new) (T.failures store.old) (T.failures store.new) result }
+{
+    let addresses = link_set(alloc, links)?;
+    let mut packets = none_counted(alloc, &addresses)?;
+    let end = store.len();
+    let mut at = store.cursor();
+    'groups: while at < end {
+        let group = group_from(alloc, links, store, at, end)?;
+        packets = count_group(alloc, &packets, group.sent())?;
+        at = group.next();
+    }
+    Ok(with_messages(alloc, &packets)?)
+}
+
+// The links of all areas, ascending.
+fn link_set(alloc: Global, links: &LinkFile) -> Result<Vec<Address>, AllocError>
+    ensures { IfOk result (λ all. all.items ≡ link_set links.now) }
+{
+    let mut all = Vec::new(alloc);
+    'areas: for i in 0..links.areas() {
+        all.extend_from_slice(links_in(links, i))?;
+    }
+    Ok(address_set(all))
+}
+
+// The links of the area of this number.
+fn links_in(links: &LinkFile, i: usize) -> &[Address]
+    ensures { (area : Area) → slice_get links.now.areas i ≡ Some area → result.now ≡ links_of links.now area.tag }
+{
+    match links.area(i) {
+        Some(tag) => links_of(links, tag),
+        None => &[],
+    }
+}
+
+// The bytes of a packet beside its messages: the header, and 00 00.
+const BESIDE: usize = 60;
+
+// A packet without messages for each address.
+fn none_counted(alloc: Global, addresses: &[Address]) -> Result<Vec<CountedPacket>, AllocError>
+    ensures { IfOk result (λ all. all.items ≡ map (counted_to []) addresses.now) }
+{
+    let mut all = Vec::with_capacity(alloc, addresses.len())?;
+    'addresses: for to in addresses {
+        all.push(CountedPacket {
+            to: *to,
+            messages: 0,
+            bytes: BESIDE,
+        })?;
+    }
+    Ok(all)
+}
+
+// The packets, with the copies of these messages.
+fn count_group(
+    alloc: Global,
+    packets: &[CountedPacket],
+    sent: &[Outgoing],
+) -> Result<Vec<CountedPacket>, AllocError>
+    ensures { IfOk result (λ all. all.items ≡ map (counted_with sent.now) packets.now) }
+{
+    let mut all = Vec::with_capacity(alloc, packets.len())?;
+    'packets: for packet in packets {
+        all.push(count_copies(*packet, sent)?)?;
+    }
+    Ok(all)
+}
+
+// The packet, with the copies of these messages.
+fn count_copies(packet: CountedPacket, sent: &[Outgoing]) -> Result<CountedPacket, AllocError>
+    ensures { IfOk result (λ more. more ≡ counted_with sent.now packet) }
+{
+    let mut more = packet;
+    'sent: for one in sent {
+        more = count_copy(more, one)?;
+    }
+    Ok(more)
+}
+
+// The packet, with the copy of the message, if its address receives it.
+fn count_copy(packet: CountedPacket, one: &Outgoing) -> Result<CountedPacket, AllocError>
+    ensures { IfOk result (λ more. more ≡ counted_with (one.now ∷ []) packet) }
+{
+    if !goes_to(one, packet.to) {
+        return Ok(packet);
+    }
+    Ok(CountedPacket {
+        to: packet.to,
+        messages: sum(packet.messages, 1)?,
+        bytes: sum(packet.bytes, message_size(&one.message))?,
+    })
+}
+
+// The sum. There is no memory for more than `usize::MAX` bytes.
+fn sum(one: usize, other: usize) -> Result<usize, AllocError>
+    ensures { IfOk result (λ sum. sum ≡ one + other) }
+{
+    match one.checked_add(other) {
+        Some(sum) => Ok(sum),
+        None => Err(AllocError),
+    }
+}
+
+// The bytes of a message beside its strings, the 00 after each among them.
+const FIXED: usize = 38;
+
+// How many bytes a message has.
+fn message_size(copy: &PackedCopy) -> usize
+    ensures { result ≡ length (message_bytes copy.now) }
+{
+    let message = copy.message();
+    let text = message.text().len();
+    let names = message.to_name().len() + message.from_name().len();
+    FIXED + names + message.subject().len() + text
+}
+
+// Those that have messages.
+fn with_messages(alloc: Global, packets: &[CountedPacket]) -> Result<Vec<CountedPacket>, AllocError>
+    ensures { IfOk result (λ all. all.items ≡ filter has_messages packets.now) }
+{
+    packets
+        .iter()
+        .copied()
+        .filter(|packet| packet.messages > 0)
+        .collect(alloc)
+}
