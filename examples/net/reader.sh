@@ -1,8 +1,9 @@
 #!/bin/sh
 # reader.sh STATION AREA DIR: lets a reader of the field, as GoldED, read and write an area in the folder DIR of
 # stored messages (N.msg).
-# reader.sh --jam STATION AREA PATH: lets it read the area in the JAM base PATH (PATH.jhr and so on). What is new in the
-# base is added, and nothing is posted; PATH.next has the number of the message with which the next run begins.
+# reader.sh --jam STATION AREA PATH: lets it read and write the area in the JAM base PATH (PATH.jhr and so on). What an
+# editor wrote there is posted and marked as Sent. Then what is new in the base is added; PATH.next has the number of the
+# message with which the next run begins. A message that is refused stays, and the status is 2.
 #
 # What an editor wrote there (Local, not Sent, and under no id of the base) is posted and then moves to DIR/posted;
 # what is refused goes to DIR/refused, with the fault and the note on it in NAME.why. Then what is new in the
@@ -62,8 +63,13 @@ add_new() {
 if [ $form = --jam ]; then
   exec 9> "$3.lock"
   flock 9
+  posted=0
+  if [ -e "$3.jhr" ]; then
+    "$program" post --jam "$3" --area "$area" --serial auto --at now "$station/links" "$station/base" || posted=$?
+  fi
+  if [ $posted -gt 2 ]; then exit $posted; fi
   add_new "$3" "$3.next"
-  exit
+  exit $posted
 fi
 
 mkdir -p "$3"

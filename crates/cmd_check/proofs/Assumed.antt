@@ -110,10 +110,10 @@ others_of (b ∷ bs) texts (l ∷ ls) (x ∷ all) are both =
     (others, ap (λ f. f ∷ all) (both.0.1 ∙ sym are.0.1) ∙ ap (λ t. l ∷ t) same, rest)
 
 -- what was printed of the files with those of the assumed systems
-pub was_assumed : (nodelist : Option (List ℕ)) (tag t : List ℕ) (inputs texts : List (List ℕ)) (links : List LinkFile) (assumed : List Address) (lines : List ℕ) (status : Status)
-    → AreLinkFiles inputs links → t ≡ upper tag → AreAssumed links t assumed texts → IsCheckedWith nodelist tag (inputs ++ texts) assumed lines status
-    → IsCheckedAssuming nodelist tag inputs assumed lines status
-was_assumed nodelist tag t inputs texts links assumed lines status are raised assuming checked = record {
+pub was_assumed : (nodelist : Option (List ℕ)) (more : Bool) (tag t : List ℕ) (inputs texts : List (List ℕ)) (links : List LinkFile) (assumed : List Address) (lines : List ℕ) (status : Status)
+    → AreLinkFiles inputs links → t ≡ upper tag → AreAssumed links t assumed texts → IsCheckedWith nodelist more tag (inputs ++ texts) assumed lines status
+    → IsCheckedAssuming nodelist more tag inputs assumed lines status
+was_assumed nodelist more tag t inputs texts links assumed lines status are raised assuming checked = record {
   files = links;
   are_files = are;
   texts = texts;
@@ -135,10 +135,10 @@ text_refused nodelist tag t inputs shown texts links assumed fault are raised as
 }))
 
 -- a 0 is so of each run
-pub headline_assuming : (nodelist : Option (List ℕ)) (tag : List ℕ) (inputs : List (List ℕ)) (assumed : List Address) (stopped : Option Fault) (old new : Output)
-    (answer : Result Status Fault) → CheckAssumingAnswers nodelist tag inputs assumed stopped old new answer → answer ≡ Ok Good
+pub headline_assuming : (nodelist : Option (List ℕ)) (more : Bool) (tag : List ℕ) (inputs : List (List ℕ)) (assumed : List Address) (stopped : Option Fault) (old new : Output)
+    (answer : Result Status Fault) → CheckAssumingAnswers nodelist more tag inputs assumed stopped old new answer → answer ≡ Ok Good
     → (links : List LinkFile) → AreLinkFiles inputs links → IsPromisedAssuming links (upper tag) assumed
-headline_assuming nodelist tag inputs assumed stopped old new (Ok found) so good links are =
+headline_assuming nodelist more tag inputs assumed stopped old new (Ok found) so good links are =
     let found_is = so.right.0 in
     let is_good : found ≡ Good = cc good in
     let checked = found_is.checked.checked in
@@ -152,4 +152,4 @@ headline_assuming nodelist tag inputs assumed stopped old new (Ok found) so good
       tidy = subst (λ (f : List LinkFile). Tidy f (upper tag)) whole (checked.tidy.0 is_good);
       orderly = subst (λ (f : List LinkFile). RunsAreOrderly f (upper tag)) whole (checked.orderly is_good);
     }
-headline_assuming nodelist tag inputs assumed stopped old new (Err f) so good links are = absurd (cc good)
+headline_assuming nodelist more tag inputs assumed stopped old new (Err f) so good links are = absurd (cc good)

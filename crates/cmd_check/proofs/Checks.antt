@@ -1,5 +1,5 @@
 -- What `check` answers, from what its parts do.
-use Rattle.std.proofs.Common.{◌≡◌, ℕ, List, [], ◌∷◌, Option, Result, Ok, Err, refl, sym, ap, subst, ◌∙◌}
+use Rattle.std.proofs.Common.{◌≡◌, ℕ, Bool, List, [], ◌∷◌, Option, Result, Ok, Err, refl, sym, ap, subst, ◌∙◌}
 use Rattle.cmd_status.specs.Devices.{Output}
 use Rattle.echo_links.specs.Links.{LinkFile, upper}
 use Rattle.echo_nodelist.specs.declared.line.Line.{Line}
@@ -10,7 +10,7 @@ use Rattle.echo_net.specs.Faults.{IsYes}
 use Rattle.cmd_status.specs.declared.fault.Fault.{Fault}
 use Rattle.cmd_status.specs.declared.status.Status.{Status}
 use Rattle.cmd_status.specs.declared.status.Status.TheVariants.{Good}
-use Rattle.cmd_print.specs.Checked.{CheckShown}
+use Rattle.cmd_check.specs.Further.{IsVerdictShown}
 use Rattle.cmd_check.specs.Checking.{CheckAnswers, IsChecked, IsCheckVerdict, RunsAreOrderly, verdict_status}
 use Rattle.cmd_status.specs.Inputs.{AreLinkFiles, IsNodelistGiven}
 use Rattle.cmd_print.specs.Pushed.{Pushes}
@@ -31,11 +31,11 @@ of_same P f g t u same_files same_tag holds =
     subst (λ (x : List ℕ). P g x) same_tag (subst (λ (x : List LinkFile). P x t) same_files holds)
 
 -- the lines of the verdict on link files that were read
-pub was_checked : (nodelist : Option (List ℕ)) (list : Option (List Line)) (tag t : List ℕ) (inputs : List (List ℕ)) (files : List LinkFile) (verdict : Verdict)
+pub was_checked : (nodelist : Option (List ℕ)) (list : Option (List Line)) (more : Bool) (tag t : List ℕ) (inputs : List (List ℕ)) (files : List LinkFile) (verdict : Verdict)
     (none lines : List ℕ) (status : Status) → IsNodelistGiven nodelist list → AreLinkFiles inputs files → t ≡ upper tag
-    → IsCheckVerdict files t verdict → (IsYes verdict → RunsAreOrderly files t) → none ≡ [] → Pushes (CheckShown files t list verdict) none lines
-    → status ≡ verdict_status verdict → IsChecked nodelist tag inputs lines status
-was_checked nodelist list tag t inputs files verdict none lines status is_list are raised judged runs nothing pushed ended =
+    → IsCheckVerdict files t verdict → (IsYes verdict → RunsAreOrderly files t) → none ≡ [] → Pushes (IsVerdictShown files t list more verdict) none lines
+    → status ≡ verdict_status verdict → IsChecked nodelist more tag inputs lines status
+was_checked nodelist list more tag t inputs files verdict none lines status is_list are raised judged runs nothing pushed ended =
     let same : files ≡ files = refl in
     let judged_upper : IsCheckVerdict files (upper tag) verdict = of_same (λ f u. IsCheckVerdict f u verdict) files files t (upper tag) same raised judged in
     record {
@@ -45,8 +45,8 @@ was_checked nodelist list tag t inputs files verdict none lines status is_list a
       is_list = is_list;
       verdict = verdict;
       is_verdict = judged_upper;
-      printed = subst (CheckShown files (upper tag) list verdict) (sym (alone none lines pushed.lines nothing pushed.whole))
-          (of_same (λ f u. CheckShown f u list verdict pushed.lines) files files t (upper tag) same raised pushed.are);
+      printed = subst (IsVerdictShown files (upper tag) list more verdict) (sym (alone none lines pushed.lines nothing pushed.whole))
+          (of_same (λ f u. IsVerdictShown f u list more verdict pushed.lines) files files t (upper tag) same raised pushed.are);
       status_is = ended;
       tidy = (
         λ good. judged_upper.tidy.0 (good_is_yes verdict (sym ended ∙ good)),
@@ -66,13 +66,13 @@ one_reading (bytes ∷ inputs) (x ∷ a) (y ∷ b) p q =
     ap (λ f. f ∷ a) (p.0.1 ∙ sym q.0.1) ∙ ap (λ l. y ∷ l) (one_reading inputs a b p.1 q.1)
 
 -- a 0 is so of each run
-pub headline : (nodelist : Option (List ℕ)) (tag : List ℕ) (inputs : List (List ℕ)) (stopped : Option Fault) (old new : Output)
-    (answer : Result Status Fault) → CheckAnswers nodelist tag inputs stopped old new answer → answer ≡ Ok Good
+pub headline : (nodelist : Option (List ℕ)) (more : Bool) (tag : List ℕ) (inputs : List (List ℕ)) (stopped : Option Fault) (old new : Output)
+    (answer : Result Status Fault) → CheckAnswers nodelist more tag inputs stopped old new answer → answer ≡ Ok Good
     → (links : List LinkFile) → AreLinkFiles inputs links → Tidy links (upper tag) × RunsAreOrderly links (upper tag)
-headline nodelist tag inputs stopped old new (Ok found) so good links are =
+headline nodelist more tag inputs stopped old new (Ok found) so good links are =
     let checked = so.right.0 in
     let is_good : found ≡ Good = cc good in
     let same : checked.files ≡ links = one_reading inputs checked.files links checked.are_files are in
     let P : List LinkFile → Type 0 = λ f. Tidy f (upper tag) × RunsAreOrderly f (upper tag) in
     subst P same (checked.tidy.0 is_good, checked.orderly is_good)
-headline nodelist tag inputs stopped old new (Err f) so good links are = absurd (cc good)
+headline nodelist more tag inputs stopped old new (Err f) so good links are = absurd (cc good)

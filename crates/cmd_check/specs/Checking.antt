@@ -1,5 +1,5 @@
 -- What `check` answers.
-use Rattle.std.specs.Prelude.{◌≡◌, ℕ, ◌↔◌, List, Option, None, Result}
+use Rattle.std.specs.Prelude.{◌≡◌, ℕ, ◌↔◌, Bool, List, Option, None, Result}
 use Rattle.cmd_status.specs.Devices.{Output}
 use Rattle.echo_links.specs.Links.{LinkFile, upper}
 use Rattle.echo_nodelist.specs.declared.line.Line.{Line}
@@ -16,7 +16,7 @@ use Rattle.cmd_status.specs.declared.status.Status.{Status}
 use Rattle.cmd_status.specs.declared.status.Status.TheVariants.{Good, Differs}
 use Rattle.cmd_status.specs.Ended.{Answers}
 use Rattle.cmd_status.specs.Inputs.{AreLinkFiles, IsFirstFaultGiven, IsNodelistGiven}
-use Rattle.cmd_print.specs.Checked.{CheckShown}
+use Rattle.cmd_check.specs.Further.{IsVerdictShown}
 
 -- 1 for a no.
 abbrev pub verdict_status : Verdict → Status
@@ -35,19 +35,19 @@ abbrev pub RunsAreOrderly : List LinkFile → List ℕ → Type 0
 RunsAreOrderly files tag = (events : List RunEvent) → Orderly (run_of files events) tag
 
 -- The link files and the nodelist have no fault; these are the lines of the verdict on the area of the tag in upper case. The status is 0 exactly where the area is tidy, and then every run is orderly.
-pub record IsChecked (nodelist : Option (List ℕ)) (tag : List ℕ) (inputs : List (List ℕ)) (lines : List ℕ) (status : Status) : Type 0 where
+pub record IsChecked (nodelist : Option (List ℕ)) (more : Bool) (tag : List ℕ) (inputs : List (List ℕ)) (lines : List ℕ) (status : Status) : Type 0 where
   pub files : List LinkFile
   pub are_files : AreLinkFiles inputs files
   pub list : Option (List Line)
   pub is_list : IsNodelistGiven nodelist list
   pub verdict : Verdict
   pub is_verdict : IsCheckVerdict files (upper tag) verdict
-  pub printed : CheckShown files (upper tag) list verdict lines
+  pub printed : IsVerdictShown files (upper tag) list more verdict lines
   pub status_is : status ≡ verdict_status verdict
   pub tidy : (status ≡ Good) ↔ Tidy files (upper tag)
   pub orderly : status ≡ Good → RunsAreOrderly files (upper tag)
 
 -- the right result if an area is to be checked
-abbrev pub CheckAnswers : Option (List ℕ) → List ℕ → List (List ℕ) → Option Fault → Output → Output → Result Status Fault → Type 0
-CheckAnswers nodelist tag inputs stopped old new answer =
-    Answers (λ lines status. IsChecked nodelist tag inputs lines status × (stopped ≡ None)) (IsFirstFaultGiven nodelist inputs stopped) old new answer
+abbrev pub CheckAnswers : Option (List ℕ) → Bool → List ℕ → List (List ℕ) → Option Fault → Output → Output → Result Status Fault → Type 0
+CheckAnswers nodelist more tag inputs stopped old new answer =
+    Answers (λ lines status. IsChecked nodelist more tag inputs lines status × (stopped ≡ None)) (IsFirstFaultGiven nodelist inputs stopped) old new answer

@@ -1,5 +1,5 @@
 -- What `check --assume` answers.
-use Rattle.std.specs.Prelude.{◌≡◌, ◌⊎◌, ℕ, List, ◌++◌, Option, None, Result}
+use Rattle.std.specs.Prelude.{◌≡◌, ◌⊎◌, ℕ, Bool, List, ◌++◌, Option, None, Result}
 use Rattle.std.specs.List.{flat_map}
 use Rattle.echo_addr.specs.declared.address.Address.{Address}
 use Rattle.echo_links.specs.Links.{LinkFile, upper}
@@ -13,18 +13,18 @@ use Rattle.cmd_check.specs.Assuming.{AreAssumed, assumed_line}
 use Rattle.cmd_check.specs.Checking.{IsChecked, RunsAreOrderly}
 
 -- The lines of `check` on these files, and behind them a line for each assumed system.
-pub record IsCheckedWith (nodelist : Option (List ℕ)) (tag : List ℕ) (inputs : List (List ℕ)) (assumed : List Address) (lines : List ℕ) (status : Status) : Type 0 where
+pub record IsCheckedWith (nodelist : Option (List ℕ)) (more : Bool) (tag : List ℕ) (inputs : List (List ℕ)) (assumed : List Address) (lines : List ℕ) (status : Status) : Type 0 where
   pub front : List ℕ
-  pub checked : IsChecked nodelist tag inputs front status
+  pub checked : IsChecked nodelist more tag inputs front status
   pub whole : lines ≡ front ++ flat_map assumed_line assumed
 
 -- The same, where the files are those that are given, and behind them those of the assumed systems: the status is 0 exactly where the area is tidy with these, and then every run is orderly in which each assumed system has that file.
-pub record IsCheckedAssuming (nodelist : Option (List ℕ)) (tag : List ℕ) (inputs : List (List ℕ)) (assumed : List Address) (lines : List ℕ) (status : Status) : Type 0 where
+pub record IsCheckedAssuming (nodelist : Option (List ℕ)) (more : Bool) (tag : List ℕ) (inputs : List (List ℕ)) (assumed : List Address) (lines : List ℕ) (status : Status) : Type 0 where
   pub files : List LinkFile
   pub are_files : AreLinkFiles inputs files
   pub texts : List (List ℕ)
   pub are_assumed : AreAssumed files (upper tag) assumed texts
-  pub checked : IsCheckedWith nodelist tag (inputs ++ texts) assumed lines status
+  pub checked : IsCheckedWith nodelist more tag (inputs ++ texts) assumed lines status
 
 -- What a 0 promises: with the files of the assumed systems the area is tidy, and every run is orderly in it.
 pub record IsPromisedAssuming (files : List LinkFile) (tag : List ℕ) (assumed : List Address) : Type 0 where
@@ -50,11 +50,11 @@ pub record IsAssumedFault (tag : List ℕ) (inputs : List (List ℕ)) (assumed :
   pub fault_is : IsLinkFault texts fault
 
 -- The right result if an area is to be checked, with some systems assumed.
-abbrev pub CheckAssumingAnswers : Option (List ℕ) → List ℕ → List (List ℕ) → List Address → Option Fault → Output → Output → Result Status Fault → Type 0
-CheckAssumingAnswers nodelist tag inputs assumed stopped old new answer =
-    Answers (λ lines status. IsCheckedAssuming nodelist tag inputs assumed lines status × (stopped ≡ None))
+abbrev pub CheckAssumingAnswers : Option (List ℕ) → Bool → List ℕ → List (List ℕ) → List Address → Option Fault → Output → Output → Result Status Fault → Type 0
+CheckAssumingAnswers nodelist more tag inputs assumed stopped old new answer =
+    Answers (λ lines status. IsCheckedAssuming nodelist more tag inputs assumed lines status × (stopped ≡ None))
     (λ fault. IsFirstFaultGiven nodelist inputs stopped fault ⊎ IsAssumedFault tag inputs assumed fault) old new answer
 
 -- The right result if the lines of `check` and of assumed systems are to be printed.
-abbrev pub PrintsChecked : Option (List ℕ) → List ℕ → List (List ℕ) → List Address → Output → Output → Result Status Fault → Type 0
-PrintsChecked nodelist tag inputs assumed old new answer = Answers (IsCheckedWith nodelist tag inputs assumed) (λ fault. ⊥) old new answer
+abbrev pub PrintsChecked : Option (List ℕ) → Bool → List ℕ → List (List ℕ) → List Address → Output → Output → Result Status Fault → Type 0
+PrintsChecked nodelist more tag inputs assumed old new answer = Answers (IsCheckedWith nodelist more tag inputs assumed) (λ fault. ⊥) old new answer

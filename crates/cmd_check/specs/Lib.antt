@@ -1,4 +1,5 @@
 pub mod AreaTags
+pub mod Further
 pub mod Checking
 pub mod CheckingAll
 pub mod Assuming

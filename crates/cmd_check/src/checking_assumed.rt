@@ -8,7 +8,7 @@ ghost use Rattle.cmd_status.specs.Inputs.{AreLinkFiles, IsLinkFault, IsNodelistG
 ghost use Rattle.cmd_check.specs.CheckingAssumed.{CheckAssumingAnswers, IsPromisedAssuming, PrintsChecked, ReadsMore};
 
 use crate::assuming::{push_assumed, push_assumed_lines};
-use crate::checking::{push_check, status_of};
+use crate::checking::{Besides, push_check, status_of};
 use cmd_status::{Fault, Status, link_files, nodelist_given, print_rest};
 use disk_io::Sink;
 use echo_addr::{Address, Items};
@@ -16,49 +16,58 @@ use echo_links::LinkFile;
 use echo_nodelist::Nodelist;
 use std::alloc::Global;
 
-/// `check --assume ADDRESS.. [--nodelist LIST] TAG LINKS...`: prints what `check` prints of the given files with
+/// `check --assume ADDRESS.. [--nodelist LIST] [--more] TAG LINKS...`: prints what `check` prints of the given files with
 /// those of the assumed systems behind them, and then a line for each of these systems. An assumed system is
 /// judged as if it had the area and listed just those who list it.
 pub fn check_assuming<'a, W: Sink>(
     alloc: Global,
-    nodelist: Option<&[u8]>,
+    besides: Besides<'_>,
     tag: &[u8],
     files: &[Items<u8>],
     assumed: &[Address],
     stopped: Option<Fault<'a>>,
     out: &mut W,
 ) -> Result<Status, Fault<'a>>
-    ensures answer { CheckAssumingAnswers (option_copied nodelist.entry) tag.now files.now assumed.now stopped.entry (output_of W.contents W.failures W.holds out.old) (output_of W.contents W.failures W.holds out.new) result }
+    ensures answer { CheckAssumingAnswers (option_copied besides.entry.nodelist) besides.entry.more tag.now files.now assumed.now stopped.entry (output_of W.contents W.failures W.holds out.old) (output_of W.contents W.failures W.holds out.new) result }
     // What a 0 promises: with the files of the assumed systems the area is tidy, and every run is orderly in it.
     ensures headline { result ≡ Ok Good → (links : List LinkFile) → AreLinkFiles files.now links → IsPromisedAssuming links (upper tag.now) assumed.now }
 {
-    check_assuming_given(alloc, nodelist, tag, files, assumed, stopped, out)
+    check_assuming_given(alloc, besides, tag, files, assumed, stopped, out)
 }
 
 fn check_assuming_given<'a, W: Sink>(
     alloc: Global,
-    nodelist: Option<&[u8]>,
+    besides: Besides<'_>,
     tag: &[u8],
     files: &[Items<u8>],
     assumed: &[Address],
     stopped: Option<Fault<'a>>,
     out: &mut W,
 ) -> Result<Status, Fault<'a>>
-    ensures { CheckAssumingAnswers (option_copied nodelist.entry) tag.now files.now assumed.now stopped.entry (output_of W.contents W.failures W.holds out.old) (output_of W.contents W.failures W.holds out.new) result }
+    ensures { CheckAssumingAnswers (option_copied besides.entry.nodelist) besides.entry.more tag.now files.now assumed.now stopped.entry (output_of W.contents W.failures W.holds out.old) (output_of W.contents W.failures W.holds out.new) result }
 {
-    let list = nodelist_given(alloc, nodelist)?;
+    let list = nodelist_given(alloc, besides.nodelist)?;
     let mut links = link_files(alloc, files)?;
     if let Some(fault) = stopped {
         return Err(fault);
     }
     let tag = tag.to_ascii_uppercase(alloc)?;
-    check_assuming_read(alloc, list.as_ref(), &tag, &mut links, assumed, out)
+    check_assuming_read(
+        alloc,
+        list.as_ref(),
+        besides.more,
+        &tag,
+        &mut links,
+        assumed,
+        out,
+    )
 }
 
 // The same of inputs that are read, and of the tag in upper case.
 fn check_assuming_read<'a, W: Sink>(
     alloc: Global,
     list: Option<&Nodelist>,
+    more: bool,
     tag: &[u8],
     links: &mut Vec<LinkFile>,
     assumed: &[Address],
@@ -66,12 +75,12 @@ fn check_assuming_read<'a, W: Sink>(
 ) -> Result<Status, Fault<'a>>
     ensures { (nodelist : Option (List ℕ)) → (given : List ℕ) → (inputs : List (List ℕ)) → IsNodelistGiven nodelist (option_copied list.entry)
         → AreLinkFiles inputs links.old.items → tag.now ≡ upper given
-        → CheckAssumingAnswers nodelist given inputs assumed.now None (output_of W.contents W.failures W.holds out.old) (output_of W.contents W.failures W.holds out.new) result }
+        → CheckAssumingAnswers nodelist more given inputs assumed.now None (output_of W.contents W.failures W.holds out.old) (output_of W.contents W.failures W.holds out.new) result }
 {
     let mut texts = Vec::new(alloc);
     push_assumed(alloc, &mut texts, tag, links.as_slice(), assumed)?;
     read_more(alloc, links, &texts)?;
-    print_checked(alloc, list, tag, links.as_slice(), assumed, out)
+    print_checked(alloc, list, more, tag, links.as_slice(), assumed, out)
 }
 
 // Reads further link files, behind those that were read.
@@ -94,6 +103,7 @@ fn read_more<'a>(
 fn print_checked<'a, W: Sink>(
     alloc: Global,
     list: Option<&Nodelist>,
+    more: bool,
     tag: &[u8],
     links: &[LinkFile],
     assumed: &[Address],
@@ -101,11 +111,11 @@ fn print_checked<'a, W: Sink>(
 ) -> Result<Status, Fault<'a>>
     ensures { (nodelist : Option (List ℕ)) → (given : List ℕ) → (inputs : List (List ℕ)) → IsNodelistGiven nodelist (option_copied list.entry)
         → AreLinkFiles inputs links.now → tag.now ≡ upper given
-        → PrintsChecked nodelist given inputs assumed.now (output_of W.contents W.failures W.holds out.old) (output_of W.contents W.failures W.holds out.new) result }
+        → PrintsChecked nodelist more given inputs assumed.now (output_of W.contents W.failures W.holds out.old) (output_of W.contents W.failures W.holds out.new) result }
 {
     let verdict = echo_net::check(alloc, links, tag)?;
     let mut lines = Vec::new(alloc);
-    push_check(alloc, &mut lines, list, links, tag, &verdict)?;
+    push_check(alloc, &mut lines, list, more, links, tag, &verdict)?;
     push_assumed_lines(&mut lines, assumed)?;
     print_rest(&mut lines, out)?;
     Ok(status_of(&verdict))

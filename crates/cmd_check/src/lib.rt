@@ -7,8 +7,8 @@
 //!
 //! The crate `cmd_print` has the lines of a verdict or a drawing, and `cmd_status` how a command ends.
 //!
-//! Begin with `checking` (`check`: is an area in order). `area_tags` (which areas there are) and `checking_all` are for
-//! `check --all`. `assuming` and `checking_assumed` are for `check --assume`, with systems that sent no file.
+//! Begin with `checking` (`check`: is an area in order). `further_text` has the lines of `check --more`. `area_tags`
+//! (which areas there are) and `checking_all` are for `check --all`. `assuming` and `checking_assumed` are for `check --assume`, with systems that sent no file.
 //! `picturing` (`picture`) draws an area as a graph. `reasoning`, `why_text` and `who_text` (`why`) print a run that
 //! goes wrong, and who is who in it. `picturing_why` (`picture --why`) draws such a run. `replaying` and `replay_text`
 //! (`replay`) print what becomes of a net.
@@ -19,6 +19,7 @@ mod assuming;
 mod checking;
 mod checking_all;
 mod checking_assumed;
+mod further_text;
 mod picturing;
 mod picturing_why;
 mod reasoning;
@@ -28,7 +29,7 @@ mod who_text;
 mod why_text;
 
 pub use assuming::{assume, print_assumed};
-pub use checking::{check, status_of};
+pub use checking::{Besides, check, status_of};
 pub use checking_all::check_all;
 pub use checking_assumed::check_assuming;
 pub use picturing::{picture, print_picture};

@@ -178,6 +178,11 @@ fn explain_station<E: Sink>(met: Met<'_>, words: &Words<'_>, errors: &mut E) {
             explain_files(met, words.links, words.base, errors);
         }
         Words::PostStored(words) => explain_stored(met, words, errors),
+        Words::PostJam(words) => {
+            explain_moment(met, words.at, Some(words.serial), errors);
+            explain_files(met, words.links, words.base, errors);
+            explain_area(met, words.area, words.links, errors);
+        }
         Words::Reply(words) => explain_reply(met, words, errors),
         Words::Toss(words) => explain_toss(met, words, errors),
         Words::Scan {

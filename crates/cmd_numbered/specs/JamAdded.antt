@@ -1,10 +1,12 @@
 -- Messages of a base that are added to a JAM base: which ones, their numbers, and their bytes in its files.
-use Rattle.std.specs.Prelude.{◌≡◌, ℕ, zero, suc, ◌+◌, ◌⊎◌, ◌&&◌, nat_lt, max, Bool, false, List, [], ◌∷◌, ◌++◌, length, if◌then◌else◌, slice_get, Option, Some, None, Result, Ok, Err}
+use Rattle.std.specs.Prelude.{◌≡◌, ℕ, zero, suc, ◌+◌, ◌⊎◌, ◌&&◌, not, nat_lt, max, Bool, false, is_some, List, [], ◌∷◌, ◌++◌, length, if◌then◌else◌, slice_get, Option, Some, None, Result, Ok, Err}
 use Rattle.echo_filed.specs.Filed.{Filed}
 use Rattle.echo_links.specs.Links.{upper}
 use Rattle.echo_jam.specs.Fields.{body_of, cuts_of}
 use Rattle.echo_jam.specs.JamMessage.{entry_of, header_of}
 use Rattle.echo_jam.specs.Same.{is_same}
+use Rattle.echo_jam.specs.Unsent.{has_id}
+use Rattle.echo_text.specs.Echo.{msgid_of}
 use Rattle.cmd_status.specs.declared.fault.Fault.{Fault}
 use Rattle.cmd_status.specs.Ended.{IsOutOfMemory}
 use Rattle.cmd_status.specs.Inputs.{IsBaseFault, IsBaseGiven}
@@ -43,16 +45,30 @@ with_message scanned end i m a = record {
   cuts = a.cuts + cuts_of m;
 }
 
--- The message of this number more, if it is exported; those before the cursor were scanned.
-abbrev pub added_at : List ℕ → ℕ → ℕ → JamEnd → ℕ → Option Filed → Added → Added
-added_at area first cursor end i None a = a
-added_at area first cursor end i (Some m) a = if is_exported area first cursor i m then with_message (nat_lt i cursor) end i m a else a
+-- Whether an id, if there is one, is that of a message of the JAM base.
+abbrev pub is_known : List ℕ → List ℕ → Option (List ℕ) → Bool
+is_known headers index None = false
+is_known headers index (Some id) = has_id headers index id
+
+-- Whether the JAM base has the message from an editor: it was posted here, under an id that the JAM base has.
+abbrev pub is_written_there : List ℕ → List ℕ → Filed → Bool
+is_written_there headers index m = not (is_some m.sender) && is_known headers index (msgid_of m.echo.kept)
+
+-- Whether the message of this number is added: one that is exported, and that the JAM base does not have from an editor.
+abbrev pub is_added : List ℕ → ℕ → ℕ → List ℕ → List ℕ → ℕ → Filed → Bool
+is_added area first cursor headers index i m = is_exported area first cursor i m && not (is_written_there headers index m)
+
+-- The message of this number more, if it is added; those before the cursor were scanned.
+abbrev pub added_at : List ℕ → ℕ → ℕ → List ℕ → List ℕ → JamEnd → ℕ → Option Filed → Added → Added
+added_at area first cursor headers index end i None a = a
+added_at area first cursor headers index end i (Some m) a =
+    if is_added area first cursor headers index i m then with_message (nat_lt i cursor) end i m a else a
 
 -- The first so many messages.
-abbrev pub added_of : List ℕ → ℕ → ℕ → JamEnd → List Filed → ℕ → Added
-added_of area first cursor end base zero = nothing_added
-added_of area first cursor end base (suc n) =
-    added_at area first cursor end n (slice_get base n) (added_of area first cursor end base n)
+abbrev pub added_of : List ℕ → ℕ → ℕ → List ℕ → List ℕ → JamEnd → List Filed → ℕ → Added
+added_of area first cursor headers index end base zero = nothing_added
+added_of area first cursor headers index end base (suc n) =
+    added_at area first cursor headers index end n (slice_get base n) (added_of area first cursor headers index end base n)
 
 -- Whether the message of this number, exported before, is the last message of the JAM base, with its header at this place.
 abbrev pub is_last_jam : List ℕ → ℕ → ℕ → List ℕ → Option ℕ → List ℕ → ℕ → Option Filed → Bool
@@ -68,17 +84,18 @@ resumed_jam area first cursor headers last text base (suc n) =
     else resumed_jam area first cursor headers last text base n
 
 -- The base file has no fault, and this is what its messages add: those of the area from the number `first` on, or from
--- behind the one that is the last of the JAM base. The area is asked for in letters of either case.
-pub record IsJamExport (area : List ℕ) (first : ℕ) (headers : List ℕ) (last : Option ℕ) (text : List ℕ) (end : JamEnd) (base : List ℕ) (exported : JamExport) : Type 0 where
+-- behind the one that is the last of the JAM base, except for what the JAM base has from an editor. The area is asked for in
+-- letters of either case.
+pub record IsJamExport (area : List ℕ) (first : ℕ) (headers index : List ℕ) (last : Option ℕ) (text : List ℕ) (end : JamEnd) (base : List ℕ) (exported : JamExport) : Type 0 where
   pub messages : List Filed
   pub cursor : ℕ
   pub given : IsBaseGiven (Some base) messages cursor
   pub from : ℕ
   pub from_is : from ≡ resumed_jam (upper area) first cursor headers last text messages (length messages)
-  pub added_is : added_in exported.adding ≡ added_of (upper area) from cursor end messages (length messages)
+  pub added_is : added_in exported.adding ≡ added_of (upper area) from cursor headers index end messages (length messages)
   pub end_is : exported.end ≡ max from (length messages)
 
 -- the right answer if the messages of a base are to be added to a JAM base
-abbrev pub JamAnswers : List ℕ → ℕ → List ℕ → Option ℕ → List ℕ → JamEnd → List ℕ → Result JamExport Fault → Type 0
-JamAnswers area first headers last text end base (Ok exported) = IsJamExport area first headers last text end base exported
-JamAnswers area first headers last text end base (Err fault) = IsOutOfMemory fault ⊎ IsBaseFault (Some base) fault
+abbrev pub JamAnswers : List ℕ → ℕ → List ℕ → List ℕ → Option ℕ → List ℕ → JamEnd → List ℕ → Result JamExport Fault → Type 0
+JamAnswers area first headers index last text end base (Ok exported) = IsJamExport area first headers index last text end base exported
+JamAnswers area first headers index last text end base (Err fault) = IsOutOfMemory fault ⊎ IsBaseFault (Some base) fault

@@ -3,3 +3,4 @@ pub mod Numbered
 pub mod Told
 pub mod JamAdded
 pub mod Resending
+pub mod Finding

@@ -28,3 +28,7 @@ cuts_line count = if count == 0 then [] else (codes "echonet: " ++ (decimal coun
 -- The line on standard error where a stored message is not to be posted.
 abbrev pub refused_line : List ℕ
 refused_line = codes "echonet: bad message\n"
+
+-- The line where a message of a JAM base, which has this number there, is not posted.
+abbrev pub left_line : ℕ → List ℕ
+left_line number = codes "refused " ++ (decimal number ++ codes "\n")

@@ -1,13 +1,13 @@
 //! Which messages are added to a JAM base, and what that adds.
-ghost use Rattle.std.specs.Prelude.{List, ℕ, Some, ◌≡◌, ◌⊎◌, ◌+◌, ◌&&◌, IfOk, OnOk, length, option_copied};
+ghost use Rattle.std.specs.Prelude.{List, ℕ, Some, ◌≡◌, ◌⊎◌, ◌+◌, ◌&&◌, not, IfOk, OnOk, length, option_copied};
 ghost use Rattle.cmd_status.specs.Inputs.{IsBaseGiven};
-ghost use Rattle.cmd_numbered.specs.JamAdded.{JamAnswers, added_at, added_in, added_of, is_last_jam, nothing_added, resumed_jam, with_message};
+ghost use Rattle.cmd_numbered.specs.JamAdded.{JamAnswers, added_at, added_in, added_of, is_added, is_last_jam, is_written_there, nothing_added, resumed_jam, with_message};
 
 use crate::numbering::{base_read, is_exported};
 use base_file::Base;
 use cmd_status::Fault;
 use echo_filed::Filed;
-use echo_jam::{Jam, is_same, push_jam};
+use echo_jam::{Jam, has_id, is_same, push_jam};
 use std::alloc::{AllocError, Global};
 use std::hash::BuildHasher;
 
@@ -19,11 +19,12 @@ pub struct JamEnd {
     pub texts: u32,
 }
 
-/// A JAM base to which messages are added: its headers, the place of the last one among them and the text of that
+/// A JAM base to which messages are added: its headers and its index, the place of the last header and the text of its
 /// message, and its end.
 #[derive(Clone, Copy)]
 pub struct JamBase<'a> {
     pub headers: &'a [u8],
+    pub index: &'a [u8],
     pub last: Option<u32>,
     pub text: &'a [u8],
     pub end: JamEnd,
@@ -44,7 +45,8 @@ pub struct JamExport {
 }
 
 /// `export --jam PATH --area TAG [--from I] BASE`: what the messages of the area add to a JAM base, from the number
-/// `first` on, or from behind the one that is its last: a run that was stopped goes on there.
+/// `first` on, or from behind the one that is its last: a run that was stopped goes on there. What the JAM base has from an
+/// editor is not added.
 pub fn export_jam<'a, S: BuildHasher + Drop>(
     alloc: Global,
     area: &[u8],
@@ -53,7 +55,7 @@ pub fn export_jam<'a, S: BuildHasher + Drop>(
     base: &[u8],
     hasher: S,
 ) -> Result<JamExport, Fault<'a>>
-    ensures { JamAnswers area.now first jam.entry.headers.now jam.entry.last jam.entry.text.now jam.entry.end base.now result }
+    ensures { JamAnswers area.now first jam.entry.headers.now jam.entry.index.now jam.entry.last jam.entry.text.now jam.entry.end base.now result }
 {
     let base = base_read(alloc, base, hasher)?;
     export_read_jam(alloc, area, first, jam, &base)
@@ -68,11 +70,11 @@ fn export_read_jam<'a, S: BuildHasher>(
     base: &Base<S>,
 ) -> Result<JamExport, Fault<'a>>
     ensures { (bytes : List ℕ) → IsBaseGiven (Some bytes) base.now.messages base.now.cursor
-        → JamAnswers area.now first jam.entry.headers.now jam.entry.last jam.entry.text.now jam.entry.end bytes result }
+        → JamAnswers area.now first jam.entry.headers.now jam.entry.index.now jam.entry.last jam.entry.text.now jam.entry.end bytes result }
 {
     let area = area.to_ascii_uppercase(alloc)?;
     let from = resumed_jam(alloc, &area, first, jam, base)?;
-    let adding = added_of(alloc, &area, from, jam.end, base)?;
+    let adding = added_of(alloc, &area, from, jam, base)?;
     let end = from.max(base.len() as u64);
     Ok(JamExport { adding, end })
 }
@@ -121,29 +123,35 @@ fn is_last_jam(
     is_same(alloc, jam.headers, place, jam.text, message)
 }
 
+// Which messages are added: those of the area from the number `first` on, to this JAM base. Those before the cursor were
+// scanned.
+#[derive(Clone, Copy)]
+struct Selection<'a> {
+    area: &'a [u8],
+    first: u64,
+    cursor: usize,
+    jam: JamBase<'a>,
+}
+
 // What the messages add.
 fn added_of<S: BuildHasher>(
     alloc: Global,
     area: &[u8],
     first: u64,
-    end: JamEnd,
+    jam: JamBase<'_>,
     base: &Base<S>,
 ) -> Result<Adding, AllocError>
-    ensures { IfOk result (λ adding. added_in adding ≡ added_of area.now first base.now.cursor end base.now.messages (length base.now.messages)) }
+    ensures { IfOk result (λ adding. added_in adding ≡ added_of area.now first base.now.cursor jam.entry.headers.now jam.entry.index.now jam.entry.end base.now.messages (length base.now.messages)) }
 {
-    let cursor = base.cursor();
+    let wanted = Selection {
+        area,
+        first,
+        cursor: base.cursor(),
+        jam,
+    };
     let mut adding = nothing_added(alloc);
     'messages: for i in 0..base.len() {
-        add_if_exported(
-            alloc,
-            &mut adding,
-            area,
-            first,
-            cursor,
-            end,
-            i,
-            base.message(i),
-        )?;
+        add_if_wanted(alloc, &mut adding, wanted, i, base.message(i))?;
     }
     Ok(adding)
 }
@@ -162,26 +170,40 @@ fn nothing_added(alloc: Global) -> Adding
     }
 }
 
-// Adds the message of this number, if it is exported.
-fn add_if_exported(
+// Adds the message of this number, if there is one and it is wanted.
+fn add_if_wanted(
     alloc: Global,
     adding: &mut Adding,
-    area: &[u8],
-    first: u64,
-    cursor: usize,
-    end: JamEnd,
+    wanted: Selection<'_>,
     i: usize,
     message: Option<&Filed>,
 ) -> Result<(), AllocError>
-    ensures { OnOk result (added_in adding.new ≡ added_at area.now first cursor end i (option_copied message.entry) (added_in adding.old)) }
+    ensures { OnOk result (added_in adding.new ≡ added_at wanted.entry.area.now wanted.entry.first wanted.entry.cursor wanted.entry.jam.headers.now wanted.entry.jam.index.now wanted.entry.jam.end i (option_copied message.entry) (added_in adding.old)) }
 {
     let Some(message) = message else {
         return Ok(());
     };
-    if !is_exported(area, first, cursor, i, message) {
+    if !is_wanted(wanted, i, message) {
         return Ok(());
     }
-    add_message(alloc, adding, end, i, message, i < cursor)
+    add_message(alloc, adding, wanted.jam.end, i, message, i < wanted.cursor)
+}
+
+fn is_wanted(wanted: Selection<'_>, i: usize, message: &Filed) -> bool
+    ensures { result ≡ is_added wanted.entry.area.now wanted.entry.first wanted.entry.cursor wanted.entry.jam.headers.now wanted.entry.jam.index.now i message.now }
+{
+    is_exported(wanted.area, wanted.first, wanted.cursor, i, message)
+        && !is_written_there(wanted.jam, message)
+}
+
+// Whether the JAM base has the message from an editor.
+fn is_written_there(jam: JamBase<'_>, message: &Filed) -> bool
+    ensures { result ≡ is_written_there jam.entry.headers.now jam.entry.index.now message.now }
+{
+    match message.echo.msgid() {
+        Some(id) => message.sender.is_none() && has_id(jam.headers, jam.index, id),
+        None => false,
+    }
 }
 
 // Adds a message, which was scanned or waits.

@@ -4,7 +4,7 @@ ghost use Rattle.std.specs.Io.KnownBytes.{Appends};
 ghost use Rattle.cmd_status.specs.Ended.{Stops};
 ghost use Rattle.cmd_status.specs.Lines.{WritesFront};
 ghost use Rattle.cmd_status.specs.declared.status.Status.TheVariants.{Refused};
-ghost use Rattle.cmd_numbered.specs.Told.{added_line, cuts_line, exported_line, next_at, refused_line, told_line};
+ghost use Rattle.cmd_numbered.specs.Told.{added_line, cuts_line, exported_line, left_line, next_at, refused_line, told_line};
 
 use crate::adding::JamExport;
 use crate::numbering::Exported;
@@ -75,6 +75,26 @@ fn push_line(line: &mut Vec<u8>, made: usize, next: u64) -> Result<(), AllocErro
     ensures { OnOk result (line.new.items ≡ line.old.items ++ told_line made next) }
 {
     written(writeln!(line, "exported {made} messages, next {next}"))
+}
+
+/// Prints the number of a message of a JAM base that is refused.
+pub fn tell_refused<'a, W: Sink>(alloc: Global, number: u64, out: &mut W) -> Result<(), Fault<'a>>
+    ensures line { OnOk result (Appends (W.contents out.old) (W.contents out.new) (left_line number)) }
+    ensures passed { OnOk result (W.holds out.new ≡ false) }
+    ensures begun { OnErr result (WritesFront (left_line number) (W.contents out.old) (W.contents out.new)) }
+    ensures ok { OnOk result (W.failures out.new ≡ W.failures out.old) }
+    ensures err { IfErr result (Stops (W.failures out.old) (W.failures out.new)) }
+{
+    let mut line = Vec::new(alloc);
+    push_left(&mut line, number)?;
+    print_rest(&mut line, out)
+}
+
+// Adds the line.
+fn push_left(line: &mut Vec<u8>, number: u64) -> Result<(), AllocError>
+    ensures { OnOk result (line.new.items ≡ line.old.items ++ left_line number) }
+{
+    written(writeln!(line, "refused {number}"))
 }
 
 /// Reports on standard error how many control lines were cut, if there are any.

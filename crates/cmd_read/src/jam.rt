@@ -90,6 +90,7 @@ fn jam_given<'a>(
     let files = jam_files(rt, path, headers?)?;
     let jam = JamBase {
         headers: files.found.as_slice(),
+        index: files.entries.as_slice(),
         last: files.standing.last.map(|last| last.place),
         text: files.text.as_slice(),
         end: files.end,

@@ -8,7 +8,8 @@
 //! cannot be used, and `nets` has `check`, `why`, `picture` and `replay`. `files` reads a base file while a terminal
 //! shows the progress. `bases` and `listing` have `list` and `export`, for a base file and for a folder. For `export
 //! --msg` and `--jam`: `making` (new files), `stored` (a file for each message), `named` (files of a JAM base, no
-//! links), `locked` (a JAM base is begun, and locked) and `jam`. `resending` has `resend`.
+//! links), `locked` (a JAM base is begun, and locked) and `jam`. `outbox` reads and marks the messages that `post --jam`
+//! posts. `resending` has `resend`.
 #![tactic(auto)]
 
 mod bases;
@@ -20,6 +21,7 @@ mod locked;
 mod making;
 mod named;
 mod nets;
+mod outbox;
 mod printing;
 mod resending;
 mod stored;
@@ -28,6 +30,7 @@ pub use bases::{run_export, run_list};
 pub use jam::run_export_jam;
 pub use judging::run_links;
 pub use nets::{run_check, run_picture, run_replay, run_why};
+pub use outbox::{Outbox, Unsent};
 pub use printing::{run_nodelist, run_show};
 pub use resending::run_resend;
 pub use stored::run_export_stored;

@@ -32,6 +32,11 @@ pub(crate) fn locked_headers<'a>(
         // What cannot be tidied up is no fault of the base.
         let _ = begin_alone(rt, path, headers.as_str(), beside.as_str());
     }
+    locked_again(rt, path)
+}
+
+/// The headers of a JAM base that is there, open and locked.
+pub(crate) fn locked_again<'a>(rt: &HostRuntime, path: &'a str) -> Result<File, Fault<'a>> {
     let headers = open_file(rt, path, ".jhr").map_err(|error| jam_fault(&error, path))?;
     lock_file(rt, &headers, path).map_err(|_| Fault::CannotUse(path))?;
     check_file(rt, path, ".jhr", &headers).map_err(|error| jam_fault(&error, path))?;

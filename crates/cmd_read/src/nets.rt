@@ -1,7 +1,8 @@
 //! The commands that judge the areas of a net, or try out what would become of it.
 
 use cmd_check::{
-    assume, check, check_all, check_assuming, picture, picture_why, print_assumed, replay, why,
+    Besides, assume, check, check_all, check_assuming, picture, picture_why, print_assumed, replay,
+    why,
 };
 use cmd_input::{MAX_INPUT, PathNames, Progress, read_if_given, read_links, read_script};
 use cmd_status::{Fault, Status, parse_address};
@@ -12,7 +13,7 @@ use model_replay::ReplayProgress;
 use std::alloc::AllocError;
 use std::collections::hash_map::RandomState;
 
-/// `check [--nodelist LIST] [--assume ADDRESS].. TAG LINKS...`, and `check --all` without a tag
+/// `check [--nodelist LIST] [--more] [--assume ADDRESS].. TAG LINKS...`, and `check --all` without a tag
 pub fn run_check<'a, W: Sink>(
     rt: &HostRuntime,
     words: &CheckWords<'a>,
@@ -22,16 +23,19 @@ pub fn run_check<'a, W: Sink>(
     let assumed = assumed_in(rt, &words.assume)?;
     let list = read_if_given(rt, words.nodelist, MAX_INPUT)?;
     let (files, stopped) = read_links(rt, links);
-    let list = list.as_ref().map(|bytes| bytes.as_slice());
+    let besides = Besides {
+        nodelist: list.as_ref().map(|bytes| bytes.as_slice()),
+        more: words.more,
+    };
     let Some(tag) = words.tag else {
-        return check_all(rt.alloc(), list, &files, stopped, out);
+        return check_all(rt.alloc(), besides, &files, stopped, out);
     };
     if assumed.is_empty() {
-        check(rt.alloc(), list, tag.as_bytes(), &files, stopped, out)
+        check(rt.alloc(), besides, tag.as_bytes(), &files, stopped, out)
     } else {
         check_assuming(
             rt.alloc(),
-            list,
+            besides,
             tag.as_bytes(),
             &files,
             &assumed,

@@ -6,30 +6,28 @@ ghost use Rattle.station.specs.Opening.{AreFree};
 use crate::place::{Place, Station, find_base, locks_of};
 use crate::posting::new_message;
 use crate::running::{Before, run_on};
-use cmd_input::{LinkLock, MAX_TEXT_FILE, moment_of, read_file, read_standard_input, serial_from};
+use cmd_input::{MAX_TEXT_FILE, moment_of, read_file, read_standard_input, serial_from};
 use cmd_numbered::refuse_message;
 use cmd_report::{Answer, NewMessage};
 use cmd_status::{Fault, Status, number_of};
-use cmd_store::{LetterFault, MailDefaults, MailWords, Post, PostMail, Purge, Reply};
-use cmd_words::{PostMailWords, PostStoredWords, PostWords, ReplyWords};
-use disk_io::{Disk, Sink};
-use disk_system::{RealDisk, Unknown};
-use echo_charset::Charset;
+use cmd_store::{Post, PostMail, Purge, Reply};
+use cmd_words::{PostStoredWords, PostWords, ReplyWords};
+use disk_io::Sink;
 use echo_stored::{StoredFault, read_stored};
-use model_steps::Stamp;
-use station::{FileLock, Locks, lock_links};
+use model_steps::{PostFault, Stamp};
+use station::{FileLock, Locks};
 
 /// A command with its words and its body.
 #[derive(Drop)]
-enum Asked<'w> {
+pub(crate) enum Asked<'w> {
     Post(Post<'w>),
     PostMail(PostMail<'w>),
     Reply(Reply<'w>),
     Purge(Purge),
 }
 
-// Runs a command on a station. Faults of its files precede the fault of an earlier input, `unread`.
-fn change<W: Sink, E: Sink>(
+/// Runs a command on a station. Faults of its files precede the fault of an earlier input, `unread`.
+pub(crate) fn change<W: Sink, E: Sink>(
     rt: &HostRuntime,
     place: Place<'_>,
     asked: &mut Asked<'_>,
@@ -69,6 +67,35 @@ fn change_at<'a, L: FileLock, K: FileLock, W: Sink>(
         Asked::PostMail(post) => run_on(at, locks, before, post, out),
         Asked::Reply(reply) => run_on(at, locks, before, reply, out),
         Asked::Purge(purge) => run_on(at, locks, before, purge, out),
+    }
+}
+
+/// How the posting of one message ended. A fault that stops all of them was reported.
+#[derive(Clone, Copy, Debug)]
+pub enum PostEnd {
+    Posted,
+    Refused(PostFault),
+    Stopped(Status),
+}
+
+/// Posts a message at the station of these paths.
+pub(crate) fn post_at<W: Sink, E: Sink>(
+    rt: &HostRuntime,
+    place: Place<'_>,
+    post: Post<'_>,
+    out: &mut W,
+    errors: &mut E,
+) -> PostEnd {
+    let mut locks = locks_of(rt, place);
+    let found = match find_base(rt, place, &mut locks) {
+        Ok(found) => found,
+        Err(fault) => return PostEnd::Stopped(fault.report(errors)),
+    };
+    let mut asked = Asked::Post(post);
+    match change_at(found.at(rt, place), &mut locks, &mut asked, None, out) {
+        Ok(()) => PostEnd::Posted,
+        Err(Fault::Post(why)) => PostEnd::Refused(why),
+        Err(fault) => PostEnd::Stopped(fault.report(errors)),
     }
 }
 
@@ -113,84 +140,6 @@ fn posting_of<'a>(
     let (serial, free) = serial_from(rt, words.serial)?;
     let stamp = moment_of(rt, words.at)?;
     Ok((new_message(words, serial, stamp), free))
-}
-
-/// `post --mail`: the charset, the serial and the stamp are judged first, then that the files can be read, then the
-/// mail, and what the files hold last.
-pub fn run_post_mail<W: Sink, E: Sink>(
-    rt: &HostRuntime,
-    words: &PostMailWords<'_>,
-    out: &mut W,
-    errors: &mut E,
-) -> Status {
-    let Some(charset) = Charset::named(words.charset.unwrap_or("CP437").as_bytes()) else {
-        return LetterFault::BadCharset.report(errors);
-    };
-    let (asked, mail) = match mail_asked(rt, words, charset) {
-        Ok(asked) => asked,
-        Err(fault) => return fault.report(errors),
-    };
-    let place = Place {
-        links: words.links,
-        base: words.base,
-    };
-    match PostMail::read(rt.alloc(), &mail, asked) {
-        Ok(post) => change(rt, place, &mut Asked::PostMail(post), None, out, errors),
-        Err(fault) => refuse_mail(rt, place.links, fault, errors),
-    }
-}
-
-// A mail is refused once the link file can be read.
-fn refuse_mail<E: Sink>(
-    rt: &HostRuntime,
-    links: &str,
-    fault: LetterFault,
-    errors: &mut E,
-) -> Status {
-    let mut disk = RealDisk::new(rt, Unknown);
-    let mut lock = LinkLock::ahead(rt, links);
-    match check_links(rt, &mut disk, &mut lock, links) {
-        Ok(()) => fault.report(errors),
-        Err(first) => first.report(errors),
-    }
-}
-
-// A fault if the link file cannot be read under its lock.
-fn check_links<'a, D: Disk, L: FileLock>(
-    rt: &HostRuntime,
-    disk: &mut D,
-    lock: &mut L,
-    links: &'a str,
-) -> Result<(), Fault<'a>>
-    requires { L.held lock.old ≡ None }
-{
-    let _bytes = lock_links(rt.alloc(), disk, lock, links)?;
-    Ok(())
-}
-
-// What is asked of a mail, and its bytes.
-fn mail_asked<'a>(
-    rt: &HostRuntime,
-    words: &PostMailWords<'a>,
-    charset: Charset,
-) -> Result<(MailWords<'a>, Vec<u8>), Fault<'a>> {
-    let (serial, free) = serial_from(rt, words.serial)?;
-    let stamp = moment_of(rt, words.at)?;
-    let spare = MailDefaults {
-        area: words.area,
-        to: words.to,
-        from: words.from,
-        subject: words.subject,
-        reply: words.reply,
-    };
-    let asked = MailWords {
-        spare,
-        charset,
-        serial,
-        free,
-        stamp,
-    };
-    Ok((asked, read_standard_input(rt, MAX_TEXT_FILE)?))
 }
 
 /// `reply`: the serial, the stamp and the number are judged first, then as for `post`.

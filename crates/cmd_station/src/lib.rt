@@ -3,19 +3,24 @@
 //! be safe and to end, and no more: the crates `station` and `station_scan` promise what a command reads and writes on any
 //! disk. Begin with `place`, the paths, the locks and the base of a station.
 //!
-//! `running` runs a command on it. `posting` has the words of `post`. `changing`, `tossing` and `scanning` are the
+//! `running` runs a command on it. `posting` has the words of `post`, `posting_jam` posts a message of a JAM
+//! base, and `posting_mail` a mail. `changing`, `tossing` and `scanning` are the
 //! commands by their words. `unplaced` reports the path at which a scan failed.
 #![tactic(auto)]
 
 mod changing;
 mod place;
 mod posting;
+mod posting_jam;
+mod posting_mail;
 mod running;
 mod scanning;
 mod tossing;
 mod unplaced;
 
-pub use changing::{run_post, run_post_mail, run_post_stored, run_purge, run_reply};
+pub use changing::{PostEnd, run_post, run_post_stored, run_purge, run_reply};
 pub use posting::new_message;
+pub use posting_jam::JamPoster;
+pub use posting_mail::run_post_mail;
 pub use scanning::{ScanWords, run_scan};
 pub use tossing::run_toss;

@@ -174,6 +174,11 @@ pub(crate) const LOOKING: &[Entry] = &[
                 "Prints which systems of the area this nodelist does not hold",
             ),
             Word(
+                "more",
+                Form::Flag,
+                "Prints the other faults of the area, too, and with --all how many areas are in order",
+            ),
+            Word(
                 "all",
                 Form::Flag,
                 "Each area that a file has, in place of TAG",
@@ -235,17 +240,17 @@ pub(crate) const CHANGING: &[Entry] = &[
             Word("area", Form::NeededUnless("TAG", &["mail"]), AREA),
             Word(
                 "to",
-                Form::NeededUnless("T", &["mail", "msg"]),
+                Form::NeededUnless("T", &["mail", "msg", "jam"]),
                 "To whom the message is",
             ),
             Word(
                 "from",
-                Form::NeededUnless("F", &["mail", "msg"]),
+                Form::NeededUnless("F", &["mail", "msg", "jam"]),
                 "From whom the message is",
             ),
             Word(
                 "subject",
-                Form::NeededUnless("S", &["mail", "msg"]),
+                Form::NeededUnless("S", &["mail", "msg", "jam"]),
                 "The subject",
             ),
             SERIAL,
@@ -259,6 +264,15 @@ pub(crate) const CHANGING: &[Entry] = &[
                 "msg",
                 Form::OptionWith("FILE", "area", &["mail", "to", "from", "subject", "reply"]),
                 "Takes names, subject, reply and body from this stored message, Local and not Sent",
+            ),
+            Word(
+                "jam",
+                Form::OptionWith(
+                    "PATH",
+                    "area",
+                    &["mail", "to", "from", "subject", "reply", "msg"],
+                ),
+                "Posts each message of this JAM base that is Local and not Sent, and marks it as Sent",
             ),
             LINKS,
             BASE,

@@ -2,8 +2,8 @@
 
 use crate::program::command;
 use crate::words::{
-    Asked, CheckWords, ExportWords, ListWords, Paths, PostMailWords, PostStoredWords, PostWords,
-    ReplyWords, ResendWords, TossWords, Words,
+    Asked, CheckWords, ExportWords, ListWords, Paths, PostJamWords, PostMailWords, PostStoredWords,
+    PostWords, ReplyWords, ResendWords, TossWords, Words,
 };
 use clap::error::ErrorKind;
 use clap::{ArgMatches, Command, Error};
@@ -67,6 +67,7 @@ fn check_words<'a>(
     }
     Ok(Some(Words::Check(CheckWords {
         nodelist: matches.get_str("nodelist"),
+        more: matches.get_flag("more"),
         assume: values(alloc, matches, "assume")?,
         tag: if all { None } else { first },
         links,
@@ -174,6 +175,18 @@ fn post_stored_words<'a>(matches: &ArgMatches<'a>) -> Option<Words<'a>> {
         serial: stated.serial,
         at: stated.at,
         message: matches.get_str("msg")?,
+        links: stated.links,
+        base: stated.base,
+    }))
+}
+
+fn post_jam_words<'a>(matches: &ArgMatches<'a>) -> Option<Words<'a>> {
+    let stated = stated_in(matches)?;
+    Some(Words::PostJam(PostJamWords {
+        area: matches.get_str("area")?,
+        serial: stated.serial,
+        at: stated.at,
+        jam: matches.get_str("jam")?,
         links: stated.links,
         base: stated.base,
     }))
@@ -291,6 +304,8 @@ fn posting_words<'a>(given: &ArgMatches<'a>) -> Option<Words<'a>> {
         post_mail_words(given)
     } else if given.get_str("msg").is_some() {
         post_stored_words(given)
+    } else if given.get_str("jam").is_some() {
+        post_jam_words(given)
     } else {
         post_words(given)
     }

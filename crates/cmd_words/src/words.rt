@@ -41,6 +41,7 @@ pub enum Words<'a> {
     Post(PostWords<'a>),
     PostMail(PostMailWords<'a>),
     PostStored(PostStoredWords<'a>),
+    PostJam(PostJamWords<'a>),
     Reply(ReplyWords<'a>),
     Toss(TossWords<'a>),
     Scan {
@@ -67,6 +68,7 @@ pub struct Paths<'a> {
 #[derive(Drop)]
 pub struct CheckWords<'a> {
     pub nodelist: Option<&'a str>,
+    pub more: bool,
     pub assume: Vec<&'a str>,
     pub tag: Option<&'a str>,
     pub links: Paths<'a>,
@@ -108,6 +110,17 @@ pub struct PostStoredWords<'a> {
     pub serial: &'a str,
     pub at: &'a str,
     pub message: &'a str,
+    pub links: &'a str,
+    pub base: &'a str,
+}
+
+/// The words of `post --jam`.
+#[derive(Drop)]
+pub struct PostJamWords<'a> {
+    pub area: &'a str,
+    pub serial: &'a str,
+    pub at: &'a str,
+    pub jam: &'a str,
     pub links: &'a str,
     pub base: &'a str,
 }

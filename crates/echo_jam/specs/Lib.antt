@@ -4,5 +4,7 @@ pub mod Fields
 pub mod JamMessage
 pub mod Fixed
 pub mod Standing
+pub mod Subfields
+pub mod Unsent
 pub mod Same
 pub mod Links

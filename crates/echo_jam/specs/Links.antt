@@ -1,7 +1,7 @@
 -- Links between the messages of a JAM base (JAM-001): which message one replies to, and which replies it has.
-use Rattle.std.specs.Prelude.{ℕ, zero, suc, ◌+◌, ◌-◌, ◌==◌, ◌&&◌, ◌||◌, nat_le, Bool, List, ◌++◌, length, take, drop, if◌then◌else◌, Option, Some, None}
+use Rattle.std.specs.Prelude.{ℕ, zero, suc, ◌+◌, ◌-◌, ◌==◌, ◌&&◌, ◌||◌, nat_le, List, ◌++◌, length, take, drop, if◌then◌else◌, Option, Some, None}
 use Rattle.echo_filed.specs.Stored.{long, long_at}
-use Rattle.echo_jam.specs.Standing.{entries_in, place_in}
+use Rattle.echo_jam.specs.Standing.{place_in}
 
 -- the four bytes at a place, 0 past the end of the headers
 abbrev pub field_at : List ℕ → ℕ → ℕ

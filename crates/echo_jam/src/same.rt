@@ -47,8 +47,8 @@ fn is_written_then(headers: &[u8], at: usize, message: &Filed) -> bool
     long_at(headers, at + 36) == seconds_of(&message.date)
 }
 
-// Its subfields.
-fn fields_at(headers: &[u8], at: usize) -> &[u8]
+/// The subfields of the header there.
+pub(crate) fn fields_at(headers: &[u8], at: usize) -> &[u8]
     requires { at + 76 ≤ length headers.now }
     ensures { result.now ≡ fields_at headers.now at }
 {

@@ -66,8 +66,8 @@ fn is_counted(headers: &[u8], index: &[u8]) -> bool
     entries_in(index) == index.len() / 8 || long_at(headers, 12) <= active_in(headers, index)
 }
 
-// The number of index entries, without those of zeros at its end.
-fn entries_in(index: &[u8]) -> usize
+/// The number of index entries, without those of zeros at its end.
+pub(crate) fn entries_in(index: &[u8]) -> usize
     ensures value { result ≡ entries_in index.now }
     ensures within { result ≤ length index.now / 8 }
 {
@@ -99,8 +99,8 @@ fn is_unwritten(index: &[u8], i: usize) -> bool
     long_at(index, 8 * i) == 0 && place_in(index, i) == 0
 }
 
-// The number of two bytes at a place.
-fn number_at(bytes: &[u8], at: usize) -> u32
+/// The number of two bytes at a place.
+pub(crate) fn number_at(bytes: &[u8], at: usize) -> u32
     requires { at + 2 ≤ length bytes.now }
     ensures value { result ≡ words.number_at at bytes.now }
     ensures small { result < 65536 }
@@ -155,7 +155,7 @@ fn has_text(headers: &[u8], texts: u64, at: usize) -> bool
     is_deleted(headers, at) || end <= texts
 }
 
-fn is_deleted(headers: &[u8], at: usize) -> bool
+pub(crate) fn is_deleted(headers: &[u8], at: usize) -> bool
     requires { at < 2 ^ 32 }
     ensures { result ≡ is_deleted_at headers.now at }
 {
@@ -224,7 +224,7 @@ fn last_in(headers: &[u8], index: &[u8], texts: u64) -> Option<Last>
     last_at(headers, texts, place_in(index, entries - 1))
 }
 
-fn last_at(headers: &[u8], texts: u64, place: u32) -> Option<Last>
+pub(crate) fn last_at(headers: &[u8], texts: u64, place: u32) -> Option<Last>
     ensures { result ≡ last_at headers.now texts place }
 {
     if place == u32::MAX || !is_header(headers, texts, place) {

@@ -16,5 +16,7 @@ mod stored;
 
 pub use laws::written_message_read_back;
 pub use origin::origin_address;
-pub use reading::{StoredDraft, StoredFault, after_feeds, after_word, begins, read_stored};
+pub use reading::{
+    StoredDraft, StoredFault, after_feeds, after_word, begins, body_of, first_after, read_stored,
+};
 pub use stored::{address_in_origin, push_stored, written_text};

@@ -113,8 +113,8 @@ fn filled_len(bytes: &[u8]) -> usize
     bytes.iter().take_while(|b| **b != 0).count()
 }
 
-// The lines of the text, except those that posting or a scan makes.
-fn body_of(alloc: Global, text: &[u8]) -> Result<Vec<u8>, AllocError>
+/// The lines of the text, except those that posting or a scan makes. Each ends in 0D.
+pub fn body_of(alloc: Global, text: &[u8]) -> Result<Vec<u8>, AllocError>
     ensures { IfOk result (λ body. body.items ≡ body_of text.now) }
 {
     let mut body = Vec::new(alloc);
@@ -196,20 +196,20 @@ fn feed_count(line: &[u8]) -> usize
 fn reply_in(text: &[u8]) -> &[u8]
     ensures { result.now ≡ reply_in text.now }
 {
-    match first_reply(text) {
+    match first_after(b"\x01REPLY:", text) {
         Some(id) => id,
         None => &[],
     }
 }
 
-// The value of the first REPLY line with more than blanks after its colon.
-fn first_reply(text: &[u8]) -> Option<&[u8]>
-    ensures { option_copied result ≡ first_after reply_word (lines text.now) }
+/// The value of the first line that begins with the word and has more than blanks behind it.
+pub fn first_after<'a>(word: &[u8], text: &'a [u8]) -> Option<&'a [u8]>
+    ensures { option_copied result ≡ first_after word.now (lines text.now) }
 {
     let mut rest = text;
     'lines: while !rest.is_empty() {
         let (line, after) = split_line(rest);
-        if let Some(id) = reply_of_line(line) {
+        if let Some(id) = value_of_line(word, line) {
             return Some(id);
         }
         rest = after;
@@ -218,11 +218,11 @@ fn first_reply(text: &[u8]) -> Option<&[u8]>
 }
 
 // The same of one line.
-fn reply_of_line(line: &[u8]) -> Option<&[u8]>
-    ensures { option_copied result ≡ id_in reply_word line.now }
+fn value_of_line<'a>(word: &[u8], line: &'a [u8]) -> Option<&'a [u8]>
+    ensures { option_copied result ≡ id_in word.now line.now }
 {
-    let id = trimmed(after_word(b"\x01REPLY:", line)?);
-    if id.is_empty() { None } else { Some(id) }
+    let value = trimmed(after_word(word, line)?);
+    if value.is_empty() { None } else { Some(value) }
 }
 
 /// The bytes after the word, if the line begins with it after line feeds.

@@ -1,10 +1,14 @@
 //! The program `echonet`: it reads the words of the command line and calls the command that they name. The commands that
-//! change no base are in `cmd_read`, those that change one in `cmd_station`, and `convert` is in `cmd_input`.
+//! change no base are in `cmd_read`, those that change one in `cmd_station`, and `convert` is in `cmd_input`. `post --jam`,
+//! in `post_jam`, needs both.
 //!
 //! It is proved to be safe and to end, and no more. It is small, so that the crates below it are proved in parallel.
 //! Begin at `main`, the last function, then read `run_words`.
 #![tactic(auto)]
 
+mod post_jam;
+
+use crate::post_jam::run_post_jam;
 use cmd_input::{Cleared, Progress, names_of, run_convert};
 use cmd_notes::{Heard, Noted};
 use cmd_read::{
@@ -95,6 +99,7 @@ fn run_of_station<W: Sink, E: Sink>(
         Words::PostMail(words) => run_post_mail(rt, words, out, errors),
         Words::Reply(words) => run_reply(rt, words, out, errors),
         Words::PostStored(words) => run_post_stored(rt, words, out, errors),
+        Words::PostJam(words) => run_post_jam(rt, words, out, errors),
         Words::Toss(words) => run_toss(rt, words, progress, out, errors),
         Words::Scan {
             at,

@@ -1,6 +1,6 @@
 -- Where an area was checked, a net is in order.
 use Rattle.std.proofs.Common.{◌≡◌, refl, sym, subst, ap, ◌∙◌, ℕ, ◌≤◌, List, [], ◌∷◌, ◌++◌, length, Option, Some, Ok}
-use Rattle.std.specs.Prelude.{IsTrue}
+use Rattle.std.specs.Prelude.{Bool, IsTrue}
 use Rattle.std.proofs.lemmas.List.{append-nil}
 use Rattle.cmd_status.specs.Devices.{Output}
 use Rattle.model_graph.specs.Walk.{Among}
@@ -98,14 +98,14 @@ module _ (commands : List CommandEvent) (net : Net) (files : List LinkFile) (tag
   }
 
 -- what a 0 of `check` tells
-pub checked : (nodelist : Option (List ℕ)) (tag : List ℕ) (links : List (List ℕ)) (stopped : Option Fault) (old new : Output)
-    → CheckAnswers nodelist tag links stopped old new (Ok Good) → (files : List LinkFile) × AreLinkFiles links files × Tidy files (upper tag) × RunsAreOrderly files (upper tag)
-checked nodelist tag links stopped old new so =
+pub checked : (nodelist : Option (List ℕ)) (more : Bool) (tag : List ℕ) (links : List (List ℕ)) (stopped : Option Fault) (old new : Output)
+    → CheckAnswers nodelist more tag links stopped old new (Ok Good) → (files : List LinkFile) × AreLinkFiles links files × Tidy files (upper tag) × RunsAreOrderly files (upper tag)
+checked nodelist more tag links stopped old new so =
     let c = so.right.0 in
     (c.files, c.are_files, c.tidy.0 refl, c.orderly refl)
 
 pub headline-on-nets : HeadlineOnNets
-headline-on-nets nodelist tag links stopped old new good commands net happen =
-    let (files, are, tidy, orderly) = checked nodelist tag links stopped old new good in
+headline-on-nets nodelist more tag links stopped old new good commands net happen =
+    let (files, are, tidy, orderly) = checked nodelist more tag links stopped old new good in
     let led = led-from-first links files are tidy.joined.one_file commands net happen in
     in-order commands net files (upper tag) (files-fit links files are) led (orderly led.events)

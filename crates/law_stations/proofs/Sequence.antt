@@ -45,6 +45,6 @@ pub sequences-are-among : {D Kept : Type 0} (state : D → DiskState) (place : K
 sequences-are-among state place seats near steps disks d last seated goes = gone state place seats near steps disks d last seated goes
 
 pub headline-over-sequences : {D Kept : Type 0} (state : D → DiskState) (place : Kept → Place) → HeadlineOverSequences state place
-headline-over-sequences state place nodelist tag links stopped old new good seats near steps disks last seated goes =
+headline-over-sequences state place nodelist more tag links stopped old new good seats near steps disks last seated goes =
     let (happen, then) = sequences-are-among state place seats near steps disks (first_disks links) last seated goes in
-    record { order = headline-over-crashes nodelist tag links stopped old new good (commands_of steps) last happen; seated = then }
+    record { order = headline-over-crashes nodelist more tag links stopped old new good (commands_of steps) last happen; seated = then }

@@ -175,6 +175,6 @@ sound-over-crashes links files are apart commands d happen =
     sound-too commands plain d net like has (nets-are-sound links files are apart plain net plainly)
 
 pub headline-over-crashes : HeadlineOverCrashes
-headline-over-crashes nodelist tag links stopped old new good commands d happen =
+headline-over-crashes nodelist more tag links stopped old new good commands d happen =
     let (plain, net, like, plainly, has) = crashes-are-none links commands d happen in
-    in-order commands plain d net like has (upper tag) (headline-on-nets nodelist tag links stopped old new good plain net plainly)
+    in-order commands plain d net like has (upper tag) (headline-on-nets nodelist more tag links stopped old new good plain net plainly)

@@ -1,5 +1,5 @@
 -- The promise about a net, whatever commands were run.
-use Rattle.std.specs.Prelude.{◌≡◌, ◌≢◌, ℕ, ◌⊎◌, ◌≤◌, IsTrue, List, drop, map, take, Option, Some, Ok}
+use Rattle.std.specs.Prelude.{◌≡◌, ◌≢◌, ℕ, ◌⊎◌, ◌≤◌, Bool, IsTrue, List, drop, map, take, Option, Some, Ok}
 use Rattle.cmd_status.specs.Devices.{Output}
 use Rattle.model_graph.specs.Walk.{Among, Different}
 use Rattle.echo_packet.specs.Packet.{PacketOf}
@@ -96,6 +96,6 @@ NetsAreSound = (links : List (List ℕ)) (files : List LinkFile) → AreLinkFile
 
 -- Where `check` ended with 0 for these link files and the area, any commands on them leave a net that is in order.
 abbrev pub HeadlineOnNets : Type 0
-HeadlineOnNets = (nodelist : Option (List ℕ)) (tag : List ℕ) (links : List (List ℕ)) (stopped : Option Fault) (old new : Output)
-    → CheckAnswers nodelist tag links stopped old new (Ok Good)
+HeadlineOnNets = (nodelist : Option (List ℕ)) (more : Bool) (tag : List ℕ) (links : List (List ℕ)) (stopped : Option Fault) (old new : Output)
+    → CheckAnswers nodelist more tag links stopped old new (Ok Good)
     → (commands : List CommandEvent) (net : Net) → Happen commands (first_net links) net → InOrder commands net (upper tag)

@@ -1,5 +1,5 @@
 -- The promise about the disks of a net, wherever its commands were stopped.
-use Rattle.std.specs.Prelude.{◌≡◌, ◌≢◌, ◌⊎◌, ◌<◌, ◌≤◌, ℕ, false, IsTrue, List, [], map, Option, Some, Ok}
+use Rattle.std.specs.Prelude.{◌≡◌, ◌≢◌, ◌⊎◌, ◌<◌, ◌≤◌, ℕ, Bool, false, IsTrue, List, [], map, Option, Some, Ok}
 use Rattle.cmd_status.specs.Devices.{Output}
 use Rattle.model_graph.specs.Walk.{Among, Different}
 use Rattle.echo_links.specs.Links.{LinkFile, has_area, upper}
@@ -96,6 +96,6 @@ pub record InOrderOverCrashes (commands : List CommandEvent) (d : Disks) (tag : 
 
 -- Where `check` ended with 0 for these link files and the area, commands that anything stops anywhere leave disks that are in order.
 abbrev pub HeadlineOverCrashes : Type 0
-HeadlineOverCrashes = (nodelist : Option (List ℕ)) (tag : List ℕ) (links : List (List ℕ)) (stopped : Option Fault) (old new : Output)
-    → CheckAnswers nodelist tag links stopped old new (Ok Good)
+HeadlineOverCrashes = (nodelist : Option (List ℕ)) (more : Bool) (tag : List ℕ) (links : List (List ℕ)) (stopped : Option Fault) (old new : Output)
+    → CheckAnswers nodelist more tag links stopped old new (Ok Good)
     → (commands : List CommandEvent) (d : Disks) → MayHappenAll commands (first_disks links) d → InOrderOverCrashes commands d (upper tag)

@@ -1,5 +1,5 @@
 -- The promise about any steps at stations.
-use Rattle.std.specs.Prelude.{ℕ, List, Option, Ok}
+use Rattle.std.specs.Prelude.{ℕ, Bool, List, Option, Ok}
 use Rattle.cmd_check.specs.Checking.{CheckAnswers}
 use Rattle.disk_io.specs.Disk.{DiskState}
 use Rattle.echo_links.specs.Links.{upper}
@@ -26,8 +26,8 @@ pub record ShowsInOrder {D Kept : Type 0} (state : D → DiskState) (place : Kep
 
 -- Where `check` ended with 0 for the link files of stations with empty bases, and an area.
 abbrev pub HeadlineOverSequences : {D Kept : Type 0} → (D → DiskState) → (Kept → Place) → Type 0
-HeadlineOverSequences {D} {Kept} state place = (nodelist : Option (List ℕ)) (tag : List ℕ) (links : List (List ℕ)) (stopped : Option Fault) (old new : Output)
-    → CheckAnswers nodelist tag links stopped old new (Ok Good)
+HeadlineOverSequences {D} {Kept} state place = (nodelist : Option (List ℕ)) (more : Bool) (tag : List ℕ) (links : List (List ℕ)) (stopped : Option Fault) (old new : Output)
+    → CheckAnswers nodelist more tag links stopped old new (Ok Good)
     → (seats : List (Seat Kept)) → AreNeighbours place seats
     → (steps : List (Step D)) (disks : List D) (last : Disks) → AreSeated state place seats disks (first_disks links) → GoesOn state place seats steps disks (first_disks links) last
     → ShowsInOrder state place seats steps disks (upper tag) last

@@ -9,7 +9,7 @@ returns-in_err-print_rest g c nodelist given inputs is_list are raised =
     let p = err_from_is_err_and c.from_residual-in_err-print_rest.result c.from_residual-in_err-print_rest.ensures.1 in
     let verdict = c.in_ok-verdict.verdict in
     let found = c.in_ok-verdict.ensures in
-    let right = was_checked nodelist _ given c.args.tag.now inputs c.args.links.now verdict _ _ (verdict_status verdict)
+    let right = was_checked nodelist _ c.args.more given c.args.tag.now inputs c.args.links.now verdict _ _ (verdict_status verdict)
     is_list are raised (record { tidy = found.tidy; counted = found.counted; first = found.first }) found.orderly c.new-lines.ensures.items c.in_ok-push_check.ensures refl in
     rw (p.1, p.2) (inl (
       c.in_err-print_rest.ensures.err,
@@ -20,7 +20,7 @@ pub returns : goal.returns
 returns g c nodelist given inputs is_list are raised =
     let verdict = c.in_ok-verdict.verdict in
     let found = c.in_ok-verdict.ensures in
-    let right = was_checked nodelist _ given c.args.tag.now inputs c.args.links.now verdict _ _ c.status_of.result
+    let right = was_checked nodelist _ c.args.more given c.args.tag.now inputs c.args.links.now verdict _ _ c.status_of.result
     is_list are raised (record { tidy = found.tidy; counted = found.counted; first = found.first }) found.orderly c.new-lines.ensures.items c.in_ok-push_check.ensures c.status_of.ensures in
     record {
       lines = c.push_check.new.lines.items;

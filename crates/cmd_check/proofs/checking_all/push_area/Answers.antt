@@ -2,8 +2,8 @@ use Rattle.std.specs.Option.{option_copied}
 use Rattle.cmd_check.proofs.AllAreas.{area_checked}
 use Rattle.cmd_check.proofs.checking_all.push_area.Goals as goal
 
-pub returns : goal.returns
-returns c =
+pub returns-clause-lines : goal.returns-clause-lines
+returns-clause-lines c =
     let found = c.in_ok-verdict.ensures in
-    area_checked c.args.links.now (option_copied c.args.list) c.args.tag.now c.in_ok-verdict.verdict c.is_yes.result c.args.lines.now.items c.push_check.new.lines.items
-    (record { tidy = found.tidy; counted = found.counted; first = found.first }) found.orderly c.is_yes.ensures c.in_ok-push_check.ensures
+    area_checked c.args.links.now (option_copied c.args.list) c.args.more c.args.tag.now c.in_ok-verdict.verdict c.no_count.result c.args.lines.now.items c.push_check.new.lines.items
+    (record { tidy = found.tidy; counted = found.counted; first = found.first }) found.orderly c.no_count.ensures.value c.in_ok-push_check.ensures

@@ -26,8 +26,8 @@ returns g c nodelist given inputs is_list are raised =
     let same = behind_none _ _ added.texts c.new-texts.ensures.items added.whole in
     let more = subst (λ (t : List (List ℕ)). AreLinkFiles t read.files) (c.deref.ensures.value ∙ same) read.are in
     let all = subst (λ (f : List LinkFile). AreLinkFiles (inputs ++ added.texts) f) (sym (c.as_slice-2.ensures.value ∙ read.whole)) (both_read inputs added.texts _ read.files are more) in
-    printed_as (IsCheckedWith nodelist given (inputs ++ added.texts) c.args.assumed.now) _
+    printed_as (IsCheckedWith nodelist c.args.more given (inputs ++ added.texts) c.args.assumed.now) _
     (λ fault. IsFirstFaultGiven nodelist inputs None fault ⊎ IsAssumedFault given inputs c.args.assumed.now fault)
     (output_of g.W.Write.contents g.W.Sink.failures g.W.Sink.holds c.args.out.now) (output_of g.W.Write.contents g.W.Sink.failures g.W.Sink.holds c.print_checked.new.out) c.print_checked.result
-    (λ lines status is. (was_assumed nodelist given c.args.tag.now inputs added.texts c.args.links.now.items c.args.assumed.now lines status are raised added.are is, refl))
+    (λ lines status is. (was_assumed nodelist c.args.more given c.args.tag.now inputs added.texts c.args.links.now.items c.args.assumed.now lines status are raised added.are is, refl))
     (c.print_checked.ensures nodelist given (inputs ++ added.texts) is_list all raised)

@@ -1,11 +1,10 @@
 use Rattle.std.proofs.Common.{ap, length, sym, ◌∙◌}
 use Rattle.std.proofs.lemmas.Bool.{eqb-true}
-use Rattle.echo_text.specs.Lines.{reply_word}
 use Rattle.echo_text.specs.Echo.{first_after}
 use Rattle.echo_text.proofs.TextLines.{no_lines}
-use Rattle.echo_stored.proofs.reading.first_reply.Goals as goal
+use Rattle.echo_stored.proofs.reading.first_after.Goals as goal
 
 pub returns : goal.returns
 returns c =
     let none = no_lines c.lines.rest.now (eqb-true (length c.lines.rest.now) 0 (sym c.is_empty.ensures ∙ c.lines-test.false)) in
-    sym (ap (first_after reply_word) none) ∙ c.lines.invariant
+    sym (ap (first_after c.args.word.now) none) ∙ c.lines.invariant

@@ -1,0 +1,39 @@
+-- What `check` prints of the verdict on an area, and with `--more` of the faults that it does not name.
+use Rattle.std.specs.Prelude.{◌≡◌, ℕ, ◌-◌, Bool, true, false, List, [], ◌++◌, codes, decimal, Option}
+use Rattle.std.specs.List.{flat_map}
+use Rattle.echo_links.specs.Links.{LinkFile}
+use Rattle.echo_nodelist.specs.declared.line.Line.{Line}
+use Rattle.echo_net.specs.declared.verdict.NetFault.{NetFault}
+use Rattle.echo_net.specs.declared.verdict.Verdict.{Verdict}
+use Rattle.echo_net.specs.AllFaults.{AreFurther}
+use Rattle.echo_net.specs.Printed.{fault_text}
+use Rattle.cmd_print.specs.Checked.{AbsencesShown, CheckShown, verdict_line}
+
+-- The line of a further fault.
+abbrev pub also_line : NetFault → List ℕ
+also_line fault = codes "also " ++ (fault_text fault ++ codes "\n")
+
+-- The lines of the faults that the verdict does not name; none if they are not asked for.
+abbrev pub FurtherShown : List LinkFile → List ℕ → Bool → Verdict → List ℕ → Type 0
+FurtherShown files tag false verdict lines = lines ≡ []
+FurtherShown files tag true verdict lines =
+    (further : List NetFault) × AreFurther files tag verdict further × (lines ≡ flat_map also_line further)
+
+-- The lines of a verdict as without further faults, and those of these faults behind its first.
+pub record IsMoreShown (files : List LinkFile) (tag : List ℕ) (list : Option (List Line)) (verdict : Verdict) (lines : List ℕ) : Type 0 where
+  pub also : List ℕ
+  pub absent : List ℕ
+  pub told : FurtherShown files tag true verdict also
+  pub shown : AbsencesShown files tag list absent
+  pub whole : lines ≡ verdict_line tag verdict ++ (also ++ absent)
+
+-- The lines of the verdict on an area, with further faults if they are asked for.
+abbrev pub IsVerdictShown : List LinkFile → List ℕ → Option (List Line) → Bool → Verdict → List ℕ → Type 0
+IsVerdictShown files tag list false verdict lines = CheckShown files tag list verdict lines
+IsVerdictShown files tag list true verdict lines = IsMoreShown files tag list verdict lines
+
+-- The last line: how many areas there are, and how many of them have a yes and a no; none if it is not asked for.
+abbrev pub areas_line : Bool → ℕ → ℕ → List ℕ
+areas_line false areas noes = []
+areas_line true areas noes =
+    codes "areas " ++ (decimal areas ++ (codes " yes " ++ (decimal (areas - noes) ++ (codes " no " ++ (decimal noes ++ codes "\n")))))

@@ -1,0 +1,87 @@
+-- The message of a base that has an id: what it gives to a mail that answers it, and whether it was posted here.
+use Rattle.std.specs.Prelude.{◌≡◌, ℕ, zero, suc, ◌⊎◌, ◌&&◌, not, bytes_eq, Bool, false, List, ◌∷◌, codes, length, take, if◌then◌else◌, slice_get, Option, Some, None, is_some, Result, Ok, Err}
+use Rattle.std.specs.List.{prefix_len}
+use Rattle.std.specs.Option.{option_map}
+use Rattle.echo_addr.specs.Entries.{is_blank}
+use Rattle.echo_charset.specs.declared.charset.Charset.{Charset}
+use Rattle.echo_charset.specs.declared.charset.Charset.TheVariants.{Cp437}
+use Rattle.echo_charset.specs.Charset.{named}
+use Rattle.echo_filed.specs.Filed.{Filed}
+use Rattle.echo_links.specs.Links.{upper}
+use Rattle.echo_text.specs.Echo.{first_after, msgid_of}
+use Rattle.cmd_status.specs.declared.fault.Fault.{Fault}
+use Rattle.cmd_status.specs.Ended.{IsOutOfMemory}
+use Rattle.cmd_status.specs.Inputs.{IsBaseFault, IsBaseGiven}
+use Rattle.cmd_numbered.specs.declared.finding.Answered.{Answered}
+use Rattle.cmd_numbered.specs.declared.finding.PostedWords.{PostedWords}
+
+-- Whether a message has the id.
+abbrev pub is_id_of : List ℕ → Option (List ℕ) → Bool
+is_id_of id None = false
+is_id_of id (Some own) = bytes_eq own id
+
+abbrev pub has_id : Filed → List ℕ → Bool
+has_id m id = is_id_of id (msgid_of m.echo.kept)
+
+-- One more message, if it has the id, else the one found before.
+abbrev pub last_at : List ℕ → Option Filed → Option Filed → Option Filed
+last_at id None before = before
+last_at id (Some m) before = if has_id m id then Some m else before
+
+-- The last of the first so many messages that has it.
+abbrev pub last_with : List ℕ → List Filed → ℕ → Option Filed
+last_with id base zero = None
+last_with id base (suc n) = last_at id (slice_get base n) (last_with id base n)
+
+-- The beginning of a charset's line, and the name at the front of its value.
+abbrev pub charset_word : List ℕ
+charset_word = 1 ∷ codes "CHRS:"
+
+abbrev pub label_name : List ℕ → List ℕ
+label_name label = take (prefix_len (λ b. not (is_blank b)) label) label
+
+-- The charset of a label, none if it is unknown; without a label it is CP437.
+abbrev pub charset_named : Option (List ℕ) → Option Charset
+charset_named None = Some Cp437
+charset_named (Some label) = named (label_name label)
+
+abbrev pub charset_of : Filed → Option Charset
+charset_of m = charset_named (first_after charset_word m.echo.kept)
+
+-- What a mail takes from a message that it answers.
+abbrev pub answered_as : Filed → Answered
+answered_as m = record { tag = m.echo.tag; charset = charset_of m }
+
+-- The base file has no fault, and this is what its last message with the id gives, if there is one.
+pub record IsAnswered (id base : List ℕ) (found : Option Answered) : Type 0 where
+  pub messages : List Filed
+  pub cursor : ℕ
+  pub given : IsBaseGiven (Some base) messages cursor
+  pub found_is : found ≡ option_map answered_as (last_with id messages (length messages))
+
+-- The right answer if that message is looked for.
+abbrev pub AnsweredAnswers : List ℕ → List ℕ → Result (Option Answered) Fault → Type 0
+AnsweredAnswers id base (Ok found) = IsAnswered id base found
+AnsweredAnswers id base (Err fault) = IsOutOfMemory fault ⊎ IsBaseFault (Some base) fault
+
+-- Whether a message was posted here in this area, with these names and this subject.
+abbrev pub has_words : List ℕ → PostedWords → Filed → Bool
+has_words tag words m =
+    not (is_some m.sender)
+    && (bytes_eq m.echo.tag tag && (bytes_eq m.to_name words.to_name.now && (bytes_eq m.from_name words.from_name.now && bytes_eq m.subject words.subject.now)))
+
+abbrev pub is_found_as : PostedWords → Option Filed → Bool
+is_found_as words None = false
+is_found_as words (Some m) = has_words (upper words.tag.now) words m
+
+-- The base file has no fault, and this is whether its last message with the id was posted here under these words.
+pub record IsPostedAs (words : PostedWords) (base : List ℕ) (posted : Bool) : Type 0 where
+  pub messages : List Filed
+  pub cursor : ℕ
+  pub given : IsBaseGiven (Some base) messages cursor
+  pub posted_is : posted ≡ is_found_as words (last_with words.id.now messages (length messages))
+
+-- The right answer if that is asked.
+abbrev pub PostedAnswers : PostedWords → List ℕ → Result Bool Fault → Type 0
+PostedAnswers words base (Ok posted) = IsPostedAs words base posted
+PostedAnswers words base (Err fault) = IsOutOfMemory fault ⊎ IsBaseFault (Some base) fault

@@ -1,0 +1,130 @@
+//! A message that an editor wrote into a JAM base, posted.
+ghost use Rattle.std.specs.Prelude.{◌≡◌, None};
+
+use crate::changing::{PostEnd, post_at};
+use crate::place::Place;
+use base_file::BaseFault;
+use cmd_input::{LinkLock, base_bytes, moment_of, serial_from};
+use cmd_numbered::{PostedWords, is_posted, own_serial};
+use cmd_report::NewMessage;
+use cmd_status::Fault;
+use cmd_store::Post;
+use cmd_words::PostJamWords;
+use disk_io::{Disk, Sink};
+use disk_system::{RealDisk, Unknown};
+use echo_addr::Address;
+use echo_jam::JamDraft;
+use model_steps::{PostFault, Stamp};
+use station::{FileLock, links_at};
+use std::collections::hash_map::RandomState;
+
+/// A station that posts messages of a JAM base: its own address, the serial from which the first free one is taken, and
+/// the stamp.
+#[derive(Clone, Copy)]
+pub struct JamPoster<'a> {
+    rt: &'a HostRuntime,
+    place: Place<'a>,
+    tag: &'a str,
+    own: Address,
+    serial: u32,
+    stamp: Stamp,
+}
+
+impl<'a> JamPoster<'a> {
+    /// The station of these words: the serial and the stamp are judged first, then the link file.
+    pub fn new(rt: &'a HostRuntime, words: &PostJamWords<'a>) -> Result<JamPoster<'a>, Fault<'a>> {
+        let (serial, _) = serial_from(rt, words.serial)?;
+        let stamp = moment_of(rt, words.at)?;
+        let mut disk = RealDisk::new(rt, Unknown);
+        let mut lock = LinkLock::ahead(rt, words.links);
+        let own = own_address(rt, &mut disk, &mut lock, words.links)?;
+        Ok(JamPoster {
+            rt,
+            place: Place {
+                links: words.links,
+                base: words.base,
+            },
+            tag: words.area,
+            own,
+            serial,
+            stamp,
+        })
+    }
+
+    /// Posts the message. Its own id stays, if it is one of this system and free. A message that was posted under its id
+    /// before is not posted again.
+    pub fn post<W: Sink, E: Sink>(
+        &self,
+        draft: &JamDraft<'_>,
+        out: &mut W,
+        errors: &mut E,
+    ) -> PostEnd {
+        let serial = match own_serial(self.rt.alloc(), draft.id, self.own) {
+            Ok(Some(serial)) => serial,
+            Ok(None) => return self.post_with(draft, self.serial, true, out, errors),
+            Err(_) => return PostEnd::Stopped(Fault::OutOfMemory.report(errors)),
+        };
+        let ended = self.post_with(draft, serial, false, out, errors);
+        if !matches!(ended, PostEnd::Refused(PostFault::KnownSerial)) {
+            return ended;
+        }
+        match self.was_posted(draft) {
+            Ok(true) => PostEnd::Posted,
+            Ok(false) => self.post_with(draft, self.serial, true, out, errors),
+            Err(fault) => PostEnd::Stopped(fault.report(errors)),
+        }
+    }
+
+    // Posts it with this serial, or with the first free one from this on.
+    fn post_with<W: Sink, E: Sink>(
+        &self,
+        draft: &JamDraft<'_>,
+        serial: u32,
+        free: bool,
+        out: &mut W,
+        errors: &mut E,
+    ) -> PostEnd {
+        let words = NewMessage {
+            tag: self.tag.as_bytes(),
+            to_name: draft.to_name,
+            from_name: draft.from_name,
+            subject: draft.subject,
+            reply: draft.reply,
+            serial,
+            stamp: self.stamp,
+        };
+        let post = Post {
+            words,
+            free,
+            body: draft.body.as_slice(),
+        };
+        post_at(self.rt, self.place, post, out, errors)
+    }
+
+    // Whether the base has it, under its id.
+    fn was_posted(&self, draft: &JamDraft<'_>) -> Result<bool, Fault<'a>> {
+        let words = PostedWords {
+            id: draft.id,
+            tag: self.tag.as_bytes(),
+            to_name: draft.to_name,
+            from_name: draft.from_name,
+            subject: draft.subject,
+        };
+        let hasher = RandomState::new(self.rt).map_err(|_| Fault::Base(BaseFault::Read))?;
+        let base = base_bytes(self.rt, self.place.base)?;
+        is_posted(self.rt.alloc(), words, &base, hasher)
+    }
+}
+
+// The address of the link file, which is read under its lock.
+fn own_address<'a, D: Disk, L: FileLock>(
+    rt: &HostRuntime,
+    disk: &mut D,
+    lock: &mut L,
+    path: &'a str,
+) -> Result<Address, Fault<'a>>
+    requires { L.held lock.old ≡ None }
+{
+    let links = links_at(rt.alloc(), disk, lock, path)?;
+    Ok(links.system())
+}

@@ -1,0 +1,211 @@
+//! `post --mail`: a mail message, posted. What it leaves open comes from the message that it answers, and then from the
+//! words.
+ghost use Rattle.std.specs.Prelude.{◌≡◌, None};
+
+use crate::changing::{Asked, change};
+use crate::place::Place;
+use base_file::BaseFault;
+use cmd_input::{LinkLock, MAX_TEXT_FILE, base_bytes, moment_of, read_standard_input, serial_from};
+use cmd_numbered::{Answered, find_answered};
+use cmd_status::{Fault, Status};
+use cmd_store::{LetterFault, MailDefaults, MailWords, PostMail};
+use cmd_words::PostMailWords;
+use disk_io::{Disk, Sink};
+use disk_system::{RealDisk, Unknown};
+use echo_addr::Items;
+use echo_charset::Charset;
+use echo_mail::{MailFault, area_in, exported_id, read_mail, value_in};
+use model_steps::Stamp;
+use station::{FileLock, lock_links};
+use std::alloc::{AllocError, Global};
+use std::collections::hash_map::RandomState;
+use std::{fs, str};
+
+/// The word for the charset of the message that is answered.
+const SAME: &str = "same";
+
+// The words that are judged before the mail, and the mail. Without a charset that of the answered message is meant.
+#[derive(Drop)]
+struct Given {
+    charset: Option<Charset>,
+    serial: u32,
+    free: bool,
+    stamp: Stamp,
+    mail: Vec<u8>,
+}
+
+/// `post --mail`: the charset, the serial and the stamp are judged first, then that the files can be read, then the
+/// mail, and what the files hold last.
+pub fn run_post_mail<W: Sink, E: Sink>(
+    rt: &HostRuntime,
+    words: &PostMailWords<'_>,
+    out: &mut W,
+    errors: &mut E,
+) -> Status {
+    let Ok(charset) = charset_asked(words.charset.unwrap_or("CP437")) else {
+        return LetterFault::BadCharset.report(errors);
+    };
+    let given = match mail_given(rt, words, charset) {
+        Ok(given) => given,
+        Err(fault) => return fault.report(errors),
+    };
+    match answered_message(rt, words.base, &given) {
+        Ok(found) => post_given(rt, words, &given, found.as_ref(), out, errors),
+        Err(fault) => match links_fault(rt, words.links, errors) {
+            Some(status) => status,
+            None => fault.report(errors),
+        },
+    }
+}
+
+// The charset of this name. None is that of the answered message; an error is a name of no charset.
+fn charset_asked(word: &str) -> Result<Option<Charset>, LetterFault> {
+    if word == SAME {
+        return Ok(None);
+    }
+    match Charset::named(word.as_bytes()) {
+        Some(charset) => Ok(Some(charset)),
+        None => Err(LetterFault::BadCharset),
+    }
+}
+
+// The words, and the mail on standard input.
+fn mail_given<'a>(
+    rt: &HostRuntime,
+    words: &PostMailWords<'_>,
+    charset: Option<Charset>,
+) -> Result<Given, Fault<'a>> {
+    let (serial, free) = serial_from(rt, words.serial)?;
+    let stamp = moment_of(rt, words.at)?;
+    Ok(Given {
+        charset,
+        serial,
+        free,
+        stamp,
+        mail: read_standard_input(rt, MAX_TEXT_FILE)?,
+    })
+}
+
+// The message that the mail answers, if something of it is wanted and the base has it.
+fn answered_message<'a>(
+    rt: &HostRuntime,
+    base: &'a str,
+    given: &Given,
+) -> Result<Option<Answered>, Fault<'a>> {
+    let Some(id) = wanted_id(rt.alloc(), given)? else {
+        return Ok(None);
+    };
+    if !fs::exists(rt, base).unwrap_or(true) {
+        return Ok(None);
+    }
+    let hasher = RandomState::new(rt).map_err(|_| Fault::Base(BaseFault::Read))?;
+    let bytes = base_bytes(rt, base)?;
+    find_answered(rt.alloc(), id.as_slice(), &bytes, hasher)
+}
+
+// The id of the message that the mail answers, if the mail names no area or the charset of that message is asked for. A
+// mail that cannot be read is refused later.
+fn wanted_id(alloc: Global, given: &Given) -> Result<Option<Items<u8>>, AllocError> {
+    let mail = match read_mail(alloc, &given.mail) {
+        Ok(mail) => mail,
+        Err(MailFault::Memory) => return Err(AllocError),
+        Err(_) => return Ok(None),
+    };
+    let fields = mail.fields.as_slice();
+    if given.charset.is_some() && area_in(fields).is_some() {
+        return Ok(None);
+    }
+    match value_in(fields, b"In-Reply-To") {
+        Some(value) => exported_id(alloc, value),
+        None => Ok(None),
+    }
+}
+
+// Posts the mail, with what the answered message gives.
+fn post_given<W: Sink, E: Sink>(
+    rt: &HostRuntime,
+    words: &PostMailWords<'_>,
+    given: &Given,
+    found: Option<&Answered>,
+    out: &mut W,
+    errors: &mut E,
+) -> Status {
+    let Some(charset) = charset_of(given, found) else {
+        return refuse_mail(rt, words.links, LetterFault::BadCharset, errors);
+    };
+    let asked = MailWords {
+        spare: defaults_of(words, found),
+        charset,
+        serial: given.serial,
+        free: given.free,
+        stamp: given.stamp,
+    };
+    let place = Place {
+        links: words.links,
+        base: words.base,
+    };
+    match PostMail::read(rt.alloc(), &given.mail, asked) {
+        Ok(post) => change(rt, place, &mut Asked::PostMail(post), None, out, errors),
+        Err(fault) => refuse_mail(rt, words.links, fault, errors),
+    }
+}
+
+// The charset of the posting. Where no message is answered, that of the answered message is CP437.
+fn charset_of(given: &Given, found: Option<&Answered>) -> Option<Charset> {
+    match (given.charset, found) {
+        (Some(charset), _) => Some(charset),
+        (None, Some(found)) => found.charset,
+        (None, None) => Some(Charset::Cp437),
+    }
+}
+
+// What the mail lacks: its area is that of the answered message, if there is one.
+fn defaults_of<'a>(words: &PostMailWords<'a>, found: Option<&'a Answered>) -> MailDefaults<'a> {
+    let tag = match found {
+        Some(found) => str::from_utf8(found.tag.as_slice()).ok(),
+        None => None,
+    };
+    MailDefaults {
+        area: tag.or(words.area),
+        to: words.to,
+        from: words.from,
+        subject: words.subject,
+        reply: words.reply,
+    }
+}
+
+// A mail is refused once the link file can be read.
+fn refuse_mail<E: Sink>(
+    rt: &HostRuntime,
+    links: &str,
+    fault: LetterFault,
+    errors: &mut E,
+) -> Status {
+    match links_fault(rt, links, errors) {
+        Some(status) => status,
+        None => fault.report(errors),
+    }
+}
+
+// Reports why the link file cannot be read under its lock, if it cannot.
+fn links_fault<E: Sink>(rt: &HostRuntime, links: &str, errors: &mut E) -> Option<Status> {
+    let mut disk = RealDisk::new(rt, Unknown);
+    let mut lock = LinkLock::ahead(rt, links);
+    match check_links(rt, &mut disk, &mut lock, links) {
+        Ok(()) => None,
+        Err(fault) => Some(fault.report(errors)),
+    }
+}
+
+// A fault if the link file cannot be read under its lock.
+fn check_links<'a, D: Disk, L: FileLock>(
+    rt: &HostRuntime,
+    disk: &mut D,
+    lock: &mut L,
+    links: &'a str,
+) -> Result<(), Fault<'a>>
+    requires { L.held lock.old ≡ None }
+{
+    let _bytes = lock_links(rt.alloc(), disk, lock, links)?;
+    Ok(())
+}
