@@ -24,6 +24,7 @@ CHANGES = {
     "cmd_read/locked": "the same: a JAM base that is begun",
     "cmd_read/making": "new files of export",
     "cmd_read/named": "the files of a JAM base",
+    "cmd_read/outbox": "marks of posted messages in a JAM base",
     "cmd_read/resending": "a packet that is made again",
     "cmd_read/stored": "export into stored messages",
 }
@@ -39,6 +40,7 @@ READS = {
     "cmd_read/files": "the files of commands that read",
     "cmd_notes/notes": "the lists of files that a note is about",
     "cmd_notes/states": "what is found at a path, for a note",
+    "cmd_station/posting_mail": "whether there is a base with an answered message",
     "cmd_station/running": "the bound of RealDisk, no call",
     "cmd_station/scanning": "the same",
 }

@@ -475,7 +475,7 @@ wait
 same "postings with two link files" "end 41 messages, 41 waiting" "$(end_of nine/base)"
 
 # A stopped scan left a packet. A base folder refuses a scan into another folder until one into the first finishes it.
-scan_into() { "$program" scan --at 2026-07-03T12:34:56 ten/links ten/base "ten/$1" > printed.txt 2>&1; }
+scan_into() { "$program" scan --at 2026-07-03T12:34:56 "${@:2}" ten/links ten/base "ten/$1" > printed.txt 2>&1; }
 if [ "$kind" = folders ]; then
   mkdir -p ten/base ten/first ten/second
   cp one/links ten/links
@@ -486,6 +486,9 @@ if [ "$kind" = folders ]; then
   status=0
   scan_into second || status=$?
   same "a scan into another folder" "3 echonet: cannot use ten/second" "$status $(cat printed.txt)"
+  scan_into second --explain || status=$?
+  same "why, in words" "3 echonet: cannot use ten/second
+echonet: note: $place/ten/first: has packets of a stopped scan" "$status $(cat printed.txt)"
   same "nothing is sent" "end 2 messages, 1 waiting 0" "$(end_of ten/base) $(ls ten/second | wc -l)"
   scan_into ./first
   same "the stopped scan is finished" "1.10.2.0.pkt 1.10.2.1.pkt" "$(ls ten/first | xargs)"

@@ -66,6 +66,7 @@ state_words state.NotFolder = codes "is not a folder"
 state_words state.Exists = codes "exists already"
 state_words state.NewBase = codes "new base"
 state_words state.NoSystem = codes "no line SYSTEM with the own address"
+state_words state.Unfinished = codes "has packets of a stopped scan"
 
 abbrev pub path_reason : PathState → List ℕ
 path_reason found = printed_word found.path.now ++ (codes ": " ++ state_words found.state)

@@ -3,13 +3,16 @@
 use crate::notes::{Met, tell};
 use crate::reasons::{PathState, Reason, State, WrongLine};
 use crate::states::{Usage, state_at};
-use cmd_input::{MAX_TEXT_FILE, folder_path, names_of, read_file};
+use cmd_input::{MAX_TEXT_FILE, folder_path, lead_to_one, names_of, read_file};
 use cmd_show::{FaultyLine, Judged, judge};
 use cmd_status::Fault;
 use cmd_words::Paths;
 use disk_io::Sink;
 use echo_links::LinkFault;
-use std::fs;
+use std::{fs, str};
+
+/// The most bytes of a path.
+const MAX_PATH: usize = 4_096;
 
 /// A path that cannot be used.
 pub(crate) fn explain_path<E: Sink>(met: Met<'_>, path: &str, usage: Usage, errors: &mut E) {
@@ -87,8 +90,11 @@ pub(crate) fn explain_net<E: Sink>(met: Met<'_>, links: &Paths<'_>, errors: &mut
     }
 }
 
-/// A packet of a scan with a name in use.
-pub(crate) fn explain_outbound<E: Sink>(met: Met<'_>, folder: &str, errors: &mut E) {
+/// A packet of a scan with a name in use, or another folder with unfinished ones.
+pub(crate) fn explain_outbound<E: Sink>(met: Met<'_>, base: &str, folder: &str, errors: &mut E) {
+    if met.is(Fault::CannotUse(folder)) {
+        explain_noted(met, base, folder, errors);
+    }
     let Ok(slashed) = folder_path(met.rt, folder) else {
         return;
     };
@@ -100,6 +106,38 @@ pub(crate) fn explain_outbound<E: Sink>(met: Met<'_>, folder: &str, errors: &mut
             explain_entry(met, slashed.as_str(), entry.file_name(), errors);
         }
     }
+}
+
+// The folder that the note of a base folder names, if a stopped scan left packets there.
+fn explain_noted<E: Sink>(met: Met<'_>, base: &str, folder: &str, errors: &mut E) {
+    let Ok(note) = format!(in met.rt.alloc(); "{base}/outbound") else {
+        return;
+    };
+    let Ok(noted) = read_file(met.rt, note.as_str(), MAX_PATH) else {
+        return;
+    };
+    let Ok(path) = str::from_utf8(&noted) else {
+        return;
+    };
+    if !lead_to_one(met.rt, path, folder) && has_staging(met.rt, path) {
+        let state = State::Unfinished;
+        tell(met.rt, Reason::Path(PathState { path, state }), errors);
+    }
+}
+
+// Whether the folder has staging files.
+fn has_staging(rt: &HostRuntime, folder: &str) -> bool {
+    let Ok(entries) = fs::read_dir(rt, folder) else {
+        return false;
+    };
+    for entry in entries {
+        if let Ok(entry) = entry {
+            if entry.file_name().ends_with("~.new") {
+                return true;
+            }
+        }
+    }
+    false
 }
 
 // A file in the folder of packets.

@@ -194,7 +194,7 @@ fn explain_station<E: Sink>(met: Met<'_>, words: &Words<'_>, errors: &mut E) {
             explain_moment(met, *at, None, errors);
             explain_files(met, *links, *base, errors);
             explain_path(met, *folder, Usage::Folder, errors);
-            explain_outbound(met, *folder, errors);
+            explain_outbound(met, *base, *folder, errors);
         }
         Words::Purge { links, base } => explain_files(met, *links, *base, errors),
         _ => {}

@@ -63,6 +63,8 @@ pub enum State {
     NewBase,
     /// A link file without its own address.
     NoSystem,
+    /// A folder with packets that only a scan into it finishes.
+    Unfinished,
 }
 
 /// A packet of a toss: its number from 1, how many there are, and its path.
@@ -214,6 +216,7 @@ fn state_words(state: State) -> &'static [u8]
         State::Exists => b"exists already",
         State::NewBase => b"new base",
         State::NoSystem => b"no line SYSTEM with the own address",
+        State::Unfinished => b"has packets of a stopped scan",
     }
 }
 
