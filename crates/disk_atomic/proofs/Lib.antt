@@ -8,3 +8,4 @@ pub mod Packets
 pub mod Replaced
 pub mod Tried
 pub mod Whole
+pub mod Parts
