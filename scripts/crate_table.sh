@@ -23,6 +23,7 @@ tosser     | echo_toss | the steps of one system, on any store
 model      | model_run | runs of systems, tidy areas, any tossers, harm, the headline
            | model_graph | cycles and walks
 stores     | base_folder base_folder_store | a base folder
+           | base_places | a base file held by places; no command uses it yet
            | base_store | the trait, a base in memory, keys
 disks      | disk_atomic base_log | whole files; the log of a base folder
            | disk_system disk_memory | the files of the system; a disk for tests

@@ -1,0 +1,3 @@
+pub mod Shifted
+pub mod Ahead
+pub mod Judged
