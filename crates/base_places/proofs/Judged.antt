@@ -1,9 +1,9 @@
 -- A base file of which the first messages are judged: what is known of them, and one more.
-use Rattle.std.proofs.Common.{◌≡◌, ℕ, ◌+◌, ◌<◌, ◌≤◌, ◌/◌, ◌^◌, nat_lt, not, Bool, true, false, List, [], ◌∷◌, ◌++◌, length, map, take, drop, Option, refl, sym, ap, subst, ◌∙◌, if◌then◌else◌, arith, length-append}
-use Rattle.std.specs.List.{AllByRecursion, flat_map}
+use Rattle.std.proofs.Common.{◌≡◌, ℕ, ◌+◌, ◌<◌, ◌/◌, ◌^◌, nat_lt, not, Bool, true, false, List, [], ◌∷◌, ◌++◌, length, map, take, drop, Option, refl, sym, ap, subst, ◌∙◌, if◌then◌else◌, arith, length-append}
+use Rattle.std.specs.List.{AllByRecursion}
 use Rattle.std.proofs.lemmas.Bool.{and_parts, cond-false, cond-true, or_from, or_parts, true≢false}
 use Rattle.std.proofs.lemmas.Grind.{flat_map-append}
-use Rattle.std.proofs.lemmas.List.{append-nil, drop-drop, drop_at, length-map, length-take-le, take-append-drop, take_at}
+use Rattle.std.proofs.lemmas.List.{append-nil, drop-drop, drop_at, length-take-le, take-append-drop, take_at}
 use Rattle.std.specs.Prelude.{IsSome}
 use Rattle.disk_io.specs.Disk.{DiskState, bytes_in}
 use Rattle.echo_filed.specs.declared.key.Key.{Key}
@@ -17,7 +17,7 @@ use Rattle.base_file.specs.declared.piece.Next.TheVariants as next
 use Rattle.base_file.specs.Pieces.{IsJudged}
 use Rattle.base_file.proofs.Loaded.{all_filed}
 use Rattle.base_file.proofs.Pieces.{next_begins}
-use Rattle.base_store.specs.Keys.{FolderStandsFor, MayStandAlone, cursor_alone, digest_at, digested, digested_key, entry, keys_from}
+use Rattle.base_store.specs.Keys.{FolderStandsFor, MayStandAlone, cursor_alone, digested, digested_key, entry, keys_from}
 use Rattle.base_store.proofs.Digests.{of_key}
 use Rattle.base_store.proofs.Placed.{bytes_of, keys_append, keys_long}
 use Rattle.base_store.proofs.Told.{tells_each}

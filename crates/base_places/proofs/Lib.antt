@@ -1,3 +1,4 @@
 pub mod Shifted
 pub mod Ahead
 pub mod Judged
+pub mod Begun

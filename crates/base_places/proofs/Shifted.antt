@@ -1,5 +1,5 @@
 -- Bytes behind the head of a file.
-use Rattle.std.proofs.Common.{◌≡◌, ℕ, ◌+◌, ◌≤◌, List, ◌++◌, length, take, drop, refl, sym, ap, subst, ◌∙◌, arith}
+use Rattle.std.proofs.Common.{◌≡◌, ℕ, ◌+◌, ◌≤◌, List, length, take, drop, refl, sym, ap, subst, ◌∙◌, arith}
 use Rattle.std.proofs.lemmas.List.{drop-drop, drop-take, length-drop}
 use Rattle.std.specs.Prelude.{IsSome}
 use Rattle.disk_io.specs.Disk.{DiskState, bytes_in}

@@ -1,3 +1,4 @@
 pub mod Places
 pub mod Window
 pub mod Judged
+pub mod Opened

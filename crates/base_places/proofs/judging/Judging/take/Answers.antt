@@ -1,4 +1,4 @@
-use Rattle.std.proofs.Common.{◌≡◌, ◌∙◌, ◌+◌, ◌≤◌, ◌<◌, ◌/◌, ℕ, List, ap, arith, drop, refl, length, map, subst, sym}
+use Rattle.std.proofs.Common.{◌≡◌, ◌∙◌, ◌/◌, ℕ, List, ap, arith, drop, refl, length, subst, sym}
 use Rattle.std.proofs.lemmas.List.{length-append}
 use Rattle.base_store.specs.Keys.{entry}
 use Rattle.disk_io.specs.Disk.{bytes_in}

@@ -1,9 +1,8 @@
-use Rattle.std.proofs.Common.{◌≡◌, ◌∙◌, ◌/◌, ℕ, List, Option, ap, arith, length, refl, subst, sym}
-use Rattle.std.specs.Prelude.{IfErr, IsSome}
+use Rattle.std.proofs.Common.{◌∙◌, ℕ, ap, arith, refl, subst, sym}
+use Rattle.std.specs.Prelude.{IsSome}
 use Rattle.disk_io.specs.Disk.{bytes_in}
 use Rattle.disk_io.proofs.Moments.{nothing_twice}
-use Rattle.base_places.specs.Judged.{IsGoing, IsUnread, SameTask}
-use Rattle.base_places.specs.declared.judging.Judging.{Judging}
+use Rattle.base_places.specs.Judged.{IsGoing}
 use Rattle.base_places.proofs.Shifted.{quiet_self}
 use Rattle.base_places.proofs.Judged.{same_task, going_seen}
 use Rattle.base_places.proofs.judging.Judging.take_all.Goals as goal

@@ -1,5 +1,5 @@
 -- The first messages are judged.
-use Rattle.std.proofs.Common.{◌≡◌, ◌-◌, ◌/◌, ◌≤◌, length}
+use Rattle.std.proofs.Common.{◌-◌, ◌/◌, ◌≤◌, length}
 use Rattle.disk_io.specs.Disk.{Honestly, bytes_in}
 use Rattle.disk_io.specs.Runs.{ChangesNothing}
 use Rattle.base_places.specs.Judged.{IsGoing, IsReady, SameTask}

@@ -1,4 +1,4 @@
-use Rattle.std.proofs.Common.{◌≡◌, ◌∙◌, ◌/◌, ◌<◌, ℕ, List, Option, ap, arith, drop, length, subst, sym}
+use Rattle.std.proofs.Common.{◌≡◌, ◌∙◌, ◌<◌, ℕ, List, ap, arith, drop, length, subst, sym}
 use Rattle.std.specs.Prelude.{IfErr, IsSome, OnOk}
 use Rattle.disk_io.specs.Disk.{bytes_in}
 use Rattle.echo_filed.specs.Fields.{StopsIn}

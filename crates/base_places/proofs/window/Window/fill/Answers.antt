@@ -1,4 +1,4 @@
-use Rattle.std.proofs.Common.{◌∙◌, ℕ, List, ap, drop, take}
+use Rattle.std.proofs.Common.{◌∙◌, ℕ, ap, drop, take}
 use Rattle.std.proofs.lemmas.List.{drop-take}
 use Rattle.disk_io.specs.Disk.{bytes_in}
 use Rattle.base_places.proofs.window.Window.fill.Goals as goal

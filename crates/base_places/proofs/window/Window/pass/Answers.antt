@@ -1,5 +1,5 @@
-use Rattle.std.proofs.Common.{◌≡◌, ◌∙◌, ℕ, ◌+◌, ◌≤◌, List, length, take, drop, sym, ap, subst, arith}
-use Rattle.std.proofs.lemmas.List.{drop-drop, length-drop}
+use Rattle.std.proofs.Common.{◌≡◌, ◌∙◌, ◌+◌, length, take, drop, sym, arith}
+use Rattle.std.proofs.lemmas.List.{drop-drop}
 use Rattle.base_places.specs.Window.{next_bytes}
 use Rattle.base_places.proofs.Ahead.{goes_on, room_ahead}
 use Rattle.base_places.proofs.window.Window.pass.Goals as goal
