@@ -11,3 +11,4 @@ pub mod ShortForms
 pub mod StubBases
 pub mod SavedAgain
 pub mod NotedTags
+pub mod Pieces

@@ -98,7 +98,7 @@ stored_sound version cursor earlier s size h =
       new = p5.1;
     }
 
-all_filed : (version : Version) (cursor : ℕ) (earlier : List Filed) (all : List Stored) → AllByRecursion (IsStored version) all → AreSound version cursor earlier all
+pub all_filed : (version : Version) (cursor : ℕ) (earlier : List Filed) (all : List Stored) → AllByRecursion (IsStored version) all → AreSound version cursor earlier all
     → AllByRecursion IsFiled (map (message_in version) all) × AreNew earlier (map (message_in version) all)
 all_filed version cursor earlier [] sizes sound = (tt, tt)
 all_filed version cursor earlier (s ∷ later) sizes sound =

@@ -133,7 +133,7 @@ behind_messages version cursor number more all rest bytes b count =
     ∙ ap (finished bytes cursor) (sound_front version cursor [] all more rest b.sizes b.sound)
 
 -- a base is the outcome
-base_is : (bytes : List ℕ) (found : Loaded) → found.2 ≤ length bytes → BaseOf found.0 found.1 (take found.2 bytes) → Ok found ≡ load_outcome bytes
+pub base_is : (bytes : List ℕ) (found : Loaded) → found.2 ≤ length bytes → BaseOf found.0 found.1 (take found.2 bytes) → Ok found ≡ load_outcome bytes
 unfolding messages_in finished
 base_is bytes found room b =
     let n = found.2 in
@@ -264,7 +264,7 @@ bytes_more version (b ∷ all) s rest =
     ∙ ap (λ bs. stored_bytes version b ++ bs) (bytes_more version all s rest)
     ∙ sym (append_assoc (stored_bytes version b) (flat_map (stored_bytes version) (all ++ s ∷ [])) rest)
 
-begins_more : (version : Version) (cursor number : ℕ) (all : List Stored) (s : Stored) (left rest bytes : List ℕ) → Begins version cursor number all left bytes
+pub begins_more : (version : Version) (cursor number : ℕ) (all : List Stored) (s : Stored) (left rest bytes : List ℕ) → Begins version cursor number all left bytes
     → left ≡ stored_bytes version s ++ rest → IsStored version s → is_damaged version cursor (map (message_in version) all) s ≡ false
     → Begins version cursor number (all ++ s ∷ []) rest bytes
 begins_more version cursor number all s left rest bytes b e size fine = record {
@@ -284,11 +284,11 @@ Rest version cursor number bytes more =
     (all : List Stored) (rest : List ℕ) → Begins version cursor number all rest bytes → number ≡ length all + more → AreBytes rest
     → LoadOf bytes (finished bytes cursor (messages_in version cursor (map (message_in version) all) more rest))
 
-none_left : (version : Version) (cursor number : ℕ) (bytes : List ℕ) → Rest version cursor number bytes 0
-unfolding messages_in finished
-none_left version cursor number bytes all rest b count are =
+-- the whole base, where no message is left
+pub whole_loads : (version : Version) (cursor number : ℕ) (bytes : List ℕ) (all : List Stored) (rest : List ℕ) → Begins version cursor number all rest bytes → number ≡ length all
+    → LoadOf bytes (Ok (map (message_in version) all, cursor, length bytes - length rest))
+whole_loads version cursor number bytes all rest b many =
     let front = head_bytes version cursor (length all) ++ flat_map (stored_bytes version) all in
-    let many : number ≡ length all = omega arith in
     let begun : bytes ≡ front ++ rest =
     b.whole ∙ ap (λ (n : ℕ). head_bytes version cursor n ++ (flat_map (stored_bytes version) all ++ rest)) many
     ∙ sym (append_assoc (head_bytes version cursor (length all)) (flat_map (stored_bytes version) all) rest) in
@@ -311,6 +311,10 @@ none_left version cursor number bytes all rest b count are =
         messages = refl;
       },
     )
+
+none_left : (version : Version) (cursor number : ℕ) (bytes : List ℕ) → Rest version cursor number bytes 0
+unfolding messages_in finished
+none_left version cursor number bytes all rest b count are = whole_loads version cursor number bytes all rest b (omega arith)
 
 -- one message more, where one stands there
 one_left : (version : Version) (cursor number more : ℕ) (bytes : List ℕ) → Rest version cursor number bytes more → (all : List Stored) (rest : List ℕ)
@@ -422,21 +426,20 @@ twelve_on bytes =
     λ i. (a i + 256 * b i) + 65536 * (c i + 256 * d i)
 
 -- bytes with a head begin with it
-record HasHead (bytes : List ℕ) : Type 0 where
-  whole : bytes ≡ head_bytes (version_of bytes) (long_at 8 bytes) (long_at 12 bytes) ++ drop 16 bytes
-  number_fits : long_at 12 bytes < 2 ^ 32
+pub record HasHead (version : Version) (bytes : List ℕ) : Type 0 where
+  pub whole : bytes ≡ head_bytes version (long_at 8 bytes) (long_at 12 bytes) ++ drop 16 bytes
+  pub number_fits : long_at 12 bytes < 2 ^ 32
 
-has_head : (bytes : List ℕ) → AreBytes bytes → 16 ≤ length bytes → is_front bytes ≡ true → HasHead bytes
+pub has_head : (v : Version) (bytes : List ℕ) → AreBytes bytes → 16 ≤ length bytes → take 8 bytes ≡ magic v → HasHead v bytes
 unfolding head_bytes
-has_head bytes are room h =
-    let v = version_of bytes in
+has_head v bytes are room is =
     let cursor = long_front (drop 8 bytes) (AreBytes-drop 8 bytes are) (omega (arith, length-drop 8 bytes)) in
     let number = long_front (drop 12 bytes) (AreBytes-drop 12 bytes are) (omega (arith, length-drop 12 bytes)) in
     let fits : long_at 12 bytes < 2 ^ 32 = let P : ℕ → Type 0 = λ n. n < 2 ^ 32 in subst P (twelve_on bytes) number.1 in
     record {
       whole =
           sym (take-append-drop 8 bytes)
-          ∙ ap (λ bs. bs ++ drop 8 bytes) (version_is bytes room h)
+          ∙ ap (λ bs. bs ++ drop 8 bytes) is
           ∙ ap (λ bs. magic v ++ bs) (cursor.0 ∙ (λ i. long (eight_on bytes i) ++ drop-drop 4 8 bytes i))
           ∙ ap (λ bs. magic v ++ (long (long_at 8 bytes) ++ bs)) (number.0 ∙ (λ i. long (twelve_on bytes i) ++ drop-drop 4 12 bytes i))
           ∙ ap (λ bs. magic v ++ bs) (sym (append_assoc (long (long_at 8 bytes)) (long (long_at 12 bytes)) (drop 16 bytes)))
@@ -465,7 +468,7 @@ outcome_loads bytes are =
     whole_head : is_front bytes ≡ true → 16 ≤ length bytes → long_at 8 bytes ≤ long_at 12 bytes → LoadOf bytes (load_outcome bytes)
     whole_head front room within =
         let P : Result Loaded BaseFault → Type 0 = LoadOf bytes in
-        let head = has_head bytes are room front in
+        let head = has_head (version_of bytes) bytes are room (version_is bytes room front) in
         let cursor : ℕ = long_at 8 bytes in
         let number : ℕ = long_at 12 bytes in
         let begins : Begins (version_of bytes) cursor number [] (drop 16 bytes) bytes = record {

@@ -3,3 +3,4 @@ pub mod Entries
 pub mod BaseFile
 pub mod Saving
 pub mod Loading
+pub mod Pieces

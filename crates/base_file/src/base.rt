@@ -14,6 +14,8 @@ use crate::tags::Tags;
 use echo_filed::{Filed, Key, by_id};
 use indexmap::IndexMap;
 use indexmap::map::Entry;
+pub use loading::Head;
+pub(crate) use loading::version_of;
 use std::alloc::{AllocError, Global};
 use std::hash::BuildHasher;
 use std::marker::Model;

@@ -4,6 +4,7 @@
 //!
 //! Begin with `base`: the messages by their keys, saved and loaded. `purging` makes stubs,
 //! `judging` refuses stored messages that no base may have, `tags` has the tags of all messages.
+//! `piece` judges a base file in pieces, message by message.
 //! `fault` lists the refusals, `laws` states the promise.
 #![tactic(auto)]
 
@@ -11,9 +12,11 @@ mod base;
 mod fault;
 mod judging;
 mod laws;
+mod piece;
 mod purging;
 mod tags;
 
-pub use base::Base;
+pub use base::{Base, Head};
 pub use fault::BaseFault;
 pub use laws::{loaded_base_law, one_base_or_fault, saved_again_law, saved_base_law};
+pub use piece::{Next, head_of, judge_next};

@@ -9,3 +9,4 @@ pub mod Replaced
 pub mod Tried
 pub mod Whole
 pub mod Behind
+pub mod Parts

@@ -5,3 +5,4 @@ pub mod Outgoing
 pub mod Publishing
 pub mod Replacing
 pub mod Trying
+pub mod Keeping

@@ -52,8 +52,13 @@ fn add_message(alloc: Global, piece: &mut Vec<u8>, copy: &PackedCopy) -> Result<
     }
 }
 
-// Writes the bytes at the end of the file, and answers where it ends then.
-fn append<D: Disk>(disk: &mut D, path: &[u8], at: usize, bytes: &[u8]) -> Result<usize, DiskError>
+/// Writes the bytes at the end of the file, and answers where it ends then.
+pub(crate) fn append<D: Disk>(
+    disk: &mut D,
+    path: &[u8],
+    at: usize,
+    bytes: &[u8],
+) -> Result<usize, DiskError>
     requires { IsGrowing (D.state disk.old) path.now at }
     ensures growing { IfOk result (IsGrowing (D.state disk.new) path.now) }
     ensures more { OnOk result (bytes_in ((D.state disk.new).seen path.now) ≡ bytes_in ((D.state disk.old).seen path.now) ++ bytes.now) }

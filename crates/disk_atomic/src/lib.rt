@@ -1,15 +1,17 @@
 //! Files that are written whole: a crash leaves the old file or the new one, and packets together with a commit.
 //!
 //! Begin with `replacing` (a file is replaced whole), then `filling`, `outgoing` and `staged` (packets in staging
-//! files) and `naming` (packets get their paths). `appending` lets staging files grow piece by piece. `staging` writes
-//! and syncs one file. `trying` finds out whether a packet can get a second path. `dropping` removes staging files of
-//! packets, and `finishing` ends what a stopped scan left.
+//! files) and `naming` (packets get their paths). `appending` lets staging files grow piece by piece, `keeping` replaces
+//! a file of which a part stays; no command uses these two yet. `staging` writes and syncs one file. `trying` finds out
+//! whether a packet can get a second path. `dropping` removes staging files of packets, and `finishing` ends what a
+//! stopped scan left.
 #![tactic(auto)]
 
 mod appending;
 mod dropping;
 mod filling;
 mod finishing;
+mod keeping;
 mod naming;
 mod outgoing;
 mod placing_error;
@@ -21,6 +23,7 @@ mod trying;
 pub use appending::{Pieces, append_each, append_piece, sync_packets};
 pub use dropping::drop_staging;
 pub use finishing::{Left, finish_stopped};
+pub use keeping::{Kept, replace_around};
 pub use naming::{name_packet, name_packets};
 pub use outgoing::Outgoing;
 pub use placing_error::PlacingError;

@@ -18,12 +18,12 @@ const FIRST: &[u8] = b"ECHOBAS1";
 
 pub(super) const SECOND: &[u8] = b"ECHOBAS2";
 
-// The first 16 bytes of a base file.
-#[derive(Clone, Copy)]
-struct Head {
-    version: Version,
-    cursor: u32,
-    number: u32,
+/// The first 16 bytes of a base file: its version, how many messages were scanned, and how many there are.
+#[derive(Clone, Copy, Debug)]
+pub struct Head {
+    pub version: Version,
+    pub cursor: u32,
+    pub number: u32,
 }
 
 // Why a field was not read, after this many whole messages.
@@ -37,8 +37,8 @@ fn broken_fault(broken: Broken, messages: u64) -> BaseFault
     }
 }
 
-// The version with these first bytes, or the fault.
-fn version_of(front: &[u8]) -> Result<Version, BaseFault>
+/// The version with these first bytes, or the fault.
+pub(crate) fn version_of(front: &[u8]) -> Result<Version, BaseFault>
     requires { length front.now ≤ 8 }
     ensures { IsVersion front.now result }
 {

@@ -1,0 +1,59 @@
+-- A file that gets a part of another one.
+use Rattle.std.proofs.Common.{◌≡◌, ◌∙◌, ℕ, ◌<◌, ◌≤◌, List, [], ◌++◌, length, take, drop, Some, ap, refl, sym, subst, arith, append_assoc}
+use Rattle.std.proofs.lemmas.List.{append-nil, drop-append-le, drop_all, length-take, length-take-le, nil_from_length, take-append-drop, take-append-le}
+use Rattle.std.specs.Prelude.{IsSome, slice_index}
+use Rattle.disk_io.specs.Disk.{DiskState, bytes_in}
+use Rattle.disk_io.specs.Runs.{ChangesNothing}
+use Rattle.disk_atomic.specs.Changes.{HasOnDisk, IsGrowing}
+use Rattle.disk_atomic.proofs.Whole.{file_of_bytes}
+
+-- a run that changes nothing
+pub still_grows : (old new : DiskState) (path : List ℕ) (at : ℕ) → ChangesNothing old new → IsGrowing old path at → IsGrowing new path at
+still_grows old new path at quiet was =
+    let same = sym (quiet.seen path) in
+    record {
+      there = subst (λ f. IsSome f) same was.there;
+      long = ap (λ f. length (bytes_in f)) (quiet.seen path) ∙ was.long;
+      bytes = λ i. subst (λ f. slice_index (bytes_in f) i < 256) same (was.bytes i);
+      named = quiet.named path (λ h. h) was.named;
+      alone = quiet.alone path (λ h. h) was.alone;
+    }
+
+-- two parts that follow each other
+pub parts_join : (bytes : List ℕ) (from done next : ℕ) → from ≤ done → done ≤ next → next ≤ length bytes → drop from (take done bytes) ++ drop done (take next bytes) ≡ drop from (take next bytes)
+parts_join bytes from done next low high within =
+    let long : length (take next bytes) ≡ next = length-take-le next bytes within in
+    let front : take done (take next bytes) ≡ take done bytes =
+    sym (take-append-le done (take next bytes) (drop next bytes) (omega (arith, long, high))) ∙ ap (take done) (take-append-drop next bytes) in
+    let size : length (take done bytes) ≡ done = length-take-le done bytes (omega (arith, high, within)) in
+    sym (
+    ap (drop from) (sym (take-append-drop done (take next bytes)) ∙ ap (λ l. l ++ drop done (take next bytes)) front)
+    ∙ drop-append-le from (take done bytes) (drop done (take next bytes)) (omega (arith, size, low))
+    )
+
+-- one part more
+pub part_more : (file was now bytes : List ℕ) (from done next : ℕ) → from ≤ done → done ≤ next → next ≤ length bytes → was ≡ file ++ drop from (take done bytes)
+    → now ≡ was ++ drop done (take next bytes) → now ≡ file ++ drop from (take next bytes)
+part_more file was now bytes from done next low high within before here =
+    here ∙ ap (λ l. l ++ drop done (take next bytes)) before ∙ append_assoc file (drop from (take done bytes)) (drop done (take next bytes))
+    ∙ ap (λ l. file ++ l) (parts_join bytes from done next low high within)
+
+-- no part yet
+pub part_none : (file bytes : List ℕ) (from : ℕ) → file ≡ file ++ drop from (take from bytes)
+part_none file bytes from =
+    let none : drop from (take from bytes) ≡ [] = drop_all from (take from bytes) (omega (arith, length-take from bytes)) in
+    sym (ap (λ l. file ++ l) none ∙ append-nil file)
+
+-- all three, from a file of no bytes on
+pub all_kept : (none first second third head part tail : List ℕ) → length none ≡ 0 → first ≡ none ++ head → second ≡ first ++ part → third ≡ second ++ tail → third ≡ head ++ (part ++ tail)
+all_kept none first second third head part tail empty one two three =
+    let nil : none ≡ [] = nil_from_length none empty in
+    three ∙ ap (λ l. l ++ tail) (two ∙ ap (λ l. l ++ part) (one ∙ ap (λ l. l ++ head) nil)) ∙ append_assoc head part tail
+
+-- a file that is there and flushed has all its bytes on the disk
+pub all_on_disk : (disk : DiskState) (path : List ℕ) → IsSome (disk.seen path) → disk.is_named path → disk.is_flushed path → HasOnDisk disk path (bytes_in (disk.seen path))
+all_on_disk disk path there named flushed = record { seen = file_of_bytes (disk.seen path) (bytes_in (disk.seen path)) there refl; named = named; flushed = flushed }
+
+-- its bytes are these
+pub on_disk_as : (disk : DiskState) (path bytes : List ℕ) → HasOnDisk disk path (bytes_in (disk.seen path)) → bytes_in (disk.seen path) ≡ bytes → HasOnDisk disk path bytes
+on_disk_as disk path bytes has is = record { seen = has.seen ∙ ap (λ l. Some l) is; named = has.named; flushed = has.flushed }

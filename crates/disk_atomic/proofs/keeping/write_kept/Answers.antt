@@ -1,0 +1,57 @@
+use Rattle.std.proofs.Common.{◌≡◌, ◌∙◌, ◌++◌, List, ℕ, ap, arith, drop, length, subst, sym, take}
+use Rattle.std.specs.Prelude.{IsSome}
+use Rattle.disk_io.specs.Disk.{bytes_in}
+use Rattle.disk_atomic.proofs.Changes.{then_only}
+use Rattle.disk_atomic.proofs.Parts.{all_kept}
+use Rattle.disk_atomic.proofs.keeping.write_kept.Goals as goal
+
+pub copy_part-requires-clause-there : goal.copy_part-requires-clause-there
+copy_part-requires-clause-there g c honest =
+    let changes = c.append.ensures.changes in
+    subst (λ f. IsSome f) (sym (changes.seen c.args.source.now (λ e. c.requires.other (sym e)))) (c.requires.there (changes.honest honest))
+
+pub copy_part-requires-clause-within : goal.copy_part-requires-clause-within
+copy_part-requires-clause-within g c honest =
+    let changes = c.append.ensures.changes in
+    let same = ap (λ f. length (bytes_in f)) (changes.seen c.args.source.now (λ e. c.requires.other (sym e))) in
+    let room = c.requires.within (changes.honest honest) in
+    omega (arith, same, room)
+
+pub returns-in_err-front-clause-changes : goal.returns-in_err-front-clause-changes
+returns-in_err-front-clause-changes g c = c.append.ensures.changes
+
+pub returns-in_err-end-clause-changes : goal.returns-in_err-end-clause-changes
+returns-in_err-end-clause-changes g c =
+    then_only (λ (m : List ℕ). m ≡ c.args.path.now) (g.D.Disk.state c.args.disk.now) (g.D.Disk.state c.append.new.disk) (g.D.Disk.state c.copy_part.new.disk) c.append.ensures.changes
+    c.copy_part.ensures.changes
+
+pub returns-in_err-append-clause-changes : goal.returns-in_err-append-clause-changes
+returns-in_err-append-clause-changes g c =
+    let at = λ (m : List ℕ). m ≡ c.args.path.now in
+    let d0 = g.D.Disk.state c.args.disk.now in
+    let d1 = g.D.Disk.state c.append.new.disk in
+    let d2 = g.D.Disk.state c.copy_part.new.disk in
+    then_only at d0 d2 (g.D.Disk.state c.append-2.new.disk) (then_only at d0 d1 d2 c.append.ensures.changes c.copy_part.ensures.changes) c.append-2.ensures.changes
+
+pub returns-clause-changes : goal.returns-clause-changes
+returns-clause-changes g c =
+    let at = λ (m : List ℕ). m ≡ c.args.path.now in
+    let d0 = g.D.Disk.state c.args.disk.now in
+    let d1 = g.D.Disk.state c.append.new.disk in
+    let d2 = g.D.Disk.state c.copy_part.new.disk in
+    then_only at d0 d2 (g.D.Disk.state c.append-2.new.disk) (then_only at d0 d1 d2 c.append.ensures.changes c.copy_part.ensures.changes) c.append-2.ensures.changes
+
+pub returns-clause-bytes : goal.returns-clause-bytes
+returns-clause-bytes g c honest =
+    let path = c.args.path.now in
+    let source = c.args.source.now in
+    let d0 = g.D.Disk.state c.args.disk.now in
+    let d1 = g.D.Disk.state c.append.new.disk in
+    let d2 = g.D.Disk.state c.copy_part.new.disk in
+    let d3 = g.D.Disk.state c.append-2.new.disk in
+    let kept = c.args.kept in
+    let same = c.append.ensures.changes.seen source (λ e. c.requires.other (sym e)) in
+    all_kept (bytes_in (d0.seen path)) (bytes_in (d1.seen path)) (bytes_in (d2.seen path)) (bytes_in (d3.seen path)) kept.head.now (drop kept.from (take kept.to (bytes_in (d0.seen source)))) kept.tail.now
+    c.requires.growing.long c.in_ok-front.ensures.more
+    (c.in_ok-end.ensures.more (c.append-2.ensures.changes.honest honest) ∙ ap (λ f. bytes_in (d1.seen path) ++ drop kept.from (take kept.to (bytes_in f))) same)
+    c.in_ok-append.ensures.more

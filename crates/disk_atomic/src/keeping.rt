@@ -1,0 +1,183 @@
+//! A file is replaced by a head, a part of its old bytes, and a tail.
+ghost use Rattle.std.specs.Prelude.{◌≡◌, ◌≢◌, ◌≤◌, ◌⊎◌, ◌++◌, ℕ, List, [], drop, length, take, IfOk, IsSome, OnOk, Some};
+ghost use Rattle.disk_io.specs.Disk.{Honestly, IsIn, bytes_in};
+ghost use Rattle.disk_io.specs.Runs.{HasCause, KeepsNamed, LeavesOnly, OneStepOn};
+ghost use Rattle.disk_atomic.specs.Changes.{ChangesOnly, HasOnDisk, IsGrowing};
+ghost use Rattle.disk_atomic.specs.Keeping.{HasAllOnDisk, kept_bytes};
+ghost use Rattle.disk_atomic.specs.Replacing.{Replaces};
+
+use crate::filling::append;
+use disk_io::{Disk, DiskError, read_part, sync_folder_of};
+use std::alloc::Global;
+
+/// How many bytes are copied at once.
+const PIECE: usize = 65_536;
+
+/// What stays of a file: its bytes from one place up to another. It gets this head before them and this tail behind
+/// them.
+#[derive(Clone, Copy, Debug)]
+pub struct Kept<'a> {
+    pub head: &'a [u8],
+    pub from: usize,
+    pub to: usize,
+    pub tail: &'a [u8],
+}
+
+// Copies some bytes of one file to the end of another, and answers where that ends then.
+fn copy_piece<D: Disk>(
+    alloc: Global,
+    disk: &mut D,
+    source: &[u8],
+    path: &[u8],
+    at: usize,
+    from: usize,
+    to: usize,
+) -> Result<usize, DiskError>
+    requires growing { IsGrowing (D.state disk.old) path.now at }
+    requires there { Honestly (D.state disk.old) (IsSome ((D.state disk.old).seen source.now)) }
+    requires order { from ≤ to }
+    requires within { Honestly (D.state disk.old) (to ≤ length (bytes_in ((D.state disk.old).seen source.now))) }
+    ensures growing { IfOk result (IsGrowing (D.state disk.new) path.now) }
+    ensures more { Honestly (D.state disk.new) (OnOk result (bytes_in ((D.state disk.new).seen path.now) ≡ bytes_in ((D.state disk.old).seen path.now) ++ drop from (take to (bytes_in ((D.state disk.old).seen source.now))))) }
+    ensures named { KeepsNamed (λ m. ⊥) (D.state disk.old) (D.state disk.new) }
+    ensures changes { ChangesOnly (λ m. m ≡ path.now) (D.state disk.old) (D.state disk.new) }
+    ensures cause { HasCause (D.failures disk.old) (D.failures disk.new) result }
+{
+    let piece = read_part(alloc, disk, source, from, to)?;
+    append(disk, path, at, piece.as_slice())
+}
+
+// The same in pieces.
+fn copy_part<D: Disk>(
+    alloc: Global,
+    disk: &mut D,
+    source: &[u8],
+    path: &[u8],
+    at: usize,
+    from: usize,
+    to: usize,
+) -> Result<usize, DiskError>
+    requires growing { IsGrowing (D.state disk.old) path.now at }
+    requires other { path.now ≢ source.now }
+    requires there { Honestly (D.state disk.old) (IsSome ((D.state disk.old).seen source.now)) }
+    requires order { from ≤ to }
+    requires within { Honestly (D.state disk.old) (to ≤ length (bytes_in ((D.state disk.old).seen source.now))) }
+    ensures growing { IfOk result (IsGrowing (D.state disk.new) path.now) }
+    ensures more { Honestly (D.state disk.new) (OnOk result (bytes_in ((D.state disk.new).seen path.now) ≡ bytes_in ((D.state disk.old).seen path.now) ++ drop from (take to (bytes_in ((D.state disk.old).seen source.now))))) }
+    ensures named { KeepsNamed (λ m. ⊥) (D.state disk.old) (D.state disk.new) }
+    ensures changes { ChangesOnly (λ m. m ≡ path.now) (D.state disk.old) (D.state disk.new) }
+    ensures cause { HasCause (D.failures disk.old) (D.failures disk.new) result }
+{
+    let mut end = at;
+    let mut done = from;
+    'pieces: while done < to {
+        let next = done + PIECE.min(to - done);
+        end = copy_piece(alloc, disk, source, path, end, done, next)?;
+        done = next;
+    }
+    Ok(end)
+}
+
+// Writes them into a file of no bytes.
+fn write_kept<D: Disk>(
+    alloc: Global,
+    disk: &mut D,
+    source: &[u8],
+    path: &[u8],
+    kept: Kept<'_>,
+) -> Result<(), DiskError>
+    requires growing { IsGrowing (D.state disk.old) path.now 0 }
+    requires other { path.now ≢ source.now }
+    requires there { Honestly (D.state disk.old) (IsSome ((D.state disk.old).seen source.now)) }
+    requires order { kept.from ≤ kept.to }
+    requires within { Honestly (D.state disk.old) (kept.to ≤ length (bytes_in ((D.state disk.old).seen source.now))) }
+    ensures there { OnOk result (IsSome ((D.state disk.new).seen path.now)) }
+    ensures bytes { Honestly (D.state disk.new) (OnOk result (bytes_in ((D.state disk.new).seen path.now) ≡ kept_bytes (bytes_in ((D.state disk.old).seen source.now)) kept.entry)) }
+    ensures named { KeepsNamed (λ m. ⊥) (D.state disk.old) (D.state disk.new) }
+    ensures changes { ChangesOnly (λ m. m ≡ path.now) (D.state disk.old) (D.state disk.new) }
+    ensures cause { HasCause (D.failures disk.old) (D.failures disk.new) result }
+{
+    let front = append(disk, path, 0, kept.head)?;
+    let end = copy_part(alloc, disk, source, path, front, kept.from, kept.to)?;
+    append(disk, path, end, kept.tail)?;
+    Ok(())
+}
+
+// Writes them into a file that was just made, and syncs it.
+fn fill_kept<D: Disk>(
+    alloc: Global,
+    disk: &mut D,
+    source: &[u8],
+    path: &[u8],
+    kept: Kept<'_>,
+) -> Result<(), DiskError>
+    requires growing { IsGrowing (D.state disk.old) path.now 0 }
+    requires other { path.now ≢ source.now }
+    requires there { Honestly (D.state disk.old) (IsSome ((D.state disk.old).seen source.now)) }
+    requires order { kept.from ≤ kept.to }
+    requires within { Honestly (D.state disk.old) (kept.to ≤ length (bytes_in ((D.state disk.old).seen source.now))) }
+    ensures filled { OnOk result (HasAllOnDisk (D.state disk.new) path.now) }
+    ensures bytes { Honestly (D.state disk.new) (OnOk result (bytes_in ((D.state disk.new).seen path.now) ≡ kept_bytes (bytes_in ((D.state disk.old).seen source.now)) kept.entry)) }
+    ensures named { KeepsNamed (λ m. ⊥) (D.state disk.old) (D.state disk.new) }
+    ensures changes { ChangesOnly (λ m. m ≡ path.now) (D.state disk.old) (D.state disk.new) }
+    ensures cause { HasCause (D.failures disk.old) (D.failures disk.new) result }
+{
+    write_kept(alloc, disk, source, path, kept)?;
+    disk.sync(path)
+}
+
+// Makes a file of them at the staging path, and syncs it with all paths of its folder.
+fn stage_kept<D: Disk>(
+    alloc: Global,
+    disk: &mut D,
+    folder: &[u8],
+    path: &[u8],
+    staging: &[u8],
+    kept: Kept<'_>,
+) -> Result<(), DiskError>
+    requires staging_in { IsIn folder.now staging.now }
+    requires other { staging.now ≢ path.now }
+    requires there { Honestly (D.state disk.old) (IsSome ((D.state disk.old).seen path.now)) }
+    requires order { kept.from ≤ kept.to }
+    requires within { Honestly (D.state disk.old) (kept.to ≤ length (bytes_in ((D.state disk.old).seen path.now))) }
+    ensures staged { OnOk result (HasAllOnDisk (D.state disk.new) staging.now) }
+    ensures bytes { Honestly (D.state disk.new) (OnOk result (bytes_in ((D.state disk.new).seen staging.now) ≡ kept_bytes (bytes_in ((D.state disk.old).seen path.now)) kept.entry)) }
+    ensures named { OnOk result ((m : List ℕ) → IsIn folder.now m → (D.state disk.new).is_named m) }
+    ensures changes { ChangesOnly (λ m. m ≡ staging.now) (D.state disk.old) (D.state disk.new) }
+    ensures cause { HasCause (D.failures disk.old) (D.failures disk.new) result }
+{
+    sync_folder_of(disk, folder)?;
+    disk.create(staging)?;
+    sync_folder_of(disk, folder)?;
+    fill_kept(alloc, disk, path, staging, kept)
+}
+
+/// Replaces the bytes of a file by a head, some of its old bytes, and a tail. They are written at a staging path first.
+/// At `Ok` they are synced.
+pub fn replace_around<D: Disk>(
+    alloc: Global,
+    disk: &mut D,
+    folder: &[u8],
+    path: &[u8],
+    staging: &[u8],
+    kept: Kept<'_>,
+) -> Result<(), DiskError>
+    requires path_in { IsIn folder.now path.now }
+    requires staging_in { IsIn folder.now staging.now }
+    requires other { staging.now ≢ path.now }
+    requires there { Honestly (D.state disk.old) (IsSome ((D.state disk.old).seen path.now)) }
+    requires order { kept.from ≤ kept.to }
+    requires within { Honestly (D.state disk.old) (kept.to ≤ length (bytes_in ((D.state disk.old).seen path.now))) }
+    ensures replaced { Honestly (D.state disk.new) (OnOk result (HasOnDisk (D.state disk.new) path.now (kept_bytes (bytes_in ((D.state disk.old).seen path.now)) kept.entry))) }
+
+    // A crash at any time leaves the old file or these bytes at the path. Except at these two paths, it leaves a state
+    // that a crash before could have left.
+    ensures any_moment { Honestly (D.state disk.new) (LeavesOnly (D.state disk.old) (D.state disk.new)
+        (OneStepOn (Replaces path.now staging.now (kept_bytes (bytes_in ((D.state disk.old).seen path.now)) kept.entry)) (D.state disk.old))) }
+    ensures changes { ChangesOnly (λ m. (m ≡ staging.now) ⊎ (m ≡ path.now)) (D.state disk.old) (D.state disk.new) }
+    ensures cause { HasCause (D.failures disk.old) (D.failures disk.new) result }
+{
+    stage_kept(alloc, disk, folder, path, staging, kept)?;
+    disk.rename(staging, path)?;
+    sync_folder_of(disk, folder)
+}
