@@ -8,15 +8,14 @@ use Rattle.std.proofs.lemmas.Slice.{between_is}
 use Rattle.std.specs.Prelude.{slice_get}
 use Rattle.echo_filed.specs.Filed.{Filed}
 use Rattle.echo_filed.specs.declared.stored.Version.TheVariants.{Second}
-use Rattle.echo_filed.specs.Stored.{Stored, is_short_enough, stored_bytes}
+use Rattle.echo_filed.specs.Stored.{is_short_enough, stored_bytes}
 use Rattle.base_file.specs.Base.{Base}
 use Rattle.base_file.specs.BaseFile.{head_bytes, is_countable, saved_bytes, stored_at, stored_from}
 use Rattle.base_file.specs.declared.fault.BaseFault.{BaseFault}
 use Rattle.base_file.specs.declared.fault.BaseFault.TheVariants as fault
 use Rattle.base_file.proofs.SavedMessages.{all_more, not_countable, saved_parts, stored_all, too_long_here}
 use Rattle.base_folder_store.proofs.Looked.{some_message}
-use Rattle.base_folder.specs.AsFile.{IsDamagedIn, IsFileFault, IsTooLong}
-use Rattle.base_folder.specs.declared.snapshot.FolderSnapshot.{FolderSnapshot}
+use Rattle.base_folder.specs.AsFile.{IsFileFault, IsTooLong}
 
 -- the message of this number
 pub message_there : (all : List Filed) (i : ℕ) → i < length all → Filed
@@ -74,16 +73,6 @@ file_fault base i within (fault.Write n) is = absurd is
 pub too_great : (base : Base) (count cursor : ℕ) → count ≡ length base.messages → cursor ≡ base.cursor → base.cursor ≤ length base.messages → (2 ^ 32 ≤ count) ⊎ (2 ^ 32 ≤ cursor) → is_countable base.messages base.cursor ≡ false
 too_great base count cursor many at within (inl past) = too_many base.cursor base.messages (omega (arith, many, past))
 too_great base count cursor many at within (inr past) = too_many base.cursor base.messages (omega (arith, within, at, past))
-
--- a message that is too long is there
-pub long_not_damaged : (keyed : ℕ → ℕ → List ℕ → ℕ) (seen : FolderSnapshot) (s : Stored) (e : BaseFault) → IsTooLong s e → IsDamagedIn keyed seen e
-long_not_damaged keyed seen s fault.Memory is = tt
-long_not_damaged keyed seen s fault.TooMany is = tt
-long_not_damaged keyed seen s fault.NotBase is = tt
-long_not_damaged keyed seen s (fault.Truncated n) is = tt
-long_not_damaged keyed seen s (fault.Damaged n) is = absurd is
-long_not_damaged keyed seen s fault.Read is = tt
-long_not_damaged keyed seen s (fault.Write n) is = tt
 
 -- a part of some bytes, from a place on, between two places of all
 pub part_is : (all part : List ℕ) (before begins ends : ℕ) → part ≡ drop before all → before ≤ begins → begins ≤ ends

@@ -1,5 +1,5 @@
 -- A folder that is opened after looks that change nothing.
-use Rattle.std.proofs.Common.{◌≡◌, ◌≢◌, ◌≤◌, ◌<◌, ◌∙◌, ℕ, Bool, List, length, inl, inr, ⊎_elim, sym, ap, subst, arith}
+use Rattle.std.proofs.Common.{◌≡◌, ◌≢◌, ◌≤◌, ◌<◌, ◌∙◌, ℕ, Bool, List, inl, inr, ⊎_elim, sym, ap, subst, arith}
 use Rattle.std.specs.Prelude.{◌⊎◌}
 use Rattle.echo_addr.specs.declared.address.Address.{Address}
 use Rattle.std.proofs.lemmas.Bool.{cases_lt}
@@ -33,12 +33,6 @@ use Rattle.base_folder.proofs.Wrongs.{one_end}
 use Rattle.base_folder.specs.declared.open_error.OpenError.{OpenError}
 use Rattle.base_folder.specs.declared.open_error.OpenError.TheVariants as unread
 
--- the files stand for the same base
-pub stands_since : (keyed : ℕ → ℕ → List ℕ → ℕ) (path : List ℕ) (d e : DiskState) (base : Base) → ChangesNothing d e → StandsForBase keyed path base d.seen → StandsForBase keyed path base e.seen
-stands_since keyed path d e base quiet stands =
-    let same : e.seen ≡ d.seen = λ i m. quiet.seen m i in
-    subst (λ (f : Files). StandsForBase keyed path base f) (sym same) stands
-
 -- what a crash leaves after the looks
 pub looked_run : (keyed : ℕ → ℕ → List ℕ → ℕ) (path : List ℕ) (d e : DiskState) (base : Base) → ChangesNothing d e → LeavesOnly d e (StandsForBaseOrWasLeft keyed path d base)
 looked_run keyed path d e base quiet = weaker_run d e d.may_leave (StandsForBaseOrWasLeft keyed path d base) quiet.run (λ c left. inr left)
@@ -53,24 +47,24 @@ opened_run_since keyed path d e f base quiet opening =
     (λ left. inr (quiet.no_more c left)) or)
 
 -- a folder that was claimed holds the same base: its key changes only where it has no message
-pub claimed_same : (keyed : ℕ → ℕ → List ℕ → ℕ) → HaveRoom keyed → (d : DiskState) (f g : Folder) (base : Base) → IsOpen d f → g ≡ with_mark f g.told.mark → (0 < length f.keys.items → SameKey f.told.mark g.told.mark)
+pub claimed_same : (keyed : ℕ → ℕ → List ℕ → ℕ) → HaveRoom keyed → (d : DiskState) (f g : Folder) (base : Base) → IsOpen d f → g ≡ with_mark f g.told.mark → (0 < f.keys → SameKey f.told.mark g.told.mark)
     → (f.told.mark.owner ≢ 0 → g ≡ f) → HoldsBase keyed (held_by d f) base → HoldsBase keyed (held_by d g) base
 claimed_same keyed fits d f g base opened only key kept holds =
     ⊎_elim
-    (λ (some : 0 < length f.keys.items).
+    (λ (some : 0 < f.keys).
     let same = key some in
     let digest : digest_by keyed g.told.mark ≡ digest_by keyed f.told.mark = λ i. keyed (same.first i) (same.second i) in
     let files = subst (λ (by : List ℕ → ℕ). FolderStandsFor by base.messages base.cursor (held_by d f).messages (held_by d f).keys) (sym digest) holds.files in
     let marked : HoldsBase keyed (held_by d (with_mark f g.told.mark)) base = record { files = files; cursor = holds.cursor } in
     subst (λ (x : Folder). HoldsBase keyed (held_by d x) base) (sym only) marked)
-    (λ (none : length f.keys.items ≤ 0).
+    (λ (none : f.keys ≤ 0).
     ⊎_elim
     (λ (owned : 0 < f.told.mark.owner). subst (λ (x : Folder). HoldsBase keyed (held_by d x) base) (sym (kept (omega arith))) holds)
     (λ (free : f.told.mark.owner ≤ 0).
     subst (λ (x : Folder). HoldsBase keyed (held_by d x) base) (sym only)
     (claimed_holds keyed fits d f g.told.mark base opened (record { owner = omega arith; keys = omega arith }) holds))
     (cases_lt 0 f.told.mark.owner))
-    (cases_lt 0 (length f.keys.items))
+    (cases_lt 0 (f.keys))
 
 -- and stays open
 pub claimed_opened : (d : DiskState) (f g : Folder) → g ≡ with_mark f g.told.mark → IsOpen d f → IsOpen d g

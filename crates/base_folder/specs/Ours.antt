@@ -1,5 +1,5 @@
 -- The owner of a base folder: an address as a number.
-use Rattle.std.specs.Prelude.{◌≡◌, ◌≢◌, ◌⊎◌, ℕ, ◌+◌, ◌*◌, ◌/◌, ◌%◌, Bool, List, length}
+use Rattle.std.specs.Prelude.{◌≡◌, ◌≢◌, ◌⊎◌, ℕ, ◌+◌, ◌*◌, ◌/◌, ◌%◌, Bool, List}
 use Rattle.echo_addr.specs.declared.address.Address.{Address}
 use Rattle.disk_io.specs.Disk.{DiskState, Files, bytes_in}
 use Rattle.disk_io.specs.Runs.{ChangesNothing}
@@ -38,7 +38,7 @@ pub record SameKey (old new : FolderIdentity) : Type 0 where
 
 -- Without messages the folder has this key, unless its log named this system before.
 abbrev pub HasGivenKey : Address → ℕ → ℕ → Folder → Type 0
-HasGivenKey own first second folder = length folder.keys.items ≡ 0
+HasGivenKey own first second folder = folder.keys ≡ 0
     → (folder.told.mark ≡ record { owner = number_of own; first = first; second = second }) ⊎ (folder.end.told.mark.owner ≡ number_of own)
 
 -- The log says that the folder belongs to the system with this address, which is another one.

@@ -195,7 +195,7 @@ fn fill_opened<D: Disk, H: Digest, S: BuildHasher>(
 // Gives the key of these two halves to a folder that has none and no message.
 fn give_key(folder: &mut Folder, first: u64, second: u64)
     ensures only { folder.new ≡ with_mark folder.old folder.new.told.mark }
-    ensures key { 0 < length folder.old.keys.items → SameKey folder.old.told.mark folder.new.told.mark }
+    ensures key { 0 < folder.old.keys → SameKey folder.old.told.mark folder.new.told.mark }
     ensures kept { folder.old.told.mark.owner ≢ 0 → folder.new ≡ folder.old }
 {
     let owner = 0;

@@ -1,5 +1,5 @@
 //! The owner of a base folder.
-ghost use Rattle.std.specs.Prelude.{◌≡◌, ◌<◌, ◌⊎◌, length};
+ghost use Rattle.std.specs.Prelude.{◌≡◌, ◌<◌, ◌⊎◌};
 ghost use Rattle.base_folder_store.specs.Owned.{IsUnclaimed, with_mark};
 ghost use Rattle.base_folder.specs.Ours.{IsOurs, SameKey, address_of, number_of};
 
@@ -32,7 +32,7 @@ pub(crate) fn claim_for(folder: &mut Folder, own: Address, first: u64, second: u
     requires { (folder.old.told.mark.owner ≡ 0) ⊎ (folder.old.told.mark.owner ≡ number_of own) }
     ensures ours { IsOurs own folder.old folder.new }
     ensures only { folder.new ≡ with_mark folder.old folder.new.told.mark }
-    ensures key { 0 < length folder.old.keys.items → SameKey folder.old.told.mark folder.new.told.mark }
+    ensures key { 0 < folder.old.keys → SameKey folder.old.told.mark folder.new.told.mark }
     ensures drawn { IsUnclaimed folder.old → folder.new.told.mark ≡ record { owner = number_of own; first = first; second = second } }
 {
     let owner = number_of(own);

@@ -1,9 +1,9 @@
 -- What is known of the base for which the files of a folder stand.
-use Rattle.std.proofs.Common.{◌≡◌, ℕ, ◌≤◌, List, length, take, sym, ◌∙◌, ap, subst, arith, inl, inr, ⊎_elim}
-use Rattle.disk_io.specs.Disk.{DiskState, bytes_in}
+use Rattle.std.proofs.Common.{◌≡◌, ℕ, ◌≤◌, List, length, sym, ◌∙◌, ap, subst, arith, inl, inr, ⊎_elim}
+use Rattle.disk_io.specs.Disk.{DiskState}
 use Rattle.disk_io.specs.Runs.{ChangesNothing, LeavesOnly}
 use Rattle.disk_io.proofs.Moments.{weaker_run}
-use Rattle.base_log.specs.Names.{AreNames, folder_of, keys_of}
+use Rattle.base_log.specs.Names.{AreNames}
 use Rattle.base_log.specs.Standing.{BaseBytes, base_at}
 use Rattle.base_log.specs.Opening.{StandsOrWasLeft}
 use Rattle.base_log.specs.AtRest.{IsAtRest, IsStaged}
@@ -17,8 +17,9 @@ use Rattle.base_file.specs.Base.{Base}
 use Rattle.base_store.specs.Keys.{StandWhereTold}
 use Rattle.base_store.proofs.Placed.{stand_where_told}
 use Rattle.base_folder_store.specs.Held.{HoldsBase, digest_by, StandsForBase, StandsForBaseOrWasLeft}
-use Rattle.base_folder_store.specs.Opened.{IsOpen, IsWritten, and_waiting, held_by, path_of}
+use Rattle.base_folder_store.specs.Opened.{IsOpen, IsWritten, held_by, path_of}
 use Rattle.base_folder_store.specs.declared.folder.Folder.{Folder}
+use Rattle.base_folder_store.proofs.Legible.{held_quiet}
 use Rattle.base_folder_store.proofs.Waits.{written_held}
 
 -- each message has its entry, and the cursor is within them
@@ -40,16 +41,17 @@ pub open_quiet : (d e : DiskState) (folder : Folder) → ChangesNothing d e → 
 open_quiet d e folder quiet was = record {
   names = was.names;
   staged = staged_quiet d e (path_of folder) folder.end folder.told quiet was.staged;
-  keys = was.keys ∙ sym (ap (λ (b : BaseBytes). (and_waiting b folder.waiting).keys) (base_quiet d e (path_of folder) folder.told quiet));
+  keys = was.keys;
 }
 
 -- and each message where its entry tells
-pub told_quiet : (d e : DiskState) (folder : Folder) (base : List Filed) (keys : List ℕ) → ChangesNothing d e → StandWhereTold base (held_by d folder).messages keys → StandWhereTold base (held_by e folder).messages keys
-told_quiet d e folder base keys quiet told = subst (λ (b : BaseBytes). StandWhereTold base (and_waiting b folder.waiting).messages keys) (sym (base_quiet d e (path_of folder) folder.told quiet)) told
+pub told_quiet : (d e : DiskState) (folder : Folder) (base : List Filed) → ChangesNothing d e → StandWhereTold base (held_by d folder).messages (held_by d folder).keys
+    → StandWhereTold base (held_by e folder).messages (held_by e folder).keys
+told_quiet d e folder base quiet told = subst (λ (b : BaseBytes). StandWhereTold base b.messages b.keys) (sym (held_quiet d e folder quiet)) told
 
 -- what opening left is open
 pub opened_is : (d e : DiskState) (path : List ℕ) (end : End) (folder : Folder) → ChangesNothing d e → IsAtRest d path end → path_of folder ≡ path → AreNames folder.names end.told.number → folder.end ≡ end → folder.told ≡ end.told
-    → folder.keys.items ≡ (base_at d path end.told).keys → IsWritten folder → IsOpen e folder
+    → folder.keys ≡ end.told.keys → IsWritten folder → IsOpen e folder
 opened_is d e path end folder quiet rest at names same_end same_told keys none =
     let here : IsStaged e path end end.told = staged_quiet d e path end end.told quiet (rest_staged d path end end.told.cursor end.told.mark rest) in
     let at_path : IsStaged e (path_of folder) end end.told = subst (λ (p : List ℕ). IsStaged e p end end.told) (sym at) here in
@@ -57,14 +59,9 @@ opened_is d e path end folder quiet rest at names same_end same_told keys none =
     record {
       names = subst (λ (t : CommitRecord). AreNames folder.names t.number) (sym same_told) names;
       staged = subst (λ (t : CommitRecord). IsStaged e (path_of folder) folder.end t) (sym same_told) at_end;
-      keys = keys ∙ sym (ap (λ (b : BaseBytes). b.keys) (base_quiet d e path end.told quiet)) ∙ (λ i. (base_at e (sym at i) (sym same_told i)).keys) ∙ sym (ap (λ (b : BaseBytes). b.keys) (written_held e folder none));
+      keys = let told = ap (λ (t : CommitRecord). t.keys) same_told in let wait = ap (λ (l : List ℕ). length l) none.keys in omega (arith, keys, told, wait);
     }
 
 -- it holds what its record tells
 pub opened_bytes : (d e : DiskState) (path : List ℕ) (folder : Folder) (told : CommitRecord) (bytes : BaseBytes) → ChangesNothing d e → path_of folder ≡ path → folder.told ≡ told → base_at d path told ≡ bytes → IsWritten folder → held_by e folder ≡ bytes
 opened_bytes d e path folder told bytes quiet at same_told same none = written_held e folder none ∙ (λ i. base_at e (at i) (same_told i)) ∙ base_quiet d e path told quiet ∙ same
-
--- the keys that were read are those of the file of this number
-pub keys_there : (d : DiskState) (path : List ℕ) (told : CommitRecord) (names : Names) (keys : List ℕ) → folder_of names ≡ path → AreNames names told.number → keys ≡ take told.keys (bytes_in (d.seen names.keys.items)) → keys ≡ (base_at d path told).keys
-keys_there d path told names keys at are is =
-    is ∙ ap (λ (m : List ℕ). take told.keys (bytes_in (d.seen m))) (are.keys ∙ ap (λ (p : List ℕ). keys_of p told.number) at)

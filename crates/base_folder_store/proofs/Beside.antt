@@ -1,12 +1,11 @@
 -- A base folder, and beside its files those that are made in their place.
 use Rattle.std.proofs.Common.{◌≡◌, ◌≢◌, ◌≤◌, ◌/◌, ℕ, List, length, take, sym, ap, subst, ◌∙◌, arith, inl, inr, ⊎_elim}
-use Rattle.std.specs.Prelude.{IsSome}
-use Rattle.disk_io.specs.Disk.{DiskState, bytes_in}
+use Rattle.disk_io.specs.Disk.{DiskState}
 use Rattle.disk_io.specs.Runs.{ChangesNothing, LeavesOnly}
 use Rattle.disk_io.proofs.Moments.{then_run, weaker_run}
 use Rattle.base_log.specs.AtRest.{IsAtRest}
 use Rattle.base_log.specs.Moments.{IsBeforeOrAfter, KeepsOutside, StandsAlone}
-use Rattle.base_log.specs.Names.{AreNames, keys_of, messages_of}
+use Rattle.base_log.specs.Names.{keys_of, messages_of}
 use Rattle.base_log.specs.Standing.{BaseBytes, StandsFor, base_at}
 use Rattle.base_log.specs.declared.log.CommitRecord.{CommitRecord}
 use Rattle.base_log.proofs.Paths.{keys_not_messages, keys_of-injective, messages_not_keys, messages_of-injective}
@@ -18,6 +17,7 @@ use Rattle.base_folder_store.specs.Left.{IsBesideIn, IsReadable}
 use Rattle.base_folder_store.specs.Opened.{IsOpen, IsWritten, committed_by, held_by, path_of}
 use Rattle.base_folder_store.specs.declared.folder.Folder.{Folder}
 use Rattle.base_folder_store.proofs.Bases.{told_where}
+use Rattle.base_folder_store.proofs.Legible.{keys_all, legible_open, legible_same}
 use Rattle.base_folder_store.proofs.Staged.{committed_staged}
 use Rattle.base_folder_store.proofs.Waits.{written_held}
 
@@ -29,10 +29,10 @@ committed_beside d f g beside = λ i. base_at d (beside.path i) (beside.end i).t
 readable_same : (d e : DiskState) (f : Folder) → e.seen (messages_of (path_of f) f.end.told.number) ≡ d.seen (messages_of (path_of f) f.end.told.number)
     → e.seen (keys_of (path_of f) f.end.told.number) ≡ d.seen (keys_of (path_of f) f.end.told.number) → IsReadable d f → IsReadable e f
 readable_same d e f messages keys was = record {
-  names = was.names;
-  there = subst (λ x. IsSome x) (sym messages) was.there;
-  long = subst (λ x. f.end.told.messages ≤ length (bytes_in x)) (sym messages) was.long;
-  keys = was.keys ∙ ap (λ x. take f.end.told.keys (bytes_in x)) (sym keys);
+  legible = legible_same d e f (subst (λ (t : CommitRecord). e.seen (messages_of (path_of f) t.number) ≡ d.seen (messages_of (path_of f) t.number)) was.told messages)
+      (subst (λ (t : CommitRecord). e.seen (keys_of (path_of f) t.number) ≡ d.seen (keys_of (path_of f) t.number)) was.told keys) was.legible;
+  told = was.told;
+  written = was.written;
 }
 
 pub readable_quiet : (d e : DiskState) (f : Folder) → ChangesNothing d e → IsReadable d f → IsReadable e f
@@ -51,45 +51,32 @@ readable_beside d e f g beside same was =
     λ is. beside.number (sym (keys_of-injective (path_of f) n number (is ∙ ap (λ (p : List ℕ). keys_of p number) beside.path))) in
     readable_same d e f (same (messages_of (path_of f) n) m_m m_k) (same (keys_of (path_of f) n) k_m k_k) was
 
--- an open folder at rest can be read
-pub rest_readable : (d : DiskState) (f : Folder) → IsOpen d f → IsAtRest d (path_of f) f.end → f.end.told ≡ f.told → IsWritten f → IsReadable d f
-rest_readable d f opened rest told none = record {
-  names = subst (λ (t : CommitRecord). AreNames f.names t.number) (sym told) opened.names;
-  there = rest.messages_on.there;
-  long = rest.messages_long;
-  keys = opened.keys ∙ ap (λ (b : BaseBytes). b.keys) (written_held d f none) ∙ ap (λ (t : CommitRecord). (base_at d (path_of f) t).keys) (sym told);
-}
+-- an open folder that was committed can be read
+pub rest_readable : (d : DiskState) (f : Folder) → IsOpen d f → f.end.told ≡ f.told → IsWritten f → IsReadable d f
+rest_readable d f opened told none = record { legible = legible_open d f opened; told = told; written = none }
 
 -- and one at rest is open
-pub rest_open : (d e : DiskState) (f : Folder) → IsOpen d f → IsAtRest e (path_of f) f.end → f.end.told ≡ f.told → committed_by e f ≡ committed_by d f → IsWritten f → IsOpen e f
-rest_open d e f opened rest told same none = record {
-  names = opened.names;
-  staged = committed_staged e (path_of f) f.end f.told rest told;
-  keys = opened.keys
-      ∙ ap (λ (b : BaseBytes). b.keys) (written_held d f none)
-      ∙ ap (λ (t : CommitRecord). (base_at d (path_of f) t).keys) (sym told)
-      ∙ sym (ap (λ (b : BaseBytes). b.keys) same)
-      ∙ ap (λ (t : CommitRecord). (base_at e (path_of f) t).keys) told
-      ∙ sym (ap (λ (b : BaseBytes). b.keys) (written_held e f none));
-}
+pub rest_open : (d e : DiskState) (f : Folder) → IsOpen d f → IsAtRest e (path_of f) f.end → f.end.told ≡ f.told → IsOpen e f
+rest_open d e f opened rest told = record { names = opened.names; staged = committed_staged e (path_of f) f.end f.told rest told; keys = opened.keys }
 
 -- it holds what was committed
 pub rest_held : (d : DiskState) (f : Folder) → f.end.told ≡ f.told → IsWritten f → held_by d f ≡ committed_by d f
 rest_held d f told none = written_held d f none ∙ ap (λ (t : CommitRecord). base_at d (path_of f) t) (sym told)
 
--- each message stands where the keys that were read tell
-pub told_readable : (keyed : ℕ → ℕ → List ℕ → ℕ) (d : DiskState) (f : Folder) (base : Base) (file : List ℕ) → IsReadable d f → HoldsBase keyed (committed_by d f) base → file ≡ f.names.messages.items
-    → StandWhereTold base.messages (take f.end.told.messages (bytes_in (d.seen file))) f.keys.items
-told_readable keyed d f base file readable holds is =
-    let name : file ≡ messages_of (path_of f) f.end.told.number = is ∙ readable.names.messages in
-    subst (λ (l : List ℕ). StandWhereTold base.messages l f.keys.items) (ap (λ (m : List ℕ). take f.end.told.messages (bytes_in (d.seen m))) (sym name))
-    (subst (λ (l : List ℕ). StandWhereTold base.messages (committed_by d f).messages l) (sym readable.keys) (told_where keyed (committed_by d f) base holds))
+pub readable_held : (d : DiskState) (f : Folder) → IsReadable d f → held_by d f ≡ committed_by d f
+readable_held d f readable = rest_held d f readable.told readable.written
+
+-- each message stands where its entry tells
+pub told_readable : (keyed : ℕ → ℕ → List ℕ → ℕ) (d : DiskState) (f : Folder) (base : Base) → IsReadable d f → HoldsBase keyed (committed_by d f) base
+    → StandWhereTold base.messages (held_by d f).messages (held_by d f).keys
+told_readable keyed d f base readable holds =
+    told_where keyed (held_by d f) base (subst (λ (b : BaseBytes). HoldsBase keyed b base) (sym (readable_held d f readable)) holds)
 
 -- there are as many messages as entries
-pub many_readable : (keyed : ℕ → ℕ → List ℕ → ℕ) (d : DiskState) (f : Folder) (base : Base) → IsReadable d f → HoldsBase keyed (committed_by d f) base → length f.keys.items / 16 ≡ length base.messages
+pub many_readable : (keyed : ℕ → ℕ → List ℕ → ℕ) (d : DiskState) (f : Folder) (base : Base) → IsReadable d f → HoldsBase keyed (committed_by d f) base → f.keys / 16 ≡ length base.messages
 many_readable keyed d f base readable holds =
-    let many = (told_where keyed (committed_by d f) base holds).many in
-    let long : length f.keys.items ≡ length (committed_by d f).keys = ap (λ (l : List ℕ). length l) readable.keys in
+    let many = (told_readable keyed d f base readable holds).many in
+    let long = keys_all d f readable.legible in
     omega (arith, many, long)
 
 -- a run that leaves what a commit made the base

@@ -7,20 +7,21 @@ use Rattle.base_store.specs.declared.store_error.StoreError.{StoreError}
 use Rattle.base_store.specs.declared.store_error.StoreError.TheVariants as error
 use Rattle.base_folder_store.specs.Answers.{Answers}
 
-pub answers_map : {T : Type 0} (P Q : T → Type 0) → ((x : T) → P x → Q x) → (r : Result T StoreError) → Answers P r → Answers Q r
-answers_map P Q gives (Ok x) was = gives x was
-answers_map P Q gives (Err error.Damaged) was = was
-answers_map P Q gives (Err error.Memory) was = tt
-answers_map P Q gives (Err error.Device) was = tt
-answers_map P Q gives (Err error.TooMany) was = tt
-
--- and where an error was handed on
+-- where an error was handed on
 pub answers_error : {T U : Type 0} (P : T → Type 0) (Q : U → Type 0) (e : StoreError) (r : Result U StoreError) → IsErrAnd r (λ x. x ≡ e) → Answers {T = T} P (Err e) → Answers Q r
 answers_error P Q e (Ok x) same was = absurd same
 answers_error P Q e (Err error.Damaged) same was = subst (λ (y : StoreError). Answers P (Err y)) (sym same) was
 answers_error P Q e (Err error.Memory) same was = tt
 answers_error P Q e (Err error.Device) same was = tt
 answers_error P Q e (Err error.TooMany) same was = tt
+
+-- and where one that is no damage was handed on
+pub answers_whole : {T U : Type 0} (Q : U → Type 0) (e : StoreError) (r : Result U StoreError) → IsErrAnd r (λ x. x ≡ e) → (IsErrOf {T = T} (Err e) error.Damaged → ⊥) → Answers Q r
+answers_whole Q e (Ok x) same none = absurd same
+answers_whole Q e (Err error.Damaged) same none = absurd (none (ap (λ (x : StoreError). Err x) (sym same)))
+answers_whole Q e (Err error.Memory) same none = tt
+answers_whole Q e (Err error.Device) same none = tt
+answers_whole Q e (Err error.TooMany) same none = tt
 
 -- an error that was handed on as it is
 pub handed_on : {T U E : Type 0} (e f : E) (r : Result T E) → IsErrAnd r (λ x. x ≡ e) → IsErrOf r f → IsErrOf {T = U} (Err e) f

@@ -13,6 +13,7 @@ use Rattle.base_folder_store.specs.Opened.{IsOpen, held_by, path_of}
 use Rattle.base_folder_store.specs.Owned.{IsUnclaimed, with_mark}
 use Rattle.base_folder_store.specs.State.{IsIndexed, IsUsable, state_of}
 use Rattle.base_folder_store.specs.declared.folder.Folder.{Folder}
+use Rattle.base_folder_store.proofs.Legible.{keys_all, legible_open}
 use Rattle.base_folder_store.proofs.Staged.{nothing_left, outside_same}
 use Rattle.base_folder_store.proofs.Stated.{stages}
 
@@ -48,7 +49,7 @@ claimed_holds keyed fits d f mark base opened free holds =
     let files = holds.files in
     let before = digest_by keyed f.told.mark in
     let after = digest_by keyed mark in
-    let short : length (keys_from before 0 files.all) ≡ 0 = ap (λ (l : List ℕ). length l) (sym files.entries ∙ sym opened.keys) ∙ free.keys in
+    let short : length (keys_from before 0 files.all) ≡ 0 = ap (λ (l : List ℕ). length l) (sym files.entries) ∙ keys_all d f (legible_open d f opened) ∙ free.keys in
     let none : files.all ≡ [] = no_entries before files.all short in
     record {
       files = record {

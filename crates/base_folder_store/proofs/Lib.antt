@@ -3,6 +3,7 @@ mod Beside
 pub mod Causes
 pub mod Claimed
 mod Indexed
+pub mod Legible
 pub mod Looked
 pub mod Numbered
 mod OneMore

@@ -21,16 +21,16 @@ use Rattle.base_folder_store.specs.Opened.{IsOpen, held_by}
 use Rattle.base_folder_store.specs.State.{only_message}
 use Rattle.base_folder_store.specs.declared.folder.Folder.{Folder}
 use Rattle.base_folder_store.proofs.Bases.{told_where}
+use Rattle.base_folder_store.proofs.Legible.{keys_all, legible_open}
 use Rattle.base_folder_store.proofs.Looked.{some_message}
 use Rattle.base_folder_store.proofs.OneMore.{holds_more}
 
 -- messages with this key have its digest
-pub key_digest : (keyed : ℕ → ℕ → List ℕ → ℕ) (bytes : BaseBytes) (base : Base) (key : Key) (keys : List ℕ) (number : ℕ) → HoldsBase keyed bytes base → keys ≡ bytes.keys → number ≡ digest_by keyed bytes.mark (digested_key key)
-    → HaveDigest (λ m. same_key (key_of m) key) number base.messages keys
-key_digest keyed bytes base key keys number holds same is i d within passes =
+pub key_digest : (keyed : ℕ → ℕ → List ℕ → ℕ) (bytes : BaseBytes) (base : Base) (key : Key) (number : ℕ) → HoldsBase keyed bytes base → number ≡ digest_by keyed bytes.mark (digested_key key)
+    → HaveDigest (λ m. same_key (key_of m) key) number base.messages bytes.keys
+key_digest keyed bytes base key number holds is i d within passes =
     let m : Filed = get_or base.messages i d in
-    ap (λ (l : List ℕ). digest_at l i) same
-    ∙ tells_each (digest_by keyed bytes.mark) base.messages base.cursor bytes.messages bytes.keys holds.files i d within
+    tells_each (digest_by keyed bytes.mark) base.messages base.cursor bytes.messages bytes.keys holds.files i d within
     ∙ ap (digest_by keyed bytes.mark) (of_key m ∙ ap digested_key ((same_key_decides (key_of m) key).0 passes))
     ∙ sym is
 
@@ -40,20 +40,19 @@ id_digested m id None h = absurd (cc)
 id_digested m id (Some x) h = sym ((bytes_decides id x).0 h)
 
 -- and those with this id have the id's
-pub id_digest : (keyed : ℕ → ℕ → List ℕ → ℕ) (bytes : BaseBytes) (base : Base) (id keys : List ℕ) (number : ℕ) → HoldsBase keyed bytes base → keys ≡ bytes.keys → number ≡ digest_by keyed bytes.mark id
-    → HaveDigest (has_id id) number base.messages keys
-id_digest keyed bytes base id keys number holds same is i d within passes =
+pub id_digest : (keyed : ℕ → ℕ → List ℕ → ℕ) (bytes : BaseBytes) (base : Base) (id : List ℕ) (number : ℕ) → HoldsBase keyed bytes base → number ≡ digest_by keyed bytes.mark id
+    → HaveDigest (has_id id) number base.messages bytes.keys
+id_digest keyed bytes base id number holds is i d within passes =
     let m : Filed = get_or base.messages i d in
-    ap (λ (l : List ℕ). digest_at l i) same
-    ∙ tells_each (digest_by keyed bytes.mark) base.messages base.cursor bytes.messages bytes.keys holds.files i d within
+    tells_each (digest_by keyed bytes.mark) base.messages base.cursor bytes.messages bytes.keys holds.files i d within
     ∙ ap (digest_by keyed bytes.mark) (id_digested m id (msgid_of m.echo.kept) passes)
     ∙ sym is
 
 -- there are as many messages as entries
-pub many_messages : (keyed : ℕ → ℕ → List ℕ → ℕ) (d : DiskState) (f : Folder) (base : Base) → IsOpen d f → HoldsBase keyed (held_by d f) base → length f.keys.items / 16 ≡ length base.messages
+pub many_messages : (keyed : ℕ → ℕ → List ℕ → ℕ) (d : DiskState) (f : Folder) (base : Base) → IsOpen d f → HoldsBase keyed (held_by d f) base → f.keys / 16 ≡ length base.messages
 many_messages keyed d f base opened holds =
     let many = (told_where keyed (held_by d f) base holds).many in
-    let long : length f.keys.items ≡ length (held_by d f).keys = ap (λ (l : List ℕ). length l) opened.keys in
+    let long = keys_all d f (legible_open d f opened) in
     omega (arith, many, long)
 
 -- the message that was fetched
@@ -64,7 +63,7 @@ fetched base place alone within is =
 
 -- the folder with its cursor at the end
 abbrev pub at_end : Folder → Folder
-at_end f = record f { told = record f.told { cursor = length f.keys.items / 16 } }
+at_end f = record f { told = record f.told { cursor = f.keys / 16 } }
 
 pub end_open : (d : DiskState) (f : Folder) → IsOpen d f → IsOpen d (at_end f)
 end_open d f was = record {
@@ -113,8 +112,3 @@ filed_more keyed now held base m key bytes taken number staged fits holds stored
     let unknown : is_known base.messages (key_of m) ≡ false = subst (λ (k : Key). is_known base.messages k ≡ false) own new in
     let room : length (held.messages ++ bytes) < 2 ^ 64 = subst (λ (b : BaseBytes). length b.messages < 2 ^ 64) staged fits in
     subst (λ (b : BaseBytes). HoldsBase keyed b (with_message base m)) (sym staged) (holds_more keyed held base m bytes number holds stored filed unknown number_is room)
-
--- each message stands where the keys that were read tell
-pub told_here : (keyed : ℕ → ℕ → List ℕ → ℕ) (d : DiskState) (f : Folder) (base : Base) → IsOpen d f → HoldsBase keyed (held_by d f) base → StandWhereTold base.messages (held_by d f).messages f.keys.items
-told_here keyed d f base opened holds =
-    subst (λ (l : List ℕ). StandWhereTold base.messages (held_by d f).messages l) (sym opened.keys) (told_where keyed (held_by d f) base holds)

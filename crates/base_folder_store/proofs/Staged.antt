@@ -16,6 +16,7 @@ use Rattle.base_store.specs.Keys.{entry}
 use Rattle.base_folder_store.specs.Added.{OneMoreWaits, next_place, with_stored}
 use Rattle.base_folder_store.specs.Opened.{IsOpen, IsWritten, committed_by, held_by, path_of}
 use Rattle.base_folder_store.specs.declared.folder.Folder.{Folder}
+use Rattle.base_folder_store.proofs.Legible.{keys_count}
 use Rattle.base_folder_store.proofs.Waits.{written_held}
 
 -- nothing outside has changed where nothing was called
@@ -66,7 +67,13 @@ module _ (d : DiskState) (f g : Folder) (bytes : List ℕ) (digest : ℕ) (was :
     names = subst (λ (t : CommitRecord). AreNames g.names t.number) (sym more.told) (subst (λ (n : Names). AreNames n f.told.number) (sym more.names) was.names);
     staged = subst (λ (t : CommitRecord). IsStaged d (path_of g) g.end t) (sym more.told)
         (subst (λ (x : End). IsStaged d (path_of g) x f.told) (sym more.end) (subst (λ (n : Names). IsStaged d (folder_of n) f.end f.told) (sym more.names) was.staged));
-    keys = more.keys ∙ (λ i. was.keys i ++ entry (next_place f) digest) ∙ sym (ap (λ (b : BaseBytes). b.keys) added_held);
+    keys =
+        let one : length (entry (next_place f) digest) ≡ 16 = refl in
+        let was_keys = was.keys in
+        let now = more.keys in
+        let told = ap (λ (t : CommitRecord). t.keys) more.told in
+        let wait = ap (λ (l : List ℕ). length l) more.entries ∙ length-append f.waiting.keys.items (entry (next_place f) digest) in
+        omega (arith, one, was_keys, now, told, wait);
   }
 
   is_place : f.told.messages + length f.waiting.messages.items ≡ length (held_by d f).messages
@@ -89,7 +96,7 @@ module _ (d : DiskState) (f g : Folder) (bytes : List ℕ) (digest : ℕ) (was :
   added_committed = λ i. base_at d (folder_of (more.names i)) (more.end i).told
 
 -- the folder once all that waited is written
-module _ (d e : DiskState) (f g : Folder) (bytes one : List ℕ) (was : IsOpen d f) (names : g.names ≡ f.names) (end : g.end ≡ f.end) (keys : g.keys.items ≡ f.keys.items) (none : IsWritten g)
+module _ (d e : DiskState) (f g : Folder) (bytes one : List ℕ) (was : IsOpen d f) (names : g.names ≡ f.names) (end : g.end ≡ f.end) (keys : g.keys ≡ f.keys) (none : IsWritten g)
     (messages : bytes ≡ f.waiting.messages.items) (entries : one ≡ f.waiting.keys.items) (added : base_at e (path_of f) g.told ≡ and_keys (and_messages (base_at d (path_of f) f.told) bytes) one) where
   pub out_held : held_by e g ≡ held_by d f
   out_held =
@@ -100,7 +107,14 @@ module _ (d e : DiskState) (f g : Folder) (bytes one : List ℕ) (was : IsOpen d
   out_open number staged = record {
     names = subst (λ (n : ℕ). AreNames g.names n) (sym number) (subst (λ (n : Names). AreNames n f.told.number) (sym names) was.names);
     staged = subst (λ (x : End). IsStaged e (path_of g) x g.told) (sym end) (subst (λ (n : Names). IsStaged e (folder_of n) f.end g.told) (sym names) staged);
-    keys = keys ∙ was.keys ∙ sym (ap (λ (b : BaseBytes). b.keys) out_held);
+    keys =
+        let was_keys = was.keys in
+        let wait = ap (λ (l : List ℕ). length l) none.keys in
+        let had = ap (λ (l : List ℕ). length l) entries in
+        let more = ap (λ (b : BaseBytes). length b.keys) added ∙ length-append (base_at d (path_of f) f.told).keys one in
+        let now = keys_count e (path_of f) f.end g.told staged in
+        let before = keys_count d (path_of f) f.end f.told was.staged in
+        omega (arith, keys, was_keys, wait, had, more, now, before);
   }
 
 -- nothing is committed where nothing was called
@@ -108,15 +122,14 @@ pub nothing_left : (d : DiskState) (f : Folder) → IsOpen d f → LeavesOnly d 
 nothing_left d f was = no_call d (StandsAlone (path_of f) d (committed_by d f)) (λ c left. record { outside = λ m out named flushed. d.on_disk m named flushed c left; stands = was.staged.stands c left })
 
 -- what was committed is open, and is what was held
-pub committed_open : (d e : DiskState) (f g : Folder) → IsOpen d f → g.names ≡ f.names → g.told ≡ f.told → g.keys.items ≡ f.keys.items → IsAtRest e (path_of f) g.end → g.end.told ≡ f.told → base_at e (path_of f) g.end.told ≡ held_by d f → IsWritten g → IsOpen e g
-committed_open d e f g was names told keys rest is held none =
+pub committed_open : (d e : DiskState) (f g : Folder) → IsOpen d f → g.names ≡ f.names → g.told ≡ f.told → g.keys ≡ f.keys → g.waiting ≡ f.waiting → IsAtRest e (path_of f) g.end → g.end.told ≡ f.told → IsOpen e g
+committed_open d e f g was names told keys wait rest is =
     let path : path_of g ≡ path_of f = ap (λ (n : Names). folder_of n) names in
     let staged : IsStaged e (path_of f) g.end f.told = committed_staged e (path_of f) g.end f.told rest is in
     record {
       names = subst (λ (t : CommitRecord). AreNames g.names t.number) (sym told) (subst (λ (n : Names). AreNames n f.told.number) (sym names) was.names);
       staged = subst (λ (t : CommitRecord). IsStaged e (path_of g) g.end t) (sym told) (subst (λ (p : List ℕ). IsStaged e p g.end f.told) (sym path) staged);
-      keys = keys ∙ was.keys ∙ sym (ap (λ (b : BaseBytes). b.keys) held) ∙ (λ i. (base_at e (sym path i) (is i)).keys) ∙ (λ i. (base_at e (path_of g) (sym told i)).keys)
-          ∙ sym (ap (λ (b : BaseBytes). b.keys) (written_held e g none));
+      keys = keys ∙ was.keys ∙ (λ i. (sym told i).keys + length (sym wait i).keys.items);
     }
 
 pub committed_held : (d e : DiskState) (f g : Folder) → g.names ≡ f.names → g.told ≡ f.told → g.end.told ≡ f.told → base_at e (path_of f) g.end.told ≡ held_by d f → IsWritten g → held_by e g ≡ held_by d f

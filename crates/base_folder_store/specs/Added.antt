@@ -1,8 +1,8 @@
 -- A message added to a base folder.
-use Rattle.std.specs.Prelude.{◌≡◌, ◌≢◌, ◌⊎◌, ℕ, ◌+◌, ◌<◌, ◌≤◌, ◌^◌, List, ◌++◌, length}
+use Rattle.std.specs.Prelude.{◌≡◌, ◌≢◌, ◌⊎◌, ℕ, ◌+◌, ◌<◌, ◌≤◌, ◌^◌, false, true, List, ◌++◌, length}
 use Rattle.disk_io.specs.Disk.{Files}
 use Rattle.echo_filed.specs.Filed.{Filed}
-use Rattle.echo_filed.specs.Stored.{IsStored, Stored, message_in, stored_bytes}
+use Rattle.echo_filed.specs.Stored.{IsStored, Stored, is_short_enough, message_in, stored_as, stored_bytes}
 use Rattle.echo_filed.specs.declared.stored.Version.TheVariants.{Second}
 use Rattle.base_log.specs.Names.{keys_of, messages_of}
 use Rattle.base_log.specs.Standing.{BaseBytes, and_keys, and_messages}
@@ -29,12 +29,21 @@ next_place folder = folder.told.messages + length folder.waiting.messages.items
 abbrev pub IsFull : Folder → Type 0
 IsFull folder = ((2 ^ 64 ≤ next_place folder) ⊎ (2 ^ 64 ≤ folder.told.keys + length folder.waiting.keys.items)) ⊎ (2 ^ 64 ≤ folder.end.gate + 51)
 
+-- Eight bytes do not count its messages with so many bytes more, or its keys with an entry more.
+abbrev pub LacksRoom : Folder → ℕ → Type 0
+LacksRoom folder bytes = ((2 ^ 64 ≤ next_place folder + bytes) ⊎ (2 ^ 64 ≤ folder.keys + 16)) ⊎ (2 ^ 64 ≤ folder.told.keys + length folder.waiting.keys.items + 16)
+
+-- Eight bytes count its messages and its keys with one message more, and four bytes the text of that.
+pub record HasRoomFor (folder : Folder) (m : Filed) : Type 0 where
+  pub text : is_short_enough (stored_as false m) ≡ true
+  pub room : LacksRoom folder (length (stored_bytes Second (stored_as false m))) → ⊥
+
 -- One message more waits to be written, with its entry.
 pub record OneMoreWaits (old new : Folder) (bytes : List ℕ) (digest : ℕ) : Type 0 where
   pub names : new.names ≡ old.names
   pub end : new.end ≡ old.end
   pub told : new.told ≡ old.told
-  pub keys : new.keys.items ≡ old.keys.items ++ entry (next_place old) digest
+  pub keys : new.keys ≡ old.keys + 16
   pub messages : new.waiting.messages.items ≡ old.waiting.messages.items ++ bytes
   pub entries : new.waiting.keys.items ≡ old.waiting.keys.items ++ entry (next_place old) digest
   pub fits : next_place old + length bytes < 2 ^ 64

@@ -1,12 +1,12 @@
 -- What a purge leaves of a base folder, message by message.
-use Rattle.std.specs.Prelude.{◌≡◌, ◌≢◌, ◌≤◌, ℕ, Bool, true, false, not, List, length, take, count_by, IsSome, None}
-use Rattle.disk_io.specs.Disk.{DiskState, bytes_in}
+use Rattle.std.specs.Prelude.{◌≡◌, ◌≢◌, ℕ, Bool, true, false, not, List, take, count_by, None}
+use Rattle.disk_io.specs.Disk.{DiskState}
 use Rattle.base_file.specs.Base.{Base}
 use Rattle.echo_filed.specs.Filed.{Filed}
 use Rattle.echo_filed.specs.Stubs.{is_stub, stub_of}
-use Rattle.base_log.specs.Names.{AreNames, keys_of, messages_of}
+use Rattle.base_log.specs.Names.{keys_of, messages_of}
 use Rattle.base_store.specs.Store.{purged}
-use Rattle.base_folder_store.specs.Opened.{committed_by, path_of}
+use Rattle.base_folder_store.specs.Opened.{IsLegible, IsWritten, path_of}
 use Rattle.base_folder_store.specs.declared.folder.Folder.{Folder}
 
 -- A message that was scanned becomes its stub, another stays.
@@ -29,12 +29,11 @@ pub record IsBesideIn (folder next : Folder) : Type 0 where
   pub number : next.told.number ≢ folder.end.told.number
   pub mark : next.told.mark ≡ folder.end.told.mark
 
--- The messages that were committed are there to be read.
+-- The messages that were committed are there to be read, and no others wait.
 pub record IsReadable (disk : DiskState) (folder : Folder) : Type 0 where
-  pub names : AreNames folder.names folder.end.told.number
-  pub there : IsSome (disk.seen (messages_of (path_of folder) folder.end.told.number))
-  pub long : folder.end.told.messages ≤ length (bytes_in (disk.seen (messages_of (path_of folder) folder.end.told.number)))
-  pub keys : folder.keys.items ≡ (committed_by disk folder).keys
+  pub legible : IsLegible disk folder
+  pub told : folder.end.told ≡ folder.told
+  pub written : IsWritten folder
 
 -- The files of that number are there no more.
 pub record AreGone (disk : DiskState) (path : List ℕ) (number : ℕ) : Type 0 where

@@ -1,7 +1,7 @@
 -- A base folder that is open.
-use Rattle.std.specs.Prelude.{◌≡◌, ℕ, List, []}
-use Rattle.disk_io.specs.Disk.{DiskState}
-use Rattle.base_log.specs.Names.{AreNames, folder_of}
+use Rattle.std.specs.Prelude.{◌≡◌, ◌≤◌, ◌+◌, ℕ, List, [], length, IsSome}
+use Rattle.disk_io.specs.Disk.{DiskState, bytes_in}
+use Rattle.base_log.specs.Names.{AreNames, folder_of, keys_of, messages_of}
 use Rattle.base_log.specs.AtRest.{IsStaged}
 use Rattle.base_log.specs.Standing.{BaseBytes, and_keys, and_messages, base_at}
 use Rattle.base_folder_store.specs.declared.folder.Folder.{Folder}
@@ -24,6 +24,15 @@ pub record IsWritten (folder : Folder) : Type 0 where
   pub messages : folder.waiting.messages.items ≡ []
   pub keys : folder.waiting.keys.items ≡ []
 
+-- Its files are there, and are as long as its record says; so many bytes of keys are in them and wait.
+pub record IsLegible (disk : DiskState) (folder : Folder) : Type 0 where
+  pub names : AreNames folder.names folder.told.number
+  pub messages_there : IsSome (disk.seen (messages_of (path_of folder) folder.told.number))
+  pub messages_long : folder.told.messages ≤ length (bytes_in (disk.seen (messages_of (path_of folder) folder.told.number)))
+  pub keys_there : IsSome (disk.seen (keys_of (path_of folder) folder.told.number))
+  pub keys_long : folder.told.keys ≤ length (bytes_in (disk.seen (keys_of (path_of folder) folder.told.number)))
+  pub keys : folder.keys ≡ folder.told.keys + length folder.waiting.keys.items
+
 -- It has the paths of its files.
 abbrev pub IsNamed : Folder → Type 0
 IsNamed folder = AreNames folder.names folder.told.number
@@ -32,7 +41,7 @@ IsNamed folder = AreNames folder.names folder.told.number
 pub record IsOpen (disk : DiskState) (folder : Folder) : Type 0 where
   pub names : IsNamed folder
   pub staged : IsStaged disk (path_of folder) folder.end folder.told
-  pub keys : folder.keys.items ≡ (held_by disk folder).keys
+  pub keys : folder.keys ≡ folder.told.keys + length folder.waiting.keys.items
 
 -- The bytes that were committed last.
 abbrev pub committed_by : DiskState → Folder → BaseBytes

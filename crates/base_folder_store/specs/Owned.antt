@@ -1,5 +1,5 @@
 -- The owner of a base folder.
-use Rattle.std.specs.Prelude.{◌≡◌, ℕ, nat_eq, length, if◌then◌else◌, Option, Some, None}
+use Rattle.std.specs.Prelude.{◌≡◌, ℕ, nat_eq, if◌then◌else◌, Option, Some, None}
 use Rattle.base_log.specs.declared.log.FolderIdentity.{FolderIdentity}
 use Rattle.base_folder_store.specs.declared.folder.Folder.{Folder}
 
@@ -10,7 +10,7 @@ owner_of mark = if nat_eq mark.owner 0 then None else Some mark.owner
 -- No system has claimed it, and no digest was taken by its key.
 pub record IsUnclaimed (folder : Folder) : Type 0 where
   pub owner : folder.told.mark.owner ≡ 0
-  pub keys : length folder.keys.items ≡ 0
+  pub keys : folder.keys ≡ 0
 
 -- the folder with this mark, which the next commit records
 abbrev pub with_mark : Folder → FolderIdentity → Folder

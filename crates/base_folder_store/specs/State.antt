@@ -6,6 +6,7 @@ use Rattle.echo_filed.specs.Filed.{Filed}
 use Rattle.base_store.specs.Index.{IsIndexOf}
 use Rattle.base_store.specs.declared.index.Index.{Index}
 use Rattle.base_store.specs.Store.{StoreState}
+use Rattle.base_folder_store.specs.Added.{HasRoomFor, IsFull}
 use Rattle.base_folder_store.specs.Held.{HoldsBase, StandsForBase}
 use Rattle.base_folder_store.specs.Opened.{IsNamed, IsOpen, committed_by, held_by, path_of}
 use Rattle.base_folder_store.specs.declared.folder.Folder.{Folder}
@@ -31,13 +32,15 @@ state_of disk keyed folder alone = record {
   stands = λ base c. StandsForBase keyed (path_of folder) base c;
   is_own = λ m. IsIn (path_of folder) m;
   undoes = ⊥;
+  is_full = IsFull folder;
+  has_room = HasRoomFor folder;
   stays = λ honest usable base is c left. record { bytes = committed_by disk folder; stands = (usable.opened honest).staged.stands c left; holds = is };
   shown = λ honest usable base is. record { bytes = committed_by disk folder; stands = (usable.opened honest).staged.shown; holds = is };
 }
 
 -- Where the disk was honest, an index is one of the folder's keys.
 abbrev pub IsIndexed : DiskState → Folder → Index → Type 0
-IsIndexed disk folder index = Honestly disk (IsIndexOf folder.keys.items index)
+IsIndexed disk folder index = Honestly disk (IsIndexOf (held_by disk folder).keys index)
 
 -- A store to which calls may be made only where this is so too.
 abbrev pub where_so : StoreState → Type 0 → StoreState
@@ -50,6 +53,8 @@ where_so s so = record {
   stands = s.stands;
   is_own = s.is_own;
   undoes = s.undoes;
+  is_full = s.is_full;
+  has_room = s.has_room;
   stays = λ honest ready base is c left. s.stays honest ready.0 base is c left;
   shown = λ honest ready base is. s.shown honest ready.0 base is;
 }

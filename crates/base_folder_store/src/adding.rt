@@ -6,7 +6,7 @@ ghost use Rattle.base_log.specs.AtRest.{IsAtRest, IsStaged};
 ghost use Rattle.base_log.specs.Moments.{IsBeforeOrAfter, KeepsOutside, LeavesOutside, StandsAlone};
 ghost use Rattle.base_log.specs.Names.{AreNames, folder_of};
 ghost use Rattle.base_log.specs.Standing.{and_keys, and_messages, base_at};
-ghost use Rattle.base_folder_store.specs.Added.{IsFull, OneMoreWaits, SameBesideBoth, next_place, with_stored};
+ghost use Rattle.base_folder_store.specs.Added.{IsFull, LacksRoom, OneMoreWaits, SameBesideBoth, next_place, with_stored};
 ghost use Rattle.base_folder_store.specs.Answers.{HasReadCause};
 ghost use Rattle.base_folder_store.specs.Left.{AreGone};
 ghost use Rattle.base_folder_store.specs.Opened.{IsNamed, IsOpen, IsWritten, committed_by, held_by, path_of};
@@ -75,14 +75,17 @@ impl Folder {
         ensures waits { OnOk result (OneMoreWaits self.old self.new bytes.now digest) }
         ensures whole { IsErrOf result StoreError.Damaged → ⊥ }
         ensures device { IsErrOf result StoreError.Device → ⊥ }
-        ensures many { IsErrOf result StoreError.TooMany → 2 ^ 64 ≤ next_place self.old + length bytes.now }
+        ensures many { IsErrOf result StoreError.TooMany → LacksRoom self.old (length bytes.now) }
     {
         let Some(place) = self.next_place(bytes.len()) else {
             return Err(StoreError::TooMany);
         };
+        let Some(keys) = self.keys.checked_add(ENTRY) else {
+            return Err(StoreError::TooMany);
+        };
         let entry = entry(place as u64, digest);
-        self.keys.extend_from_slice(&entry)?;
         self.waiting.add(bytes, &entry)?;
+        self.keys = keys;
         Ok(())
     }
 
@@ -148,6 +151,7 @@ impl Folder {
         ensures outside { KeepsOutside (path_of self.old) (D.state disk.old) (D.state disk.new) }
         ensures whole { IsErrOf result StoreError.Damaged → ⊥ }
         ensures cause { HasReadCause (D.failures disk.old) (D.failures disk.new) result }
+        ensures many { IsErrOf result StoreError.TooMany → LacksRoom self.old (length bytes.now) }
     {
         self.add(bytes, digest)?;
         if self.waiting.messages.len() < PIECE {
@@ -158,7 +162,7 @@ impl Folder {
 
     /// Moves the cursor to the end: all messages are scanned. Nothing is committed.
     pub fn move_to_end(&mut self)
-        ensures { self.new ≡ record self.old { told = record self.old.told { cursor = length self.old.keys.items / 16 } } }
+        ensures { self.new ≡ record self.old { told = record self.old.told { cursor = self.old.keys / 16 } } }
     {
         self.told.cursor = self.count() as u64;
     }
@@ -186,6 +190,7 @@ impl Folder {
         ensures whole { IsErrOf result StoreError.Damaged → ⊥ }
         ensures cause { HasReadCause (D.failures disk.old) (D.failures disk.new) result }
         ensures many { IsErrOf result StoreError.TooMany → 2 ^ 64 ≤ self.old.end.gate + 51 }
+        ensures refused { IsErrOf result StoreError.TooMany → disk.new ≡ disk.old }
     {
         if self.end.gate >= usize::MAX - RECORD {
             return Err(StoreError::TooMany);
@@ -217,6 +222,8 @@ impl Folder {
         ensures whole { IsErrOf result StoreError.Damaged → ⊥ }
         ensures cause { HasReadCause (D.failures disk.old) (D.failures disk.new) result }
         ensures many { IsErrOf result StoreError.TooMany → IsFull self.old }
+        ensures refused { Honestly (D.state disk.new) (IsErrOf result StoreError.TooMany → LeavesOnly (D.state disk.old) (D.state disk.new)
+            (StandsAlone (path_of self.old) (D.state disk.old) (committed_by (D.state disk.old) self.old))) }
     {
         self.write_out(disk)?;
         self.tell(disk)
@@ -272,6 +279,8 @@ impl Folder {
         ensures whole { IsErrOf result StoreError.Damaged → ⊥ }
         ensures cause { HasReadCause (D.failures disk.old) (D.failures disk.new) result }
         ensures many { IsErrOf result StoreError.TooMany → IsFull self.old }
+        ensures refused { Honestly (D.state disk.new) (IsErrOf result StoreError.TooMany → LeavesOnly (D.state disk.old) (D.state disk.new)
+            (StandsAlone (path_of self.old) (D.state disk.old) (committed_by (D.state disk.old) self.old))) }
     {
         let former = self.end.told.number;
         self.acknowledge(disk)?;

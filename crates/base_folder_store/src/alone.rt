@@ -91,6 +91,7 @@ fn write_whole(alloc: Global, message: &Filed) -> Result<Vec<u8>, StoreError>
 /// The message as it is stored, its text whole. It is `TooMany` if the text is too large to be counted in four bytes.
 pub fn bytes_alone(alloc: Global, message: &Filed) -> Result<Vec<u8>, StoreError>
     ensures stored { IfOk result (λ bytes. IsStoredAlone message.now bytes.items) }
+    ensures bytes { IfOk result (λ bytes. bytes.items ≡ stored_bytes Second (stored_as false message.now)) }
     ensures filed { IsFiled message.now }
     ensures whole { IsErrOf result StoreError.Damaged → ⊥ }
     ensures device { IsErrOf result StoreError.Device → ⊥ }

@@ -1,14 +1,14 @@
 //! A message looked up by its digest: only those that have it are read, and keys are compared whole.
-ghost use Rattle.std.specs.Prelude.{◌≡◌, ◌≤◌, ◌^◌, List, IsErrOf};
+ghost use Rattle.std.specs.Prelude.{◌≡◌, ◌≤◌, ◌/◌, ◌^◌, List, IsErrOf, OnOk};
 ghost use Rattle.std.specs.List.{list_any};
 ghost use Rattle.disk_io.specs.Disk.{Honestly};
 ghost use Rattle.disk_io.specs.Runs.{ChangesNothing};
 ghost use Rattle.echo_filed.specs.Filed.{Filed};
-ghost use Rattle.base_store.specs.Index.{IsIndexOf};
+ghost use Rattle.base_store.specs.Index.{IsIndexOf, covered};
 ghost use Rattle.base_store.specs.Keys.{StandWhereTold};
 ghost use Rattle.base_folder_store.specs.Added.{next_place};
 ghost use Rattle.base_folder_store.specs.Answers.{Answers, HasReadCause, HaveDigest};
-ghost use Rattle.base_folder_store.specs.Opened.{IsOpen, held_by};
+ghost use Rattle.base_folder_store.specs.Opened.{IsLegible, held_by};
 
 use crate::folder::Folder;
 use crate::sought::{Sought, is_stored};
@@ -16,10 +16,69 @@ use base_store::{Index, StoreError};
 use disk_io::Disk;
 use std::alloc::Global;
 
+/// How many entries are read at once: 64 KiB of them.
+const PIECE: usize = 4_096;
+
 impl Folder {
-    /// Whether a message is the sought one, if each such message has the digest. The index belongs to the folder's
-    /// keys; entries that it lacks are searched one by one.
-    pub fn find<D: Disk, W: Sought>(
+    // Takes the entries of the messages from one number up to another into the index.
+    fn take_in<D: Disk>(
+        &self,
+        disk: &mut D,
+        index: &mut Index,
+        digest: u64,
+        from: usize,
+        to: usize,
+        piece: &mut Vec<u8>,
+    ) -> Result<(), StoreError>
+        requires legible { Honestly (D.state disk.old) (IsLegible (D.state disk.old) self.now) }
+        requires order { from ≤ to }
+        requires within { to ≤ self.now.keys / 16 }
+        ensures indexed { Honestly (D.state disk.new) (covered index.old digest ≡ from → IsIndexOf (held_by (D.state disk.old) self.now).keys index.old
+            → IsIndexOf (held_by (D.state disk.old) self.now).keys index.new) }
+        ensures covered { Honestly (D.state disk.new) (covered index.old digest ≡ from → IsIndexOf (held_by (D.state disk.old) self.now).keys index.old
+            → OnOk result (covered index.new digest ≡ to)) }
+        ensures whole { Honestly (D.state disk.new) (IsErrOf result StoreError.Damaged → ⊥) }
+        ensures quiet { ChangesNothing (D.state disk.old) (D.state disk.new) }
+        ensures cause { HasReadCause (D.failures disk.old) (D.failures disk.new) result }
+        ensures few { IsErrOf result StoreError.TooMany → ⊥ }
+    {
+        self.read_keys(disk, from, to, piece)?;
+        index.take_in(digest, from, piece)?;
+        Ok(())
+    }
+
+    // Goes over the keys that the index lacks for a look-up of the digest, piece by piece in one buffer.
+    fn go_over<D: Disk>(
+        &self,
+        alloc: Global,
+        disk: &mut D,
+        index: &mut Index,
+        digest: u64,
+    ) -> Result<(), StoreError>
+        requires legible { Honestly (D.state disk.old) (IsLegible (D.state disk.old) self.now) }
+        requires indexed { Honestly (D.state disk.old) (IsIndexOf (held_by (D.state disk.old) self.now).keys index.old) }
+        ensures indexed { Honestly (D.state disk.new) (IsIndexOf (held_by (D.state disk.old) self.now).keys index.new) }
+        ensures covered { Honestly (D.state disk.new) (OnOk result (self.now.keys / 16 ≤ covered index.new digest)) }
+        ensures whole { Honestly (D.state disk.new) (IsErrOf result StoreError.Damaged → ⊥) }
+        ensures quiet { ChangesNothing (D.state disk.old) (D.state disk.new) }
+        ensures cause { HasReadCause (D.failures disk.old) (D.failures disk.new) result }
+        ensures few { IsErrOf result StoreError.TooMany → ⊥ }
+    {
+        let all = self.count();
+        let mut piece = Vec::new(alloc);
+        index.begin(alloc, digest);
+        let mut from = index.covered(digest);
+        'pieces: while from < all {
+            let to = from + (all - from).min(PIECE);
+            self.take_in(disk, index, digest, from, to, &mut piece)?;
+            from = to;
+        }
+        index.chain(alloc, digest);
+        Ok(())
+    }
+
+    // Whether a message is the sought one, with an index that covers the folder's keys for the digest.
+    fn find_covered<D: Disk, W: Sought>(
         &self,
         alloc: Global,
         disk: &mut D,
@@ -27,23 +86,48 @@ impl Folder {
         sought: &W,
         digest: u64,
     ) -> Result<bool, StoreError>
-        requires opened { Honestly (D.state disk.old) (IsOpen (D.state disk.old) self.now) }
-        requires indexed { Honestly (D.state disk.old) (IsIndexOf self.now.keys.items index.now) }
-        ensures found { Honestly (D.state disk.new) ((base : List Filed) → StandWhereTold base (held_by (D.state disk.old) self.now).messages self.now.keys.items
-            → HaveDigest (W.test sought.now) digest base self.now.keys.items
+        requires legible { Honestly (D.state disk.old) (IsLegible (D.state disk.old) self.now) }
+        requires indexed { Honestly (D.state disk.old) (IsIndexOf (held_by (D.state disk.old) self.now).keys index.now) }
+        requires covered { Honestly (D.state disk.old) (self.now.keys / 16 ≤ covered index.now digest) }
+        ensures found { Honestly (D.state disk.new) ((base : List Filed) → StandWhereTold base (held_by (D.state disk.old) self.now).messages (held_by (D.state disk.old) self.now).keys
+            → HaveDigest (W.test sought.now) digest base (held_by (D.state disk.old) self.now).keys
             → Answers (λ found. found ≡ list_any (W.test sought.now) base) result) }
         ensures quiet { ChangesNothing (D.state disk.old) (D.state disk.new) }
         ensures cause { HasReadCause (D.failures disk.old) (D.failures disk.new) result }
         ensures many { IsErrOf result StoreError.TooMany → 2 ^ 64 ≤ next_place self.now }
     {
         let mut below = self.count();
-        'entries: while let Some(place) = index.find_below(&self.keys, digest, below) {
-            let bytes = self.stored(alloc, disk, place)?;
-            if is_stored(alloc, sought, &bytes)? {
+        'entries: while let Some(place) = index.find_below(digest, below) {
+            let stored = self.stored(alloc, disk, place)?;
+            if is_stored(alloc, sought, &stored.bytes)? {
                 return Ok(true);
             }
             below = place;
         }
         Ok(false)
+    }
+
+    /// Whether a message is the sought one, if each such message has the digest. The index belongs to the folder's
+    /// keys; it takes in those that it lacks.
+    pub fn find<D: Disk, W: Sought>(
+        &self,
+        alloc: Global,
+        disk: &mut D,
+        index: &mut Index,
+        sought: &W,
+        digest: u64,
+    ) -> Result<bool, StoreError>
+        requires legible { Honestly (D.state disk.old) (IsLegible (D.state disk.old) self.now) }
+        requires indexed { Honestly (D.state disk.old) (IsIndexOf (held_by (D.state disk.old) self.now).keys index.old) }
+        ensures found { Honestly (D.state disk.new) ((base : List Filed) → StandWhereTold base (held_by (D.state disk.old) self.now).messages (held_by (D.state disk.old) self.now).keys
+            → HaveDigest (W.test sought.now) digest base (held_by (D.state disk.old) self.now).keys
+            → Answers (λ found. found ≡ list_any (W.test sought.now) base) result) }
+        ensures indexed { Honestly (D.state disk.new) (IsIndexOf (held_by (D.state disk.old) self.now).keys index.new) }
+        ensures quiet { ChangesNothing (D.state disk.old) (D.state disk.new) }
+        ensures cause { HasReadCause (D.failures disk.old) (D.failures disk.new) result }
+        ensures many { IsErrOf result StoreError.TooMany → 2 ^ 64 ≤ next_place self.now }
+    {
+        self.go_over(alloc, disk, index, digest)?;
+        self.find_covered(alloc, disk, index, sought, digest)
     }
 }

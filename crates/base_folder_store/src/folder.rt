@@ -1,120 +1,31 @@
-//! An open base folder: the facts known of its files, and a message read by its number.
-ghost use Rattle.std.specs.Prelude.{◌≡◌, ◌≤◌, ◌<◌, ◌+◌, ◌^◌, ◌/◌, ◌++◌, ℕ, List, length, IfOk, IsErrOf, IsSome, drop, take};
-ghost use Rattle.disk_io.specs.Disk.{Honestly, bytes_in};
-ghost use Rattle.disk_io.specs.Runs.{ChangesNothing, HasCause, LeavesOnly};
+//! An open base folder: the facts known of its files.
+ghost use Rattle.std.specs.Prelude.{◌≡◌, ◌<◌, ◌/◌, IfOk};
+ghost use Rattle.disk_io.specs.Disk.{Honestly};
+ghost use Rattle.disk_io.specs.Runs.{HasCause, LeavesOnly};
 ghost use Rattle.base_log.specs.Moments.{KeepsOutside};
 ghost use Rattle.base_log.specs.Opening.{AreAlone, StandsOrWasLeft};
 ghost use Rattle.base_log.specs.Reading.{IsLogIn, IsRead};
 ghost use Rattle.base_log.specs.Standing.{StandsFor, base_at};
-ghost use Rattle.echo_filed.specs.Filed.{Filed};
-ghost use Rattle.base_store.specs.Keys.{StandWhereTold};
-ghost use Rattle.base_folder_store.specs.Added.{next_place};
-ghost use Rattle.base_folder_store.specs.Answers.{Answers, HasReadCause, IsAloneOf, IsStoredOf};
 ghost use Rattle.base_folder_store.specs.Opened.{IsNamed, IsOpen, IsWritten, held_by, path_of};
 
-use crate::alone::{Alone, read_alone};
 use crate::waiting::Waiting;
 use base_log::{CommitRecord, End, Log, Names, open};
-use base_store::{StoreError, end_of, place_of};
-use disk_io::{Disk, DiskError, read_part};
+use disk_io::{Disk, DiskError};
 use std::alloc::Global;
 
 /// How many bytes of the keys belong to one message.
 pub(crate) const ENTRY: usize = 16;
 
-/// The facts known of the files of a base folder: the end of its log, the record that a commit would write, the keys,
-/// and the messages that wait to be written.
+/// The facts known of the files of a base folder: the end of its log, the record that a commit would write, the size of
+/// the keys, and the messages that wait to be written.
 #[derive(Drop)]
 pub struct Folder {
     pub(crate) names: Names,
     pub(crate) end: End,
     pub(crate) told: CommitRecord,
-    pub(crate) keys: Vec<u8>,
+    // How many bytes the keys have, with those that wait.
+    pub(crate) keys: usize,
     pub(crate) waiting: Waiting,
-}
-
-// The bytes between two places of the messages, of which the last ones wait to be written.
-fn read_across<D: Disk>(
-    alloc: Global,
-    disk: &mut D,
-    messages: &[u8],
-    written: usize,
-    waiting: &[u8],
-    begins: usize,
-    ends: usize,
-) -> Result<Vec<u8>, DiskError>
-    requires there { Honestly (D.state disk.old) (IsSome ((D.state disk.old).seen messages.now)) }
-    requires long { Honestly (D.state disk.old) (written ≤ length (bytes_in ((D.state disk.old).seen messages.now))) }
-    requires order { begins ≤ ends }
-    requires within { ends ≤ written + length waiting.now }
-    ensures bytes { Honestly (D.state disk.new) (IfOk result (λ part. part.items
-        ≡ drop begins (take ends (take written (bytes_in ((D.state disk.old).seen messages.now)) ++ waiting.now)))) }
-    ensures quiet { ChangesNothing (D.state disk.old) (D.state disk.new) }
-    ensures cause { HasCause (D.failures disk.old) (D.failures disk.new) result }
-{
-    let from = begins.saturating_sub(written);
-    let to = ends.saturating_sub(written);
-    let mut part = read_part(
-        alloc,
-        disk,
-        messages,
-        begins.min(written),
-        ends.min(written),
-    )?;
-    part.extend_from_slice(&waiting[from..to])?;
-    Ok(part)
-}
-
-// The bytes of the message of this number, if some messages wait to be written.
-fn stored_at<D: Disk>(
-    alloc: Global,
-    disk: &mut D,
-    messages: &[u8],
-    written: usize,
-    waiting: &[u8],
-    keys: &[u8],
-    place: usize,
-) -> Result<Vec<u8>, StoreError>
-    requires there { Honestly (D.state disk.old) (IsSome ((D.state disk.old).seen messages.now)) }
-    requires long { Honestly (D.state disk.old) (written ≤ length (bytes_in ((D.state disk.old).seen messages.now))) }
-    requires within { place < length keys.now / 16 }
-    ensures stored { Honestly (D.state disk.new) ((base : List Filed) → StandWhereTold base (take written (bytes_in ((D.state disk.old).seen messages.now)) ++ waiting.now) keys.now
-        → place < length base → Answers (λ bytes. IsStoredOf base place bytes.items) result) }
-    ensures quiet { ChangesNothing (D.state disk.old) (D.state disk.new) }
-    ensures cause { HasReadCause (D.failures disk.old) (D.failures disk.new) result }
-    ensures many { IsErrOf result StoreError.TooMany → 2 ^ 64 ≤ written + length waiting.now }
-{
-    let Some(all) = written.checked_add(waiting.len()) else {
-        return Err(StoreError::TooMany);
-    };
-    let begins = place_of(keys, place) as usize;
-    let ends = end_of(keys, place, all as u64) as usize;
-    if begins > ends || ends > all {
-        return Err(StoreError::Damaged);
-    }
-    let bytes = read_across(alloc, disk, messages, written, waiting, begins, ends)?;
-    Ok(bytes)
-}
-
-// The message of this number, if all messages are written.
-pub(crate) fn message_at<D: Disk>(
-    alloc: Global,
-    disk: &mut D,
-    messages: &[u8],
-    all: usize,
-    keys: &[u8],
-    place: usize,
-) -> Result<Alone, StoreError>
-    requires there { Honestly (D.state disk.old) (IsSome ((D.state disk.old).seen messages.now)) }
-    requires long { Honestly (D.state disk.old) (all ≤ length (bytes_in ((D.state disk.old).seen messages.now))) }
-    requires within { place < length keys.now / 16 }
-    ensures read { Honestly (D.state disk.new) ((base : List Filed) → StandWhereTold base (take all (bytes_in ((D.state disk.old).seen messages.now))) keys.now
-        → place < length base → Answers (IsAloneOf base place) result) }
-    ensures quiet { ChangesNothing (D.state disk.old) (D.state disk.new) }
-    ensures cause { HasReadCause (D.failures disk.old) (D.failures disk.new) result }
-{
-    let bytes = stored_at(alloc, disk, messages, all, &[], keys, place)?;
-    read_alone(alloc, &bytes)
 }
 
 impl Folder {
@@ -145,22 +56,21 @@ impl Folder {
     {
         let names = Names::new(alloc, path, log.end.told.number)?;
         open(alloc, disk, &names, log)?;
-        let keys = read_part(alloc, disk, &names.keys, 0, log.end.told.keys)?;
         let waiting = Waiting::new(alloc);
         Ok(Folder {
             names,
             end: log.end,
             told: log.end.told,
-            keys,
+            keys: log.end.told.keys,
             waiting,
         })
     }
 
     /// How many messages it has.
     pub fn count(&self) -> usize
-        ensures { result ≡ length self.now.keys.items / 16 }
+        ensures { result ≡ self.now.keys / 16 }
     {
-        self.keys.len() / ENTRY
+        self.keys / ENTRY
     }
 
     /// How many of them, from the front, were scanned.
@@ -168,45 +78,5 @@ impl Folder {
         ensures { result ≡ self.now.told.cursor }
     {
         self.told.cursor as usize
-    }
-
-    // The bytes of the message of this number, counted from 0.
-    pub(crate) fn stored<D: Disk>(
-        &self,
-        alloc: Global,
-        disk: &mut D,
-        place: usize,
-    ) -> Result<Vec<u8>, StoreError>
-        requires opened { Honestly (D.state disk.old) (IsOpen (D.state disk.old) self.now) }
-        requires within { place < length self.now.keys.items / 16 }
-        ensures stored { Honestly (D.state disk.new) ((base : List Filed) → StandWhereTold base (held_by (D.state disk.old) self.now).messages self.now.keys.items
-            → place < length base → Answers (λ bytes. IsStoredOf base place bytes.items) result) }
-        ensures quiet { ChangesNothing (D.state disk.old) (D.state disk.new) }
-        ensures cause { HasReadCause (D.failures disk.old) (D.failures disk.new) result }
-        ensures many { IsErrOf result StoreError.TooMany → 2 ^ 64 ≤ next_place self.now }
-    {
-        let messages = &self.names.messages;
-        let written = self.told.messages;
-        let waiting = &self.waiting.messages;
-        stored_at(alloc, disk, messages, written, waiting, &self.keys, place)
-    }
-
-    /// The message of this number, counted from 0.
-    pub fn read<D: Disk>(
-        &self,
-        alloc: Global,
-        disk: &mut D,
-        place: usize,
-    ) -> Result<Alone, StoreError>
-        requires opened { Honestly (D.state disk.old) (IsOpen (D.state disk.old) self.now) }
-        requires within { place < length self.now.keys.items / 16 }
-        ensures read { Honestly (D.state disk.new) ((base : List Filed) → StandWhereTold base (held_by (D.state disk.old) self.now).messages self.now.keys.items
-            → place < length base → Answers (IsAloneOf base place) result) }
-        ensures quiet { ChangesNothing (D.state disk.old) (D.state disk.new) }
-        ensures cause { HasReadCause (D.failures disk.old) (D.failures disk.new) result }
-        ensures many { IsErrOf result StoreError.TooMany → 2 ^ 64 ≤ next_place self.now }
-    {
-        let bytes = self.stored(alloc, disk, place)?;
-        read_alone(alloc, &bytes)
     }
 }

@@ -20,8 +20,8 @@ use std::marker::PhantomData;
 
 /// A base folder on a disk. After a call that failed in the middle of a change, open it again.
 ///
-/// Look-ups of expected messages take one pass over its keys. Of the others, the first ones of a run each take a
-/// pass, and the rest use an index.
+/// Look-ups of expected messages take one pass over its keys, piece by piece. Of the others, the first ones of a run
+/// each take a pass, and the rest use an index that is kept in memory.
 #[derive(Drop)]
 pub struct FolderStore<D: Disk, H: Digest> {
     alloc: Global,
@@ -129,18 +129,16 @@ impl<D: Disk, H: Digest> Store for FolderStore<D, H> {
     fn knows(&mut self, key: &Key) -> Result<bool, StoreError> {
         let bytes = bytes_of_key(self.alloc, key)?;
         let digest = self.folder.digest::<H>(&bytes);
-        self.index.prepare(self.alloc, &self.folder.keys, digest);
         self.folder
-            .find(self.alloc, &mut self.disk, &self.index, key, digest)
+            .find(self.alloc, &mut self.disk, &mut self.index, key, digest)
     }
 
     fn has_id(&mut self, msgid: &[u8]) -> Result<bool, StoreError> {
         let digest = self.folder.digest::<H>(msgid);
-        self.index.prepare(self.alloc, &self.folder.keys, digest);
         self.folder.find(
             self.alloc,
             &mut self.disk,
-            &self.index,
+            &mut self.index,
             &Id { msgid },
             digest,
         )

@@ -24,7 +24,7 @@ impl Folder {
         ensures claimed { result ≡ true → IsUnclaimed self.old × (self.new ≡ with_mark self.old mark) }
         ensures refused { result ≡ false → (IsUnclaimed self.old → ⊥) × (self.new ≡ self.old) }
     {
-        if self.told.mark.owner != 0 || !self.keys.is_empty() {
+        if self.told.mark.owner != 0 || self.keys != 0 {
             return false;
         }
         self.told.mark = mark;

@@ -12,11 +12,11 @@ ghost use Rattle.base_folder_store.specs.Held.{HoldsBase};
 ghost use Rattle.base_folder_store.specs.Left.{IsBesideIn, IsReadable, changed_in, first_left};
 ghost use Rattle.base_folder_store.specs.Opened.{IsNamed, IsOpen, committed_by, held_by, path_of};
 
-use crate::folder::{Folder, message_at};
+use crate::folder::Folder;
 use crate::leaving::{HEAD, left_of};
 use crate::waiting::Waiting;
 use base_log::{Names, stage_anew};
-use base_store::{StoreError, digest_of};
+use base_store::StoreError;
 use disk_io::Disk;
 use std::alloc::Global;
 
@@ -55,13 +55,12 @@ impl Folder {
         let number = other_number(self.end.told.number);
         let names = Names::new(alloc, &self.names.folder, number)?;
         let told = stage_anew(disk, &names, self.end, number, 0)?;
-        let keys = Vec::new(alloc);
         let waiting = Waiting::new(alloc);
         Ok(Folder {
             names,
             end: self.end,
             told,
-            keys,
+            keys: 0,
             waiting,
         })
     }
@@ -74,7 +73,7 @@ impl Folder {
         next: &mut Folder,
         place: usize,
     ) -> Result<bool, StoreError>
-        requires within { place < length self.now.keys.items / 16 }
+        requires within { place < self.now.keys / 16 }
         requires readable { Honestly (D.state disk.old) (IsReadable (D.state disk.old) self.now) }
         requires beside { IsBesideIn self.now next.old }
         requires named { IsNamed next.old }
@@ -96,11 +95,9 @@ impl Folder {
             → (keyed : ℕ → ℕ → List ℕ → ℕ) (base : Base) → HoldsBase keyed (committed_by (D.state disk.old) next.old) base → ⊥) }
         ensures cause { HasReadCause (D.failures disk.old) (D.failures disk.new) result }
     {
-        let messages = &self.names.messages;
-        let all = self.end.told.messages;
-        let alone = message_at(alloc, disk, messages, all, &self.keys, place)?;
-        let left = left_of(alloc, alone, (place as u64) < self.end.told.cursor)?;
-        let digest = digest_of(&self.keys, place);
+        let read = self.read_told(alloc, disk, place)?;
+        let digest = read.digest;
+        let left = left_of(alloc, read.alone, (place as u64) < self.end.told.cursor)?;
         next.stage(disk, &left.file[HEAD..], digest)?;
         Ok(left.changed)
     }

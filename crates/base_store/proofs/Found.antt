@@ -1,15 +1,36 @@
 -- Messages found for digests that are expected.
-use Rattle.std.proofs.Common.{◌≡◌, ◌≢◌, ℕ, Bool, true, false, ◌+◌, ◌<◌, ◌≤◌, List, [], ◌∷◌, ◌++◌, length, get_or, refl, sym, ap, subst, ◌∙◌, arith, ⊎_elim, length-append}
-use Rattle.std.specs.Prelude.{Contains}
+use Rattle.std.proofs.Common.{◌≡◌, ◌≢◌, ℕ, Bool, true, false, ◌+◌, ◌*◌, ◌/◌, ◌<◌, ◌≤◌, ◌-◌, ◌⊎◌, inr, List, [], ◌∷◌, ◌++◌, length, take, drop, get_or, refl, sym, ap, subst, ◌∙◌, arith, ⊎_elim, append_assoc, length-append, length-drop, Option, Some, None, Result, Ok, Err, if◌then◌else◌}
+use Rattle.std.specs.Prelude.{Contains, IfNone, IfSome, OnOk, is_ok}
+use Rattle.std.specs.Int.{w64, from_le_bytes}
 use Rattle.std.proofs.lemmas.Bool.{cases_lt}
-use Rattle.std.proofs.lemmas.Grind.{get_or_default_zero}
-use Rattle.std.proofs.lemmas.List.Elements.{Contains-append_left, Contains-append_right}
-use Rattle.base_store.specs.Expected.{AreFound, IsLastSeen, are_set, is_expected}
-use Rattle.base_store.specs.Index.{IsIndexOf}
-use Rattle.base_store.specs.Keys.{digest_at}
+use Rattle.std.proofs.lemmas.List.{drop-drop, drop_at, get_or_default}
+use Rattle.std.proofs.lemmas.List.Elements.{Contains-append_left, Contains-push, Contains-push_cases}
+use Rattle.base_store.specs.Expected.{AreFound, IsLastSeen, IsPlaceIn, are_set, is_expected, place_in}
+use Rattle.base_store.specs.Index.{AreChains, IsIndexOf}
+use Rattle.base_store.specs.Keys.{IsPieceOf, digest_at}
 use Rattle.base_store.specs.declared.expected.Expected.{Expected}
+use Rattle.base_store.specs.declared.expected.Place.{Place}
 use Rattle.base_store.specs.declared.index.Index.{Index}
 use Rattle.base_store.proofs.Indexed.{chains_stay, entry_stays}
+
+-- the entries of a piece are those of the keys
+pub piece_digest : (keys : List ℕ) (from : ℕ) (piece : List ℕ) (i : ℕ) → IsPieceOf keys from piece → i < length piece / 16 → digest_at keys (from + i) ≡ digest_at piece i
+piece_digest keys from piece i is within =
+    let sum : 16 * (from + i) + 8 ≡ 16 * from + (16 * i + 8) = omega arith in
+    let even = is.even in
+    let inside : 16 * i + 16 ≤ length piece = omega (arith, within, even) in
+    ap (λ (n : ℕ). from_le_bytes w64 (take 8 (drop n keys))) sum
+    ∙ ap (λ (l : List ℕ). from_le_bytes w64 (take 8 l)) (sym (drop-drop (16 * i + 8) (16 * from) keys))
+    ∙ ap (λ (l : List ℕ). digest_at l i) is.behind
+    ∙ entry_stays piece is.rest i inside
+
+pub piece_within : (keys : List ℕ) (from : ℕ) (piece : List ℕ) → IsPieceOf keys from piece → from + length piece / 16 ≤ length keys / 16
+piece_within keys from piece is =
+    let within = is.within in
+    let even = is.even in
+    let behind = length-drop (16 * from) keys in
+    let long : length (drop (16 * from) keys) ≡ length piece + length is.rest = ap (λ (l : List ℕ). length l) is.behind ∙ length-append piece is.rest in
+    omega (arith, within, even, behind, long)
 
 -- more keys behind them change nothing
 found_stays : (keys more : List ℕ) (expected : Expected) → AreFound keys expected → AreFound (keys ++ more) expected
@@ -18,72 +39,201 @@ found_stays keys more expected are =
     let long = length-append keys more in
     record {
       within = omega (arith, within, long);
-      each = λ j passed is. are.each j passed (subst (λ (d : ℕ). is_expected expected d ≡ true) (entry_stays keys more j (omega (arith, within, passed))) is);
+      each = λ j passed is.
+          let stays = entry_stays keys more j (omega (arith, within, passed)) in
+          subst (λ (d : ℕ). Contains expected.places.items (record { number = j; digest = d })) (sym stays) (are.each j passed (subst (λ (d : ℕ). is_expected expected d ≡ true) stays is));
+      inside = λ p there. let low = are.inside p there in omega (arith, low, long);
+      sound = λ p there. let low = are.inside p there in entry_stays keys more p.number (omega (arith, low)) ∙ are.sound p there;
     }
 
 pub index_stays : (keys more : List ℕ) (index : Index) → IsIndexOf keys index → IsIndexOf (keys ++ more) index
 index_stays keys more index is = record {
-  chains = chains_stay keys more index.heads.items index.before.items is.chains;
+  rest = is.rest ++ more;
+  front = ap (λ (l : List ℕ). l ++ more) is.front ∙ append_assoc index.keys.items is.rest more;
+  even = is.even;
+  chains = is.chains;
   found = found_stays keys more index.expected is.found;
 }
 
--- the messages of the keys from a number on, up to another, whose flags are set
-abbrev pub HasAllSet : List Bool → List Bool → List ℕ → ℕ → ℕ → List ℕ → Type 0
-HasAllSet low high keys from end places = (j : ℕ) → from ≤ j → j < end → are_set low high (digest_at keys j) ≡ true → Contains places j
+-- what a pass over a piece adds
+pub found_more : (keys piece : List ℕ) (from : ℕ) (old new : Expected) → old.passed ≡ from → new.passed ≡ from + length piece / 16 → ((d : ℕ) → is_expected new d ≡ is_expected old d) → IsPieceOf keys from piece → AreFound keys old
+    → ((p : Place) → Contains old.places.items p → Contains new.places.items p)
+    → ((i : ℕ) → i < length piece / 16 → is_expected old (digest_at piece i) ≡ true → Contains new.places.items (place_in piece from i))
+    → ((p : Place) → Contains new.places.items p → Contains old.places.items p ⊎ IsPlaceIn piece from p) → AreFound keys new
+found_more keys piece from old new at passed same is was kept found only =
+    let inside = piece_within keys from piece is in
+    record {
+      within = omega (arith, passed, inside);
+      each = λ j under set.
+          let expected : is_expected old (digest_at keys j) ≡ true = sym (same (digest_at keys j)) ∙ set in
+          ⊎_elim (λ (h : j < from). kept (record { number = j; digest = digest_at keys j }) (was.each j (omega (arith, at, h)) expected))
+          (λ (h : from ≤ j).
+          let i = j - from in
+          let sum : from + i ≡ j = omega (arith, h) in
+          let low : i < length piece / 16 = omega (arith, under, passed, sum) in
+          let digest : digest_at keys j ≡ digest_at piece i = ap (digest_at keys) (sym sum) ∙ piece_digest keys from piece i is low in
+          let place : place_in piece from i ≡ record { number = j; digest = digest_at keys j } = λ t. record { number = sum t; digest = sym digest t } in
+          subst (λ (p : Place). Contains new.places.items p) place (found i low (subst (λ (d : ℕ). is_expected old d ≡ true) digest expected)))
+          (cases_lt j from);
+      sound = λ p there.
+          ⊎_elim (λ (h : Contains old.places.items p). was.sound p h)
+          (λ (h : IsPlaceIn piece from p).
+          ap (λ (q : Place). digest_at keys q.number) h.is ∙ piece_digest keys from piece h.i is h.within ∙ sym (ap (λ (q : Place). q.digest) h.is))
+          (only p there);
+      inside = λ p there.
+          ⊎_elim (λ (h : Contains old.places.items p). was.inside p h)
+          (λ (h : IsPlaceIn piece from p). let low = h.within in let here = ap (λ (q : Place). q.number) h.is in omega (arith, low, here, inside))
+          (only p there);
+    }
+
+-- and what it has where it was cut short
+pub found_some : (keys piece : List ℕ) (from : ℕ) (old new : Expected) → new.passed ≡ old.passed → ((d : ℕ) → is_expected new d ≡ is_expected old d) → IsPieceOf keys from piece → AreFound keys old
+    → ((p : Place) → Contains old.places.items p → Contains new.places.items p)
+    → ((p : Place) → Contains new.places.items p → Contains old.places.items p ⊎ IsPlaceIn piece from p) → AreFound keys new
+found_some keys piece from old new passed same is was kept only =
+    let within = was.within in
+    let long = piece_within keys from piece is in
+    record {
+      within = omega (arith, passed, within);
+      each = λ j under set.
+          kept (record { number = j; digest = digest_at keys j }) (was.each j (omega (arith, under, passed)) (sym (same (digest_at keys j)) ∙ set));
+      sound = λ p there.
+          ⊎_elim (λ (h : Contains old.places.items p). was.sound p h)
+          (λ (h : IsPlaceIn piece from p).
+          ap (λ (q : Place). digest_at keys q.number) h.is ∙ piece_digest keys from piece h.i is h.within ∙ sym (ap (λ (q : Place). q.digest) h.is))
+          (only p there);
+      inside = λ p there.
+          ⊎_elim (λ (h : Contains old.places.items p). was.inside p h)
+          (λ (h : IsPlaceIn piece from p). let low = h.within in let here = ap (λ (q : Place). q.number) h.is in omega (arith, low, here, long))
+          (only p there);
+    }
+
+-- the messages of the piece up to a number whose flags are set
+abbrev pub HasAllSet : List Bool → List Bool → List ℕ → ℕ → ℕ → List Place → Type 0
+HasAllSet low high piece from end places = (i : ℕ) → i < end → are_set low high (digest_at piece i) ≡ true → Contains places (place_in piece from i)
 
 -- one more that is not
-pub passed_one : (low high : List Bool) (keys : List ℕ) (from i : ℕ) (places : List ℕ) → are_set low high (digest_at keys i) ≡ false → HasAllSet low high keys from i places → HasAllSet low high keys from (i + 1) places
-passed_one low high keys from i places not_set all j low_end under set =
-    ⊎_elim (λ (h : j < i). all j low_end h set)
-    (λ (h : i ≤ j). let same : j ≡ i = omega (arith, h, under) in let is : are_set low high (digest_at keys i) ≡ true = subst (λ (n : ℕ). are_set low high (digest_at keys n) ≡ true) same set in absurd (cc))
+pub passed_one : (low high : List Bool) (piece : List ℕ) (from i : ℕ) (places : List Place) → are_set low high (digest_at piece i) ≡ false → HasAllSet low high piece from i places → HasAllSet low high piece from (i + 1) places
+passed_one low high piece from i places not_set all j under set =
+    ⊎_elim (λ (h : j < i). all j h set)
+    (λ (h : i ≤ j). let same : j ≡ i = omega (arith, h, under) in let is : are_set low high (digest_at piece i) ≡ true = subst (λ (n : ℕ). are_set low high (digest_at piece n) ≡ true) same set in absurd (cc))
     (cases_lt j i)
 
 -- and one more that is
-pub added_one : (low high : List Bool) (keys : List ℕ) (from i : ℕ) (places : List ℕ) → HasAllSet low high keys from i places → HasAllSet low high keys from (i + 1) (places ++ (i ∷ []))
-added_one low high keys from i places all j low_end under set =
-    ⊎_elim (λ (h : j < i). Contains-append_left places (i ∷ []) j (all j low_end h set))
-    (λ (h : i ≤ j). let same : i ≡ j = omega (arith, h, under) in Contains-append_right places (i ∷ []) j (subst (λ (n : ℕ). Contains (i ∷ []) n) same (0, omega arith, refl)))
+pub added_one : (low high : List Bool) (piece : List ℕ) (from i : ℕ) (places : List Place) → HasAllSet low high piece from i places → HasAllSet low high piece from (i + 1) (places ++ (place_in piece from i ∷ []))
+added_one low high piece from i places all j under set =
+    ⊎_elim (λ (h : j < i). Contains-append_left places (place_in piece from i ∷ []) (place_in piece from j) (all j h set))
+    (λ (h : i ≤ j). let same : i ≡ j = omega (arith, h, under) in subst (λ (n : ℕ). Contains (places ++ (place_in piece from i ∷ [])) (place_in piece from n)) same (Contains-push places (place_in piece from i)))
     (cases_lt j i)
 
+-- each place is one from before, or of the first messages of the piece
+abbrev pub AreOnly : List ℕ → ℕ → List Place → List Place → Type 0
+AreOnly piece from old places = (p : Place) → Contains places p → Contains old p ⊎ IsPlaceIn piece from p
+
+pub only_more : (piece : List ℕ) (from i : ℕ) (old places : List Place) → i < length piece / 16 → AreOnly piece from old places → AreOnly piece from old (places ++ (place_in piece from i ∷ []))
+only_more piece from i old places within only p there =
+    ⊎_elim (λ (h : Contains places p). only p h) (λ (h : place_in piece from i ≡ p). inr (record { i = i; within = within; is = sym h })) (Contains-push_cases places (place_in piece from i) p there)
+
 -- the next place is greater
-pub seen_more : (keys places : List ℕ) (digest below i last place : ℕ) → place ≡ get_or places i 0 → (last ≤ place) × (place < below) × (digest_at keys place ≡ digest)
-    → IsLastSeen keys places digest below i last → IsLastSeen keys places digest below (i + 1) (place + 1)
-seen_more keys places digest below i last place at is was =
-    let from = is.0 in
-    let low = is.1 in
-    record {
-      within = omega (arith, low);
-      has = λ k e. let same : k ≡ place = omega (arith, e) in ap (digest_at keys) same ∙ is.2;
-      seen = λ k inside under same.
-          ⊎_elim (λ (h : k < i). let before = was.seen k h under same in omega (arith, before, from))
-          (λ (h : i ≤ k). let here : k ≡ i = omega (arith, h, inside) in let that : get_or places k 0 ≡ place = ap (λ (n : ℕ). get_or places n 0) here ∙ sym at in omega (arith, that))
-          (cases_lt k i);
-    }
+pub seen_more : (places : List Place) (digest below i last : ℕ) (place : Place) → i < length places → place ≡ get_or places i place → place.digest ≡ digest → last ≤ place.number → place.number < below
+    → IsLastSeen places digest below i last → IsLastSeen places digest below (i + 1) (place.number + 1)
+seen_more places digest below i last place inside at is from low was = record {
+  within = omega (arith, low);
+  has = λ k e.
+      let same : k ≡ place.number = omega (arith, e) in
+      let one : place ≡ record { number = k; digest = digest } = λ t. record { number = sym same t; digest = is t } in
+      subst (λ (p : Place). Contains places p) one (i, inside, sym at);
+  seen = λ k d under lower same.
+      ⊎_elim (λ (h : k < i). let before = was.seen k d h lower same in omega (arith, before, from))
+      (λ (h : i ≤ k).
+      let here : k ≡ i = omega (arith, h, under) in
+      let that : get_or places k d ≡ place = ap (λ (n : ℕ). get_or places n d) here ∙ get_or_default places i d place inside ∙ sym at in
+      let number = ap (λ (p : Place). p.number) that in
+      omega (arith, number))
+      (cases_lt k i);
+}
 
 -- it is not
-pub seen_same : (keys places : List ℕ) (digest below i last place : ℕ) → place ≡ get_or places i 0 → ((last ≤ place) × (place < below) × (digest_at keys place ≡ digest) → ⊥)
-    → IsLastSeen keys places digest below i last → IsLastSeen keys places digest below (i + 1) last
-seen_same keys places digest below i last place at other was = record {
+pub seen_same : (places : List Place) (digest below i last : ℕ) (place : Place) → i < length places → place ≡ get_or places i place → (place.digest ≡ digest → last ≤ place.number → place.number < below → ⊥)
+    → IsLastSeen places digest below i last → IsLastSeen places digest below (i + 1) last
+seen_same places digest below i last place inside at other was = record {
   within = was.within;
   has = was.has;
-  seen = λ k inside under same.
-      ⊎_elim (λ (h : k < i). was.seen k h under same)
+  seen = λ k d under lower same.
+      ⊎_elim (λ (h : k < i). was.seen k d h lower same)
       (λ (h : i ≤ k).
-      let here : k ≡ i = omega (arith, h, inside) in
-      let that : get_or places k 0 ≡ place = ap (λ (n : ℕ). get_or places n 0) here ∙ sym at in
-      ⊎_elim (λ (less : place < last). omega (arith, that, less))
-      (λ (greater : last ≤ place). absurd (other (greater, subst (λ (n : ℕ). n < below) that under, ap (digest_at keys) (sym that) ∙ same)))
-      (cases_lt place last))
+      let here : k ≡ i = omega (arith, h, under) in
+      let that : get_or places k d ≡ place = ap (λ (n : ℕ). get_or places n d) here ∙ get_or_default places i d place inside ∙ sym at in
+      let number = ap (λ (p : Place). p.number) that in
+      ⊎_elim (λ (less : place.number < last). omega (arith, number, less))
+      (λ (greater : last ≤ place.number). absurd (other (sym (ap (λ (p : Place). p.digest) that) ∙ same) greater (omega (arith, number, lower))))
+      (cases_lt place.number last))
       (cases_lt k i);
 }
 
 -- no message from there on that was gone over has the digest
-pub beyond : (keys : List ℕ) (expected : Expected) (digest below i last : ℕ) → length expected.places.items ≤ i → IsLastSeen keys expected.places.items digest below i last → AreFound keys expected
+pub beyond : (keys : List ℕ) (expected : Expected) (digest below i last : ℕ) → length expected.places.items ≤ i → IsLastSeen expected.places.items digest below i last → AreFound keys expected
     → is_expected expected digest ≡ true → (j : ℕ) → last ≤ j → j < below → j < expected.passed → digest_at keys j ≢ digest
 beyond keys expected digest below i last all was found is j from under passed same =
     let places = expected.places.items in
+    let p : Place = record { number = j; digest = digest_at keys j } in
     let at = found.each j passed (subst (λ (d : ℕ). is_expected expected d ≡ true) (sym same) is) in
     let inside = at.1 in
-    let here : get_or places at.0 0 ≡ j = sym (get_or_default_zero places at.0 j at.1) ∙ at.2 in
-    let less = was.seen at.0 (omega (arith, inside, all)) (subst (λ (n : ℕ). n < below) (sym here) under) (ap (digest_at keys) here ∙ same) in
-    omega (arith, here, less, from)
+    let number : (get_or places at.0 p).number ≡ j = ap (λ (q : Place). q.number) at.2 in
+    let less = was.seen at.0 p (omega (arith, inside, all)) (omega (arith, number, under)) (ap (λ (q : Place). q.digest) at.2 ∙ same) in
+    omega (arith, number, less, from)
+
+-- of no places nothing is wrong
+pub found_none : (keys : List ℕ) (expected : Expected) → expected.passed ≡ 0 → expected.places.items ≡ [] → AreFound keys expected
+found_none keys expected passed none =
+    let short = ap (λ (l : List Place). length l) none in
+    record {
+      within = omega (arith, passed);
+      each = λ j under set. absurd (omega (arith, passed, under));
+      inside = λ p there. let low = there.1 in absurd (omega (arith, short, low));
+      sound = λ p there. let low = there.1 in absurd (omega (arith, short, low));
+    }
+
+-- the keys begin with these, and chains are made of them
+pub record IsFrontOf (keys own heads before : List ℕ) : Type 0 where
+  pub rest : List ℕ
+  pub front : keys ≡ own ++ rest
+  pub even : 16 * (length own / 16) ≡ length own
+  pub chains : AreChains own heads before
+
+-- an index that took a piece to its keys, or none
+pub kept_more : {T E : Type 0} (r : Result T E) (keys piece more : List ℕ) (from : ℕ) (index : Index) → more ≡ (if is_ok r then index.keys.items ++ piece else index.keys.items) → length index.keys.items / 16 ≡ from → IsPieceOf keys from piece
+    → IsIndexOf keys index → IsFrontOf keys more index.heads.items index.before.items
+kept_more (Ok done) keys piece more from index items at is was =
+    let own = index.keys.items in
+    let even = was.even in
+    let piece_even = is.even in
+    let size : length own ≡ 16 * from = omega (arith, even, at) in
+    let behind : was.rest ≡ piece ++ is.rest = sym (drop_at own was.rest (16 * from) size) ∙ ap (λ (l : List ℕ). drop (16 * from) l) (sym was.front) ∙ is.behind in
+    let long = ap (λ (l : List ℕ). length l) items ∙ length-append own piece in
+    record {
+      rest = is.rest;
+      front = was.front ∙ ap (λ (l : List ℕ). own ++ l) behind ∙ sym (append_assoc own piece is.rest) ∙ ap (λ (l : List ℕ). l ++ is.rest) (sym items);
+      even = omega (arith, long, even, piece_even);
+      chains = subst (λ (l : List ℕ). AreChains l index.heads.items index.before.items) (sym items) (chains_stay own piece index.heads.items index.before.items was.chains);
+    }
+kept_more (Err failed) keys piece more from index items at is was =
+    subst (λ (l : List ℕ). IsFrontOf keys l index.heads.items index.before.items) (sym items) (record { rest = was.rest; front = was.front; even = was.even; chains = was.chains })
+
+-- a digest in its own keys is that of all keys
+pub own_digest : (keys : List ℕ) (index : Index) (i : ℕ) → IsIndexOf keys index → i < length index.keys.items / 16 → digest_at keys i ≡ digest_at index.keys.items i
+own_digest keys index i is within = ap (λ (l : List ℕ). digest_at l i) is.front ∙ entry_stays index.keys.items is.rest i (omega (arith, within))
+
+pub some_map : {A : Type 0} (P Q : A → Type 0) (r : Option A) → ((x : A) → P x → Q x) → IfSome r P → IfSome r Q
+some_map P Q (Some x) gives was = gives x was
+some_map P Q None gives was = tt
+
+pub none_map : {A P Q : Type 0} (r : Option A) → (P → Q) → IfNone r P → IfNone r Q
+none_map (Some x) gives was = tt
+none_map None gives was = gives was
+
+-- so many keys it has then
+pub taken_size : {T E : Type 0} (r : Result T E) (own piece more : List ℕ) (from : ℕ) {count : ℕ} → count ≡ length more / 16 → more ≡ (if is_ok r then own ++ piece else own) → length own / 16 ≡ from → 16 * (length own / 16) ≡ length own
+    → OnOk r (count ≡ from + length piece / 16)
+taken_size (Ok done) own piece more from counts items at even = let long = ap (λ (l : List ℕ). length l) items ∙ length-append own piece in omega (arith, counts, long, at, even)
+taken_size (Err failed) own piece more from counts items at even = tt

@@ -1,5 +1,5 @@
 -- An index of keys, extended and gone along.
-use Rattle.std.proofs.Common.{◌≡◌, ◌≢◌, ℕ, ◌+◌, ◌*◌, ◌<◌, ◌≤◌, List, ◌++◌, length, min, take, drop, get_or, sym, ap, subst, ◌∙◌, arith, ⊎_elim, length-append, length-drop}
+use Rattle.std.proofs.Common.{◌≡◌, ◌≢◌, ℕ, ◌+◌, ◌*◌, ◌<◌, ◌≤◌, List, [], ◌++◌, length, min, take, drop, get_or, sym, ap, subst, ◌∙◌, arith, ⊎_elim, length-append, length-drop}
 use Rattle.std.proofs.lemmas.Bool.{cases_lt}
 use Rattle.std.proofs.lemmas.List.{drop-append-le, take-append-le}
 use Rattle.std.specs.Int.{w64, from_le_bytes}
@@ -64,3 +64,15 @@ reached_next keys heads before digest below next place earlier at earlier_is oth
     let last = are.last_before place inside in
     let same : get_or before place 0 ≡ earlier = let low = last.within in omega arith in
     subst (λ (n : ℕ). IsReached keys heads before digest below n) same (reached_before keys heads before digest below next place at other are was)
+
+-- of no keys there are none
+pub no_chains : (keys heads before : List ℕ) → heads ≡ [] → before ≡ [] → AreChains keys heads before
+no_chains keys heads before no_heads none =
+    let few = ap (λ (l : List ℕ). length l) no_heads in
+    let short = ap (λ (l : List ℕ). length l) none in
+    record {
+      within = omega (arith, short);
+      room = λ some. omega (arith, short, some);
+      last_of = λ head inside. absurd (omega (arith, few, inside));
+      last_before = λ i inside. absurd (omega (arith, short, inside));
+    }

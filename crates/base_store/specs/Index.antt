@@ -1,6 +1,6 @@
 -- An index of the keys of a base folder by the low bits of digests.
-use Rattle.std.specs.Prelude.{◌≡◌, ◌≢◌, ℕ, ◌+◌, ◌-◌, ◌/◌, ◌<◌, ◌≤◌, List, length, bit_and, slice_index}
-use Rattle.base_store.specs.Expected.{AreFound}
+use Rattle.std.specs.Prelude.{◌≡◌, ◌≢◌, ℕ, ◌+◌, ◌-◌, ◌*◌, ◌/◌, ◌<◌, ◌≤◌, List, ◌++◌, length, bit_and, if◌then◌else◌, slice_index}
+use Rattle.base_store.specs.Expected.{AreFound, is_expected}
 use Rattle.base_store.specs.Keys.{digest_at}
 use Rattle.base_store.specs.declared.index.Index.{Index}
 
@@ -21,11 +21,18 @@ pub record AreChains (keys heads before : List ℕ) : Type 0 where
   pub last_of : (head : ℕ) → head < length heads → IsLastUnder keys (length heads) head (length before) (slice_index heads head)
   pub last_before : (i : ℕ) → i < length before → IsLastUnder keys (length heads) (head_of (length heads) (digest_at keys i)) i (slice_index before i)
 
--- how many messages it has
+-- how many messages are chained
 abbrev pub count_of : Index → ℕ
 count_of index = length index.before.items
 
--- it has this many of the first messages of the keys, and those among them that were expected
+-- it has some first keys, chains of the first of these, and the messages among all that were expected
 pub record IsIndexOf (keys : List ℕ) (index : Index) : Type 0 where
-  pub chains : AreChains keys index.heads.items index.before.items
+  pub rest : List ℕ
+  pub front : keys ≡ index.keys.items ++ rest
+  pub even : 16 * (length index.keys.items / 16) ≡ length index.keys.items
+  pub chains : AreChains index.keys.items index.heads.items index.before.items
   pub found : AreFound keys index.expected
+
+-- how many first messages a look-up of the digest covers
+abbrev pub covered : Index → ℕ → ℕ
+covered index digest = if is_expected index.expected digest then index.expected.passed else length index.keys.items / 16

@@ -61,6 +61,13 @@ place_at keys i = from_le_bytes w64 (take 8 (drop (16 * i) keys))
 abbrev pub digest_at : List ℕ → ℕ → ℕ
 digest_at keys i = from_le_bytes w64 (take 8 (drop (16 * i + 8) keys))
 
+-- the piece has whole entries of the keys, from the message of this number on
+pub record IsPieceOf (keys : List ℕ) (from : ℕ) (piece : List ℕ) : Type 0 where
+  pub rest : List ℕ
+  pub within : 16 * from ≤ length keys
+  pub behind : drop (16 * from) keys ≡ piece ++ rest
+  pub even : 16 * (length piece / 16) ≡ length piece
+
 -- each message has its entry
 abbrev pub TellsEach : (List ℕ → ℕ) → List Filed → List ℕ → Type 0
 TellsEach digest base keys = (i : ℕ) (d : Filed) → i < length base → digest_at keys i ≡ digest (digested (slice_index_or base i d))

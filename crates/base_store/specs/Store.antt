@@ -34,6 +34,10 @@ pub record StoreState : Type 1 where
   pub is_own : List ℕ → Type 0
   -- a call that fails in the middle of a change takes it back
   pub undoes : Type 0
+  -- a number in its files does not count what it holds
+  pub is_full : Type 0
+  -- the numbers in its files count this message too
+  pub has_room : Filed → Type 0
   -- a crash now leaves the base that was committed last
   pub stays : Honestly disk (is_ready → (base : Base) → committed base → (c : Files) → disk.may_leave c → stands base c)
   -- and it is the base that is seen

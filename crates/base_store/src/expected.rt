@@ -1,9 +1,9 @@
 //! Digests that a run expects to look up: one pass over the keys finds the messages that have them.
-ghost use Rattle.std.specs.Prelude.{◌≡◌, ◌≢◌, ◌<◌, ◌≤◌, ◌+◌, ◌/◌, ◌%◌, ◌↔◌, ℕ, true, false, Contains, List, length, slice_index_or, IfNone, IfSome, IsTrue, OnOk};
-ghost use Rattle.base_store.specs.Expected.{AreFound, IsLastSeen, are_set, is_expected};
-ghost use Rattle.base_store.specs.Keys.{digest_at};
+ghost use Rattle.std.specs.Prelude.{◌≡◌, ◌≢◌, ◌<◌, ◌+◌, ◌/◌, ◌%◌, ◌^◌, ◌⊎◌, ℕ, true, false, Contains, List, length, slice_index_or, IfNone, IfSome, OnOk};
+ghost use Rattle.base_store.specs.Expected.{AreFound, IsLastSeen, IsPlaceIn, are_set, is_expected, place_in};
+ghost use Rattle.base_store.specs.Keys.{IsPieceOf, digest_at};
 
-use crate::entries::{ENTRY, digest_of, has_digest};
+use crate::entries::{ENTRY, digest_of};
 use std::alloc::{AllocError, Global};
 
 /// How many flags are in a table: one for each number of sixteen bits.
@@ -22,9 +22,16 @@ pub struct Expected {
     high: Vec<bool>,
     // The number of expected digests.
     digests: usize,
-    places: Vec<usize>,
+    places: Vec<Place>,
     // The number of messages that a pass has covered.
     passed: usize,
+}
+
+/// The number of a message, and the digest in its entry.
+#[derive(Clone, Copy)]
+pub struct Place {
+    number: usize,
+    digest: u64,
 }
 
 fn is_set(flags: &[bool], number: usize) -> bool
@@ -42,31 +49,30 @@ fn are_set(low: &[bool], high: &[bool], digest: u64) -> bool
     is_set(low, (digest % 65_536) as usize) && is_set(high, (digest / 65_536 % 65_536) as usize)
 }
 
-// Adds the places of messages from that number on with digests that have their flags set.
+// Adds the places of the messages in the piece with digests that have their flags set. The first
+// of them has that number.
 fn find_all(
     low: &[bool],
     high: &[bool],
-    keys: &[u8],
+    piece: &[u8],
     from: usize,
-    places: &mut Vec<usize>,
+    places: &mut Vec<Place>,
 ) -> Result<(), AllocError>
-    ensures kept { (j : ℕ) → Contains places.old.items j → Contains places.new.items j }
-    ensures found { OnOk result ((j : ℕ) → from ≤ j → j < length keys.now / 16 → are_set low.now high.now (digest_at keys.now j) ≡ true → Contains places.new.items j) }
+    requires { from + length piece.now / 16 < 2 ^ 64 }
+    ensures kept { (p : Place) → Contains places.old.items p → Contains places.new.items p }
+    ensures found { OnOk result ((i : ℕ) → i < length piece.now / 16 → are_set low.now high.now (digest_at piece.now i) ≡ true → Contains places.new.items (place_in piece.now from i)) }
+    ensures only { (p : Place) → Contains places.new.items p → Contains places.old.items p ⊎ IsPlaceIn piece.now from p }
 {
-    'entries: for i in from..keys.len() / ENTRY {
-        if are_set(low, high, digest_of(keys, i)) {
-            places.push(i)?;
+    'entries: for i in 0..piece.len() / ENTRY {
+        let digest = digest_of(piece, i);
+        if are_set(low, high, digest) {
+            places.push(Place {
+                number: from + i,
+                digest,
+            })?;
         }
     }
     Ok(())
-}
-
-// Whether the message of this number is from one on and below the other, and has the digest.
-fn is_later(keys: &[u8], digest: u64, place: usize, from: usize, below: usize) -> bool
-    requires { below ≤ length keys.now / 16 }
-    ensures { IsTrue result ↔ ((from ≤ place) × (place < below) × (digest_at keys.now place ≡ digest)) }
-{
-    from <= place && has_digest(keys, digest, place, below)
 }
 
 impl Expected {
@@ -112,6 +118,7 @@ impl Expected {
 
     fn set_flags(&mut self, alloc: Global, digest: u64) -> Result<(), AllocError>
         ensures passed { self.new.passed ≡ self.old.passed }
+        ensures places { self.new.places ≡ self.old.places }
     {
         if self.low.len() < FLAGS || self.high.len() < FLAGS {
             let low = vec![in alloc; false; FLAGS]?;
@@ -124,45 +131,45 @@ impl Expected {
         Ok(())
     }
 
-    /// Goes over the new messages of the keys. If memory is refused, the next call repeats it.
-    pub(crate) fn go_over(&mut self, keys: &[u8])
-        ensures found { AreFound keys.now self.old → AreFound keys.now self.new }
+    /// Goes over the next messages of the keys, of which the first has that number. If memory is
+    /// refused, the next call repeats it.
+    pub(crate) fn go_over(&mut self, from: usize, piece: &[u8]) -> Result<(), AllocError>
+        requires { from + length piece.now / 16 < 2 ^ 64 }
+        ensures found { (keys : List ℕ) → self.old.passed ≡ from → IsPieceOf keys from piece.now → AreFound keys self.old → AreFound keys self.new }
+        ensures passed { OnOk result (self.new.passed ≡ from + length piece.now / 16) }
+        ensures same { (digest : ℕ) → is_expected self.new digest ≡ is_expected self.old digest }
     {
-        let all = keys.len() / ENTRY;
-        if find_all(&self.low, &self.high, keys, self.passed, &mut self.places).is_ok() {
-            self.passed = all;
-        }
+        find_all(&self.low, &self.high, piece, from, &mut self.places)?;
+        self.passed = from + piece.len() / ENTRY;
+        Ok(())
     }
 
     // One step of `find_below`: of the places through number `i`, the greatest below the bound with
     // the digest, counted from 1. `last` is that of the places before it.
-    #[tactic(auto, using(crate::proofs::Found::seen_more, crate::proofs::Found::seen_same))]
-    fn seen_next(&self, keys: &[u8], digest: u64, below: usize, i: usize, last: usize) -> usize
-        requires within { below ≤ length keys.now / 16 }
-        requires inside { i < length self.now.places.items }
-        ensures { IsLastSeen keys.now self.now.places.items digest below i last → IsLastSeen keys.now self.now.places.items digest below (i + 1) result }
+    fn seen_next(&self, digest: u64, below: usize, i: usize, last: usize) -> usize
+        requires { i < length self.now.places.items }
+        ensures { IsLastSeen self.now.places.items digest below i last → IsLastSeen self.now.places.items digest below (i + 1) result }
     {
         let place = self.places[i];
-        if is_later(keys, digest, place, last, below) {
-            return place + 1;
+        if place.digest == digest && last <= place.number && place.number < below {
+            return place.number + 1;
         }
         last
     }
 
     /// The last message below that number with the digest, of those gone over. It looks at all
     /// places: they are few.
-    #[tactic(auto, using(crate::proofs::Found::beyond))]
-    pub(crate) fn find_below(&self, keys: &[u8], digest: u64, below: usize) -> Option<usize>
-        requires { below ≤ length keys.now / 16 }
-        ensures found { IfSome result (λ i. (i < below) × (digest_at keys.now i ≡ digest)) }
-        ensures last { AreFound keys.now self.now → is_expected self.now digest ≡ true
-            → IfSome result (λ i. (j : ℕ) → i < j → j < below → j < self.now.passed → digest_at keys.now j ≢ digest) }
-        ensures none { AreFound keys.now self.now → is_expected self.now digest ≡ true
-            → IfNone result ((j : ℕ) → j < below → j < self.now.passed → digest_at keys.now j ≢ digest) }
+    pub(crate) fn find_below(&self, digest: u64, below: usize) -> Option<usize>
+        ensures found { IfSome result (λ i. i < below) }
+        ensures digest { (keys : List ℕ) → AreFound keys self.now → IfSome result (λ i. digest_at keys i ≡ digest) }
+        ensures last { (keys : List ℕ) → AreFound keys self.now → is_expected self.now digest ≡ true
+            → IfSome result (λ i. (j : ℕ) → i < j → j < below → j < self.now.passed → digest_at keys j ≢ digest) }
+        ensures none { (keys : List ℕ) → AreFound keys self.now → is_expected self.now digest ≡ true
+            → IfNone result ((j : ℕ) → j < below → j < self.now.passed → digest_at keys j ≢ digest) }
     {
         let mut last = 0;
         'places: for i in 0..self.places.len() {
-            last = self.seen_next(keys, digest, below, i, last);
+            last = self.seen_next(digest, below, i, last);
         }
         if last == 0 {
             return None;

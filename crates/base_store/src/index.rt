@@ -1,8 +1,7 @@
 //! An index of the keys: a look-up goes only to the messages with a digest.
-ghost use Rattle.std.specs.Prelude.{◌≡◌, ◌≢◌, ◌<◌, ◌≤◌, ◌+◌, ◌/◌, ◌⊎◌, ℕ, true, List, length, min, slice_index, IfSome, IfNone, OnOk};
-ghost use Rattle.base_store.specs.Expected.{is_expected};
-ghost use Rattle.base_store.specs.Keys.{digest_at};
-ghost use Rattle.base_store.specs.Index.{AreChains, IsIndexOf, count_of, head_of};
+ghost use Rattle.std.specs.Prelude.{◌≡◌, ◌≢◌, ◌<◌, ◌≤◌, ◌+◌, ◌/◌, ◌^◌, ◌⊎◌, ℕ, List, length, min, slice_index, IfSome, IfNone, OnOk};
+ghost use Rattle.base_store.specs.Keys.{IsPieceOf, digest_at};
+ghost use Rattle.base_store.specs.Index.{AreChains, IsIndexOf, count_of, covered, head_of};
 
 use crate::entries::{ENTRY, digest_of, has_digest, last_from};
 use crate::expected::Expected;
@@ -11,16 +10,19 @@ use std::alloc::{AllocError, Global};
 /// How many messages an index has at most: each, counted from 1, is a number of four bytes.
 const MOST: usize = 4_294_967_294;
 
-/// How many look-ups pass over the keys before an index is made of them: a posting has no more.
+/// How many look-ups pass over the keys before chains are made of them: a posting has no more.
 const PASSES: u8 = 2;
 
 /// For the low bits of digests the last message with them, and for each message the previous one
-/// with the same bits: counted from 1, and 0 for none.
+/// with the same bits: counted from 1, and 0 for none. These chains are in memory, and the keys
+/// that they are made of: some 22 to 24 bytes a message.
 ///
-/// Keys added since the last update are not indexed; a look-up goes over them. Expected digests
-/// need no index: one pass finds the messages that have them.
+/// Expected digests need no chains: one pass finds the messages that have them, and the keys that
+/// were gone over are not kept. The first look-ups of other digests are made so too.
 #[derive(Drop)]
 pub struct Index {
+    // The first keys, once there are chains.
+    keys: Vec<u8>,
     heads: Vec<u32>,
     before: Vec<u32>,
     expected: Expected,
@@ -42,10 +44,15 @@ impl Index {
         ensures index { (keys : List ℕ) → IsIndexOf keys result }
         ensures empty { count_of result ≡ 0 }
     {
+        let keys = Vec::new(alloc);
+        let heads = Vec::new(alloc);
+        let before = Vec::new(alloc);
+        let expected = Expected::new(alloc);
         Index {
-            heads: Vec::new(alloc),
-            before: Vec::new(alloc),
-            expected: Expected::new(alloc),
+            keys,
+            heads,
+            before,
+            expected,
             passes: 0,
         }
     }
@@ -59,7 +66,8 @@ impl Index {
 
     // Makes a new index with more heads and no message, if it has too few for this many messages.
     fn make_room(&mut self, alloc: Global, all: usize) -> Result<(), AllocError>
-        ensures index { (keys : List ℕ) → IsIndexOf keys self.old → IsIndexOf keys self.new }
+        ensures chains { AreChains self.old.keys.items self.old.heads.items self.old.before.items → AreChains self.new.keys.items self.new.heads.items self.new.before.items }
+        ensures keys { self.new.keys ≡ self.old.keys }
         ensures expected { self.new.expected ≡ self.old.expected }
         ensures room { OnOk result (0 < length self.new.heads.items) }
     {
@@ -71,50 +79,86 @@ impl Index {
         Ok(())
     }
 
-    // Indexes the message of this number, the next one. If memory is refused, nothing has changed.
-    fn take_in(&mut self, keys: &[u8], number: usize) -> Result<(), AllocError>
-        requires within { number < length keys.now / 16 }
+    // Chains the message of this number, the next one. If memory is refused, nothing has changed.
+    fn chain_next(&mut self, number: usize) -> Result<(), AllocError>
+        requires within { number < length self.old.keys.items / 16 }
         requires few { number < 4294967294 }
         requires next { number ≡ count_of self.old }
         requires room { 0 < length self.old.heads.items }
-        ensures chains { AreChains keys.now self.old.heads.items self.old.before.items → AreChains keys.now self.new.heads.items self.new.before.items }
+        ensures chains { AreChains self.old.keys.items self.old.heads.items self.old.before.items → AreChains self.new.keys.items self.new.heads.items self.new.before.items }
+        ensures keys { self.new.keys ≡ self.old.keys }
         ensures expected { self.new.expected ≡ self.old.expected }
         ensures count { OnOk result (count_of self.new ≡ number + 1) }
         ensures heads { length self.new.heads.items ≡ length self.old.heads.items }
     {
-        let head = head_of(self.heads.len(), digest_of(keys, number));
+        let head = head_of(self.heads.len(), digest_of(&self.keys, number));
         let last = self.heads[head];
         self.before.push(last)?;
         self.heads[head] = number as u32 + 1;
         Ok(())
     }
 
-    // Takes in the messages of the keys that it has not yet, up to the number that an index may have. Where memory is
-    // refused, it is an index of these keys still.
-    fn follow(&mut self, alloc: Global, keys: &[u8]) -> Result<(), AllocError>
-        ensures index { IsIndexOf keys.now self.old → IsIndexOf keys.now self.new }
-        ensures all { OnOk result (min (length keys.now / 16) 4294967294 ≤ count_of self.new) }
+    // Chains the messages of its keys that are not yet, up to the number that chains may have. If
+    // memory is refused, these are chains still.
+    fn follow(&mut self, alloc: Global) -> Result<(), AllocError>
+        ensures chains { AreChains self.old.keys.items self.old.heads.items self.old.before.items → AreChains self.new.keys.items self.new.heads.items self.new.before.items }
+        ensures keys { self.new.keys ≡ self.old.keys }
+        ensures expected { self.new.expected ≡ self.old.expected }
+        ensures all { OnOk result (min (length self.new.keys.items / 16) 4294967294 ≤ count_of self.new) }
     {
-        let all = (keys.len() / ENTRY).min(MOST);
+        let all = (self.keys.len() / ENTRY).min(MOST);
         self.make_room(alloc, all)?;
         'entries: for i in self.before.len()..all {
-            self.take_in(keys, i)?;
+            self.chain_next(i)?;
         }
         Ok(())
     }
 
-    /// Call it before each look-up of a digest. New keys are searched at once for all expected
-    /// digests. For other digests they are indexed from the third look-up on. If memory is refused,
-    /// look-ups go over the keys that are not indexed.
-    pub fn prepare(&mut self, alloc: Global, keys: &[u8], digest: u64)
-        ensures { IsIndexOf keys.now self.old → IsIndexOf keys.now self.new }
+    /// Call it before a look-up of a digest, and then `take_in` for the keys that are not covered. An
+    /// unexpected digest is expected from then on, if it is one of the first two.
+    pub fn begin(&mut self, alloc: Global, digest: u64)
+        ensures { (keys : List ℕ) → IsIndexOf keys self.old → IsIndexOf keys self.new }
+    {
+        if self.passes < PASSES && !self.expected.has(digest) {
+            self.passes += 1;
+            self.expected.add(alloc, digest);
+        }
+    }
+
+    /// How many first messages a look-up of the digest covers.
+    pub fn covered(&self, digest: u64) -> usize
+        ensures { result ≡ covered self.now digest }
     {
         if self.expected.has(digest) {
-            self.expected.go_over(keys);
-        } else if self.passes < PASSES {
-            self.passes += 1;
+            self.expected.passed()
         } else {
-            let _followed = self.follow(alloc, keys);
+            self.keys.len() / ENTRY
+        }
+    }
+
+    /// Takes in the next keys, for look-ups of the digest: those from the first message on that is
+    /// not covered, which has that number. If memory is refused, it is an index still.
+    pub fn take_in(&mut self, digest: u64, from: usize, piece: &[u8]) -> Result<(), AllocError>
+        requires { from + length piece.now / 16 < 2 ^ 64 }
+        ensures index { (keys : List ℕ) → covered self.old digest ≡ from → IsPieceOf keys from piece.now → IsIndexOf keys self.old → IsIndexOf keys self.new }
+        ensures covered { (keys : List ℕ) → covered self.old digest ≡ from → IsPieceOf keys from piece.now → IsIndexOf keys self.old
+            → OnOk result (covered self.new digest ≡ from + length piece.now / 16) }
+    {
+        if self.expected.has(digest) {
+            self.expected.go_over(from, piece)
+        } else {
+            self.keys.extend_from_slice(piece)
+        }
+    }
+
+    /// Chains the keys that were taken in, unless the digest is expected. If memory is refused,
+    /// look-ups go over those that are not chained.
+    pub fn chain(&mut self, alloc: Global, digest: u64)
+        ensures index { (keys : List ℕ) → IsIndexOf keys self.old → IsIndexOf keys self.new }
+        ensures covered { (other : ℕ) → covered self.new other ≡ covered self.old other }
+    {
+        if !self.expected.has(digest) {
+            let _followed = self.follow(alloc);
         }
     }
 
@@ -130,19 +174,21 @@ impl Index {
         Some((place, (self.before[place] as usize).min(place)))
     }
 
-    // The last indexed message below that number with the digest.
-    fn find_indexed(&self, keys: &[u8], digest: u64, below: usize) -> Option<usize>
-        requires { below ≤ length keys.now / 16 }
-        ensures found { IfSome result (λ i. (i < below) × (digest_at keys.now i ≡ digest)) }
-        ensures last { IsIndexOf keys.now self.now → IfSome result (λ i. (j : ℕ) → i < j → j < below → j < count_of self.now → digest_at keys.now j ≢ digest) }
-        ensures none { IsIndexOf keys.now self.now → IfNone result ((j : ℕ) → j < below → j < count_of self.now → digest_at keys.now j ≢ digest) }
+    // The last chained message below that number with the digest.
+    fn find_indexed(&self, digest: u64, below: usize) -> Option<usize>
+        requires { below ≤ length self.now.keys.items / 16 }
+        ensures found { IfSome result (λ i. (i < below) × (digest_at self.now.keys.items i ≡ digest)) }
+        ensures last { AreChains self.now.keys.items self.now.heads.items self.now.before.items
+            → IfSome result (λ i. (j : ℕ) → i < j → j < below → j < count_of self.now → digest_at self.now.keys.items j ≢ digest) }
+        ensures none { AreChains self.now.keys.items self.now.heads.items self.now.before.items
+            → IfNone result ((j : ℕ) → j < below → j < count_of self.now → digest_at self.now.keys.items j ≢ digest) }
     {
         if self.heads.is_empty() {
             return None;
         }
         let mut next = self.heads[head_of(self.heads.len(), digest)] as usize;
         'chain: while let Some((place, earlier)) = self.link(next) {
-            if has_digest(keys, digest, place, below) {
+            if has_digest(&self.keys, digest, place, below) {
                 return Some(place);
             }
             next = earlier;
@@ -150,28 +196,33 @@ impl Index {
         None
     }
 
-    /// The last message below that number with the digest, among all of the keys. Its key may
-    /// differ: compare whole keys.
-    pub fn find_below(&self, keys: &[u8], digest: u64, below: usize) -> Option<usize>
-        ensures found { IfSome result (λ i. (i < below) × (i < length keys.now / 16) × (digest_at keys.now i ≡ digest)) }
-        ensures last { IsIndexOf keys.now self.now → IfSome result (λ i. (j : ℕ) → i < j → j < below → j < length keys.now / 16 → digest_at keys.now j ≢ digest) }
-        ensures none { IsIndexOf keys.now self.now → IfNone result ((j : ℕ) → j < below → j < length keys.now / 16 → digest_at keys.now j ≢ digest) }
+    // The last message below that number with the digest, among its own keys.
+    fn find_kept(&self, digest: u64, below: usize) -> Option<usize>
+        ensures found { IfSome result (λ i. (i < below) × (i < length self.now.keys.items / 16) × (digest_at self.now.keys.items i ≡ digest)) }
+        ensures last { AreChains self.now.keys.items self.now.heads.items self.now.before.items
+            → IfSome result (λ i. (j : ℕ) → i < j → j < below → j < length self.now.keys.items / 16 → digest_at self.now.keys.items j ≢ digest) }
+        ensures none { AreChains self.now.keys.items self.now.heads.items self.now.before.items
+            → IfNone result ((j : ℕ) → j < below → j < length self.now.keys.items / 16 → digest_at self.now.keys.items j ≢ digest) }
     {
-        let end = below.min(keys.len() / ENTRY);
-        let expected = self.expected.has(digest);
-        let had = if expected {
-            self.expected.passed()
-        } else {
-            self.before.len()
-        };
-        let added = last_from(keys, digest, had, end);
+        let end = below.min(self.keys.len() / ENTRY);
+        let added = last_from(&self.keys, digest, self.before.len(), end);
         if added.is_some() {
             return added;
         }
-        if expected {
-            self.expected.find_below(keys, digest, end)
-        } else {
-            self.find_indexed(keys, digest, end)
+        self.find_indexed(digest, end)
+    }
+
+    /// The last message below that number with the digest, of those covered. Its key may differ:
+    /// compare whole keys.
+    pub fn find_below(&self, digest: u64, below: usize) -> Option<usize>
+        ensures found { IfSome result (λ i. i < below) }
+        ensures digest { (keys : List ℕ) → IsIndexOf keys self.now → IfSome result (λ i. digest_at keys i ≡ digest) }
+        ensures last { (keys : List ℕ) → IsIndexOf keys self.now → IfSome result (λ i. (j : ℕ) → i < j → j < below → j < covered self.now digest → digest_at keys j ≢ digest) }
+        ensures none { (keys : List ℕ) → IsIndexOf keys self.now → IfNone result ((j : ℕ) → j < below → j < covered self.now digest → digest_at keys j ≢ digest) }
+    {
+        if self.expected.has(digest) {
+            return self.expected.find_below(digest, below);
         }
+        self.find_kept(digest, below)
     }
 }

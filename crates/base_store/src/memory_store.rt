@@ -50,6 +50,8 @@ impl<S: BuildHasher> Store for MemoryStore<S> {
       stands = λ base c. Unit {0};
       is_own = λ m. ⊥;
       undoes = Unit {0};
+      is_full = ⊥;
+      has_room = λ m. Unit {0};
       stays = λ honest ready base is c left. tt;
       shown = λ honest ready base is. tt;
     } };

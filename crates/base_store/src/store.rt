@@ -1,5 +1,5 @@
 //! Messages and a cursor, wherever they are kept.
-ghost use Rattle.std.specs.Prelude.{◌≡◌, ◌<◌, ℕ, not, false, length, take, count_by, slice_get, option_copied, IfOk, OnOk, OnErr};
+ghost use Rattle.std.specs.Prelude.{◌≡◌, ◌<◌, ℕ, not, false, length, take, count_by, slice_get, option_copied, IfOk, IsErrOf, OnOk, OnErr};
 ghost use Rattle.std.specs.List.{list_any};
 ghost use Rattle.disk_io.specs.Disk.{Honestly};
 ghost use Rattle.disk_io.specs.Runs.{ChangesNothing};
@@ -43,6 +43,7 @@ pub trait Store {
         requires { (state self.old).is_ready }
         ensures found { Honestly (state self.new).disk ((base : Base) → (state self.old).keeps base → IfOk result (λ found. found ≡ is_known base.messages key.now)) }
         ensures looks { LooksOn (state self.old) (state self.new) }
+        ensures many { IsErrOf result StoreError.TooMany → (state self.old).is_full }
         ensures cause { HasStoreCause (state self.old) (state self.new) (failures self.old) (failures self.new) result };
 
     /// Whether a message has the id, in any area.
@@ -50,6 +51,7 @@ pub trait Store {
         requires { (state self.old).is_ready }
         ensures found { Honestly (state self.new).disk ((base : Base) → (state self.old).keeps base → IfOk result (λ found. found ≡ list_any (has_id msgid.now) base.messages)) }
         ensures looks { LooksOn (state self.old) (state self.new) }
+        ensures many { IsErrOf result StoreError.TooMany → (state self.old).is_full }
         ensures cause { HasStoreCause (state self.old) (state self.new) (failures self.old) (failures self.new) result };
 
     /// Makes the message of this number the current one. Numbers count from 0 in order of filing.
@@ -58,6 +60,7 @@ pub trait Store {
         requires within { Honestly (state self.old).disk ((base : Base) → (state self.old).keeps base → place < length base.messages) }
         ensures fetched { Honestly (state self.new).disk ((base : Base) → (state self.old).keeps base → OnOk result ((state self.new).at_hand ≡ slice_get base.messages place)) }
         ensures looks { LooksOn (state self.old) (state self.new) }
+        ensures many { IsErrOf result StoreError.TooMany → (state self.old).is_full }
         ensures cause { HasStoreCause (state self.old) (state self.new) (failures self.old) (failures self.new) result };
 
     /// The current message; `None` before the first fetch.
@@ -73,6 +76,7 @@ pub trait Store {
         ensures goes_on { OnOk result (GoesOn (state self.old) (state self.new)) }
         ensures undone { OnErr result (Undoes (state self.old) (state self.new)) }
         ensures commits { CommitsNothing (state self.old) (state self.new) }
+        ensures many { IsErrOf result StoreError.TooMany → (state self.old).has_room message → ⊥ }
         ensures cause { HasStoreCause (state self.old) (state self.new) (failures self.old) (failures self.new) result };
 
     /// Moves the cursor to the end: all messages are scanned. Nothing is written before a commit.
@@ -83,14 +87,17 @@ pub trait Store {
         ensures undone { OnErr result (Undoes (state self.old) (state self.new)) }
         ensures quiet { ChangesNothing (state self.old).disk (state self.new).disk }
         ensures commits { CommitsNothing (state self.old) (state self.new) }
+        ensures few { IsErrOf result StoreError.TooMany → ⊥ }
         ensures cause { HasStoreCause (state self.old) (state self.new) (failures self.old) (failures self.new) result };
 
     /// Commits the held base. At `Ok` each crash leaves it; until then, it or the base that was
-    /// committed before.
+    /// committed before. A base of too many bytes is not committed.
     fn commit(&mut self) -> Result<(), StoreError>
         requires { (state self.old).is_ready }
         ensures committed { OnOk result (Commits (state self.old) (state self.new)) }
         ensures either { MayCommit (state self.old) (state self.new) }
+        ensures many { IsErrOf result StoreError.TooMany → (state self.old).is_full }
+        ensures refused { IsErrOf result StoreError.TooMany → CommitsNothing (state self.old) (state self.new) }
         ensures cause { HasStoreCause (state self.old) (state self.new) (failures self.old) (failures self.new) result };
 }
 

@@ -118,7 +118,7 @@ module _ (keyed : ℕ → ℕ → List ℕ → ℕ) (f : Folder) (alone : Option
               record {
                 names = was.names;
                 staged = staged_same (path_of f) d e run f.end f.told was.staged;
-                keys = was.keys ∙ sym (ap (λ (b : BaseBytes). b.keys) held);
+                keys = was.keys;
               };
         };
         keeps = λ base is. subst (λ (b : BaseBytes). HoldsBase keyed b base) (sym held) is;

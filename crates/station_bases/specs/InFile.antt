@@ -26,6 +26,15 @@ pub record IsInFile (disk : DiskState) (path : List ℕ) (base : Base) : Type 0 
 abbrev pub IsOfFile : List ℕ → List ℕ → List ℕ → Type 0
 IsOfFile path own m = (m ≡ staging_path path own) ⊎ (m ≡ path)
 
+-- Four bytes count the messages with one more, and the bytes of its text.
+pub record HasRoomFor (base : Base) (message : Filed) : Type 0 where
+  pub messages : length base.messages + 1 < 2 ^ 32
+  pub text : is_short_enough (stored_as false message) ≡ true
+
+-- four bytes do not count its messages, or the bytes of a text
+abbrev pub IsUncounted : Base → Type 0
+IsUncounted base = is_countable base.messages base.cursor ≡ false
+
 -- A base in memory, with the file in which it is committed.
 abbrev pub file_state : DiskState → List ℕ → List ℕ → Base → ℕ → StoreState
 file_state disk path own base place = record {
@@ -37,6 +46,8 @@ file_state disk path own base place = record {
   stands = λ b c. StandsInFile path b c;
   is_own = IsOfFile path own;
   undoes = Unit {0};
+  is_full = IsUncounted base;
+  has_room = HasRoomFor base;
   stays = λ honest ready b is c left. is.left c left;
   shown = λ honest ready b is. is.seen;
 }
@@ -44,15 +55,6 @@ file_state disk path own base place = record {
 -- No memory, or too many.
 abbrev pub IsUnsaved : StoreError → Type 0
 IsUnsaved why = (why ≡ error.Memory) ⊎ (why ≡ error.TooMany)
-
--- Four bytes count the messages with one more, and the bytes of its text.
-pub record HasRoomFor (base : Base) (message : Filed) : Type 0 where
-  pub messages : length base.messages + 1 < 2 ^ 32
-  pub text : is_short_enough (stored_as false message) ≡ true
-
--- four bytes do not count its messages, or the bytes of a text
-abbrev pub IsUncounted : Base → Type 0
-IsUncounted base = is_countable base.messages base.cursor ≡ false
 
 -- The path has its old file or a file of this base. The staging path may have anything, and all else is unchanged.
 pub record PutsBase (path own : List ℕ) (base : Base) (before after : Files) : Type 0 where

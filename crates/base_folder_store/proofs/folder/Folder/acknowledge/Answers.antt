@@ -1,6 +1,6 @@
-use Rattle.std.proofs.Common.{ℕ, List, subst}
+use Rattle.std.proofs.Common.{ℕ, List, sym, subst}
 use Rattle.disk_io.specs.Runs.{LeavesOnly}
-use Rattle.base_log.specs.Moments.{IsBeforeOrAfter, KeepsOutside, LeavesOutside}
+use Rattle.base_log.specs.Moments.{IsBeforeOrAfter, KeepsOutside, LeavesOutside, StandsAlone}
 use Rattle.base_log.proofs.Gates.{outside_twice}
 use Rattle.base_log.proofs.LeftOutside.{left_twice}
 use Rattle.base_folder_store.specs.Opened.{committed_by, held_by, path_of}
@@ -39,3 +39,13 @@ returns-clause-leaves g c =
     let d1 = g.D.Disk.state c.write_out.new.disk in
     let d2 = g.D.Disk.state c.tell.new.disk in
     left_twice (path_of c.args.self.now) d0 d1 d2 c.write_out.ensures.outside.named c.write_out.ensures.leaves (subst (λ (p : List ℕ). LeavesOutside p d1 d2) c.write_out.ensures.path c.tell.ensures.leaves)
+
+pub returns-in_err-write_out-clause-refused : goal.returns-in_err-write_out-clause-refused
+returns-in_err-write_out-clause-refused g c honest is = c.write_out.ensures.any_moment honest
+
+pub returns-clause-refused : goal.returns-clause-refused
+returns-clause-refused g c honest is =
+    let f = c.args.self.now in
+    let d = g.D.Disk.state c.args.disk.now in
+    let same = c.tell.ensures.refused is in
+    subst (λ x. LeavesOnly d (g.D.Disk.state x) (StandsAlone (path_of f) d (committed_by d f))) (sym same) (c.write_out.ensures.any_moment (c.tell.ensures.outside.honest honest))

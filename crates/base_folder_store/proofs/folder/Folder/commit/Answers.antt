@@ -8,7 +8,7 @@ use Rattle.base_log.proofs.LeftOutside.{left_twice}
 use Rattle.base_folder_store.specs.Left.{AreGone}
 use Rattle.base_folder_store.specs.Opened.{committed_by, held_by, path_of}
 use Rattle.base_folder_store.proofs.Beside.{after_commit, rest_held, rest_open}
-use Rattle.base_folder_store.proofs.Causes.{on_ok_from}
+use Rattle.base_folder_store.proofs.Causes.{handed_on, on_ok_from}
 use Rattle.base_folder_store.proofs.folder.Folder.commit.Goals as goal
 
 pub returns-clause-opened : goal.returns-clause-opened
@@ -17,7 +17,7 @@ returns-clause-opened g c honest =
     let d1 = g.D.Disk.state c.acknowledge.new.disk in
     let d2 = g.D.Disk.state c.remove_former.new.disk in
     let f = c.acknowledge.new.self in
-    on_ok_weaker {P = IsAtRest d2 (path_of f) f.end} c.remove_former.result (λ rest. rest_open d1 d2 f (c.in_ok-acknowledge.ensures.opened h1) rest c.in_ok-acknowledge.ensures.told c.remove_former.ensures.same c.in_ok-acknowledge.ensures.written)
+    on_ok_weaker {P = IsAtRest d2 (path_of f) f.end} c.remove_former.result (λ rest. rest_open d1 d2 f (c.in_ok-acknowledge.ensures.opened h1) rest c.in_ok-acknowledge.ensures.told)
     (c.remove_former.ensures.settled honest)
 
 pub returns-clause-same : goal.returns-clause-same
@@ -77,3 +77,9 @@ returns-clause-leaves g c =
     let d1 = g.D.Disk.state c.acknowledge.new.disk in
     let d2 = g.D.Disk.state c.remove_former.new.disk in
     left_twice (path_of c.args.self.now) d0 d1 d2 c.acknowledge.ensures.outside.named c.acknowledge.ensures.leaves (subst (λ (p : List ℕ). LeavesOutside p d1 d2) c.acknowledge.ensures.path c.remove_former.ensures.leaves)
+
+pub returns-in_err-acknowledge-clause-refused : goal.returns-in_err-acknowledge-clause-refused
+returns-in_err-acknowledge-clause-refused g c honest is = c.in_err-acknowledge.ensures.refused honest (handed_on _ _ c.from_residual.result c.from_residual.ensures.1 is)
+
+pub returns-clause-refused : goal.returns-clause-refused
+returns-clause-refused g c honest is = absurd (c.remove_former.ensures.few is)

@@ -1,15 +1,13 @@
-use Rattle.std.proofs.Common.{◌≡◌, List, ℕ, take, refl, sym, ap, subst, ◌∙◌}
-use Rattle.disk_io.specs.Disk.{bytes_in}
+use Rattle.std.proofs.Common.{◌≡◌, List, ℕ, refl, sym, subst}
 use Rattle.disk_io.specs.Runs.{LeavesOnly}
-use Rattle.disk_io.proofs.Moments.{then_nothing}
 use Rattle.base_log.specs.AtRest.{IsAtRest}
 use Rattle.base_log.specs.Moments.{KeepsOutside}
 use Rattle.base_log.specs.Opening.{AreAlone, StandsOrWasLeft}
 use Rattle.base_log.specs.Reading.{IsLogIn}
 use Rattle.base_log.specs.Standing.{StandsFor, base_at}
-use Rattle.base_log.proofs.Gates.{outside_quiet, outside_twice}
+use Rattle.base_store.proofs.Runs.{quiet_disk}
 use Rattle.base_folder_store.specs.declared.folder.Folder.{Folder}
-use Rattle.base_folder_store.proofs.Bases.{keys_there, opened_bytes, opened_is}
+use Rattle.base_folder_store.proofs.Bases.{opened_bytes, opened_is}
 use Rattle.base_folder_store.proofs.folder.Folder.open.Goals as goal
 
 pub open-requires-clause-alone : goal.open-requires-clause-alone
@@ -32,58 +30,30 @@ pub returns-in_err-open-clause-outside : goal.returns-in_err-open-clause-outside
 returns-in_err-open-clause-outside g c =
     subst (λ (p : List ℕ). KeepsOutside p (g.D.Disk.state c.args.disk.now) (g.D.Disk.state c.open.new.disk)) c.in_ok-names.ensures.folder c.open.ensures.outside
 
-pub returns-in_err-keys-clause-any_moment : goal.returns-in_err-keys-clause-any_moment
-returns-in_err-keys-clause-any_moment g c honest =
-    let d0 = g.D.Disk.state c.args.disk.now in
-    let d1 = g.D.Disk.state c.open.new.disk in
-    let path = c.args.path.now in
-    let told = c.args.log.now.end.told in
-    then_nothing d0 d1 (g.D.Disk.state c.read_part.new.disk) (StandsOrWasLeft path d0 (base_at d0 path told))
-    (subst (λ (p : List ℕ). LeavesOnly d0 d1 (StandsOrWasLeft p d0 (base_at d0 p told))) c.in_ok-names.ensures.folder (c.open.ensures.any_moment (c.read_part.ensures.quiet.honest honest))) c.read_part.ensures.quiet
-
-pub returns-in_err-keys-clause-outside : goal.returns-in_err-keys-clause-outside
-returns-in_err-keys-clause-outside g c =
-    let d0 = g.D.Disk.state c.args.disk.now in
-    let d1 = g.D.Disk.state c.open.new.disk in
-    let d2 = g.D.Disk.state c.read_part.new.disk in
-    outside_twice c.args.path.now d0 d1 d2 (subst (λ (p : List ℕ). KeepsOutside p d0 d1) c.in_ok-names.ensures.folder c.open.ensures.outside) (outside_quiet c.args.path.now d1 d2 c.read_part.ensures.quiet)
-
 pub returns-clause-opened : goal.returns-clause-opened
 returns-clause-opened g c honest =
-    let h1 = c.read_part.ensures.quiet.honest honest in
     let d1 = g.D.Disk.state c.open.new.disk in
     let end = c.args.log.now.end in
-    let told = end.told in
-    let keys = c.in_ok-keys.keys.items in
     let at = c.in_ok-names.ensures.folder in
-    let bytes : keys ≡ take told.keys (bytes_in (d1.seen c.in_ok-names.names.keys.items)) = (c.in_ok-keys.ensures.bytes honest) ∙ ap (λ (m : List ℕ). take told.keys (bytes_in (d1.seen m))) c.deref.ensures.value in
-    let folder : Folder = record { names = c.in_ok-names.names; end = end; told = told; keys = c.in_ok-keys.keys; waiting = c.new-waiting.result } in
-    opened_is d1 (g.D.Disk.state c.read_part.new.disk) c.args.path.now end folder c.read_part.ensures.quiet
-    (subst (λ (p : List ℕ). IsAtRest d1 p end) at (c.in_ok-open.ensures.settled h1)) at c.in_ok-names.ensures.names refl refl
-    (keys_there d1 c.args.path.now told c.in_ok-names.names keys at c.in_ok-names.ensures.names bytes) (record { messages = c.new-waiting.ensures.messages; keys = c.new-waiting.ensures.keys })
+    let folder : Folder = record { names = c.in_ok-names.names; end = end; told = end.told; keys = end.told.keys; waiting = c.new-waiting.result } in
+    opened_is d1 d1 c.args.path.now end folder (quiet_disk d1)
+    (subst (λ (p : List ℕ). IsAtRest d1 p end) at (c.in_ok-open.ensures.settled honest)) at c.in_ok-names.ensures.names refl refl refl
+    (record { messages = c.new-waiting.ensures.messages; keys = c.new-waiting.ensures.keys })
 
 pub returns-clause-found : goal.returns-clause-found
 returns-clause-found g c honest =
-    let h1 = c.read_part.ensures.quiet.honest honest in
     let d0 = g.D.Disk.state c.args.disk.now in
     let d1 = g.D.Disk.state c.open.new.disk in
     let told = c.args.log.now.end.told in
-    let folder : Folder = record { names = c.in_ok-names.names; end = c.args.log.now.end; told = told; keys = c.in_ok-keys.keys; waiting = c.new-waiting.result } in
-    opened_bytes d1 (g.D.Disk.state c.read_part.new.disk) c.args.path.now folder told (base_at d0 c.args.path.now told) c.read_part.ensures.quiet c.in_ok-names.ensures.folder refl
-    (subst (λ (p : List ℕ). base_at d1 p told ≡ base_at d0 p told) c.in_ok-names.ensures.folder (c.in_ok-open.ensures.same h1)) (record { messages = c.new-waiting.ensures.messages; keys = c.new-waiting.ensures.keys })
+    let folder : Folder = record { names = c.in_ok-names.names; end = c.args.log.now.end; told = told; keys = told.keys; waiting = c.new-waiting.result } in
+    opened_bytes d1 d1 c.args.path.now folder told (base_at d0 c.args.path.now told) (quiet_disk d1) c.in_ok-names.ensures.folder refl
+    (subst (λ (p : List ℕ). base_at d1 p told ≡ base_at d0 p told) c.in_ok-names.ensures.folder (c.in_ok-open.ensures.same honest)) (record { messages = c.new-waiting.ensures.messages; keys = c.new-waiting.ensures.keys })
 
 pub returns-clause-any_moment : goal.returns-clause-any_moment
 returns-clause-any_moment g c honest =
-    let d0 = g.D.Disk.state c.args.disk.now in
-    let d1 = g.D.Disk.state c.open.new.disk in
-    let path = c.args.path.now in
-    let told = c.args.log.now.end.told in
-    then_nothing d0 d1 (g.D.Disk.state c.read_part.new.disk) (StandsOrWasLeft path d0 (base_at d0 path told))
-    (subst (λ (p : List ℕ). LeavesOnly d0 d1 (StandsOrWasLeft p d0 (base_at d0 p told))) c.in_ok-names.ensures.folder (c.open.ensures.any_moment (c.read_part.ensures.quiet.honest honest))) c.read_part.ensures.quiet
+    let d = g.D.Disk.state c.args.disk.now in
+    subst (λ (p : List ℕ). LeavesOnly d (g.D.Disk.state c.open.new.disk) (StandsOrWasLeft p d (base_at d p c.args.log.now.end.told))) c.in_ok-names.ensures.folder (c.open.ensures.any_moment honest)
 
 pub returns-clause-outside : goal.returns-clause-outside
 returns-clause-outside g c =
-    let d0 = g.D.Disk.state c.args.disk.now in
-    let d1 = g.D.Disk.state c.open.new.disk in
-    let d2 = g.D.Disk.state c.read_part.new.disk in
-    outside_twice c.args.path.now d0 d1 d2 (subst (λ (p : List ℕ). KeepsOutside p d0 d1) c.in_ok-names.ensures.folder c.open.ensures.outside) (outside_quiet c.args.path.now d1 d2 c.read_part.ensures.quiet)
+    subst (λ (p : List ℕ). KeepsOutside p (g.D.Disk.state c.args.disk.now) (g.D.Disk.state c.open.new.disk)) c.in_ok-names.ensures.folder c.open.ensures.outside

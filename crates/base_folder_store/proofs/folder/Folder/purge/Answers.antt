@@ -16,7 +16,7 @@ use Rattle.base_folder_store.proofs.folder.Folder.purge.Goals as goal
 
 pub anew-requires-clause-readable : goal.anew-requires-clause-readable
 anew-requires-clause-readable g c honest =
-    rest_readable (g.D.Disk.state c.commit.new.disk) c.commit.new.self (c.in_ok-commit.ensures.opened honest) (c.in_ok-commit.ensures.settled honest) c.in_ok-commit.ensures.told c.in_ok-commit.ensures.written
+    rest_readable (g.D.Disk.state c.commit.new.disk) c.commit.new.self (c.in_ok-commit.ensures.opened honest) c.in_ok-commit.ensures.told c.in_ok-commit.ensures.written
 
 -- the run so far, once the new files are there
 record Begun (g : given.Over) (c : After-anew g) : Type 0 where

@@ -13,11 +13,8 @@ returns-clause-opened g c honest =
     let h1 = honest in
     let h0 = c.commit.ensures.outside.honest h1 in
     let f = c.args.self.now in
-    let d = g.D.Disk.state c.args.disk.now in
-    let none : IsWritten f = c.requires.written in
-    let held = c.in_ok-end.ensures.acknowledged h1 ∙ sym (written_held d f none) in
     let now : Folder = record { names = f.names; end = c.in_ok-end.end; told = f.told; keys = f.keys; waiting = f.waiting } in
-    committed_open (g.D.Disk.state c.args.disk.now) (g.D.Disk.state c.commit.new.disk) f now (c.requires.opened h0) refl refl refl (c.in_ok-end.ensures.settled h1) c.in_ok-end.ensures.told held (record { messages = none.messages; keys = none.keys })
+    committed_open (g.D.Disk.state c.args.disk.now) (g.D.Disk.state c.commit.new.disk) f now (c.requires.opened h0) refl refl refl refl (c.in_ok-end.ensures.settled h1) c.in_ok-end.ensures.told
 
 pub returns-clause-same : goal.returns-clause-same
 returns-clause-same g c honest =

@@ -1,4 +1,5 @@
 use Rattle.base_store.proofs.Runs.{quiet_disk}
+use Rattle.base_folder_store.specs.Opened.{held_by}
 use Rattle.base_folder_store.specs.State.{IsIndexed, state_of}
 use Rattle.base_folder_store.proofs.Stated.{looks}
 use Rattle.base_folder_store.proofs.WhereSo.{looks_where}
@@ -11,4 +12,4 @@ returns-clause-looks g c =
     let keyed = g.H.Digest.keyed in
     let state = state_of d keyed s.folder s.alone in
     looks_where state state (IsIndexed d s.folder s.index) (IsIndexed d s.folder c.expect.new.self) (looks d d keyed s.folder s.alone s.alone c.requires.0 (quiet_disk d))
-    (λ honest. c.expect.ensures s.folder.keys.items (c.requires.1 honest))
+    (λ honest. c.expect.ensures (held_by d s.folder).keys (c.requires.1 honest))

@@ -1,7 +1,7 @@
 use Rattle.base_folder_store.specs.State.{IsIndexed, state_of}
 use Rattle.base_folder_store.proofs.Indexed.{indexed_same}
-use Rattle.base_folder_store.proofs.Stated.{committed, may_commit}
-use Rattle.base_folder_store.proofs.WhereSo.{commits_where, may_commit_where}
+use Rattle.base_folder_store.proofs.Stated.{committed, may_commit, stages}
+use Rattle.base_folder_store.proofs.WhereSo.{commits_where, may_commit_where, nothing_where}
 use Rattle.base_folder_store.proofs.folder_store.FolderStoreStore.commit.Goals as goal
 
 pub returns-clause-committed : goal.returns-clause-committed
@@ -14,7 +14,7 @@ returns-clause-committed g c =
     let says = c.commit.ensures in
     commits_where (state_of d keyed s.folder s.alone) (state_of e keyed now s.alone) (IsIndexed d s.folder s.index) (IsIndexed e now s.index) c.commit.result
     (committed d e keyed s.folder now s.alone s.alone c.commit.result says.named says.opened says.same says.committed says.outside)
-    (indexed_same d e s.folder now s.index c.commit.result c.requires.0.opened says.opened says.same says.outside.honest c.requires.1)
+    (indexed_same d e s.folder now s.index c.commit.result says.same says.outside.honest c.requires.1)
 
 pub returns-clause-either : goal.returns-clause-either
 returns-clause-either g c =
@@ -25,3 +25,13 @@ returns-clause-either g c =
     let now = c.commit.new.self in
     may_commit_where (state_of d keyed s.folder s.alone) (state_of e keyed now s.alone) (IsIndexed d s.folder s.index) (IsIndexed e now s.index)
     (may_commit d e keyed s.folder now s.alone s.alone c.commit.ensures.path c.commit.ensures.any_moment c.commit.ensures.outside)
+
+pub returns-clause-refused : goal.returns-clause-refused
+returns-clause-refused g c is =
+    let s = c.args.self.now in
+    let d = g.D.Disk.state s.disk in
+    let e = g.D.Disk.state c.commit.new.disk in
+    let keyed = g.H.Digest.keyed in
+    let now = c.commit.new.self in
+    nothing_where (state_of d keyed s.folder s.alone) (state_of e keyed now s.alone) (IsIndexed d s.folder s.index) (IsIndexed e now s.index)
+    (stages d e keyed s.folder now s.alone s.alone c.commit.ensures.path (λ honest. c.commit.ensures.refused honest is) c.commit.ensures.outside)

@@ -1,9 +1,14 @@
-use Rattle.std.proofs.Common.{Some, ◌∙◌, arith}
+use Rattle.std.proofs.Common.{inl, Some, ◌∙◌, arith}
 use Rattle.std.proofs.lemmas.Result.{err_from_is_err_and}
 use Rattle.base_file.specs.Base.{Base}
 use Rattle.base_folder_store.specs.Answers.{IsAloneOf}
 use Rattle.base_folder_store.specs.State.{IsIndexed, state_of, where_so}
-use Rattle.base_folder_store.proofs.Seen.{fetched, many_messages, told_here}
+use Rattle.base_folder_store.specs.Opened.{held_by}
+use Rattle.base_folder_store.proofs.Bases.{told_where}
+use Rattle.base_folder_store.proofs.Causes.{handed_on}
+use Rattle.base_folder_store.proofs.Legible.{held_quiet, legible_open}
+use Rattle.base_folder_store.proofs.Indexed.{indexed_held}
+use Rattle.base_folder_store.proofs.Seen.{fetched, many_messages}
 use Rattle.base_folder_store.proofs.Stated.{handed_cause, looks, none_there}
 use Rattle.base_folder_store.proofs.WhereSo.{looks_where}
 use Rattle.base_folder_store.proofs.folder_store.FolderStoreStore.fetch.Goals as goal
@@ -29,7 +34,7 @@ returns-in_err-alone-clause-cause g c =
     (where_so (state_of (g.D.Disk.state c.read.new.disk) keyed s.folder s.alone) (IsIndexed (g.D.Disk.state c.read.new.disk) s.folder s.index)) (λ (base : Base) (alone : Base). IsAloneOf base.messages c.args.place alone) (g.D.Disk.failures s.disk) (g.D.Disk.failures c.read.new.disk) c.in_err-alone.field-0.0
     c.in_err-alone.ensures.cause (λ honest base holds.
     let was = c.in_err-alone.ensures.quiet.honest honest in
-    c.in_err-alone.ensures.read honest base.messages (told_here keyed d s.folder base (c.requires.ready.0.opened was) holds) (c.requires.within was base holds)))
+    c.in_err-alone.ensures.read honest base.messages (told_where keyed (held_by d s.folder) base holds) (c.requires.within was base holds)))
 
 pub returns-clause-fetched : goal.returns-clause-fetched
 returns-clause-fetched g c = λ honest base holds.
@@ -37,7 +42,7 @@ returns-clause-fetched g c = λ honest base holds.
     let d = g.D.Disk.state s.disk in
     let keyed = g.H.Digest.keyed in
     let was = c.in_ok-alone.ensures.quiet.honest honest in
-    fetched base.messages c.args.place c.in_ok-alone.alone (c.requires.within was base holds) (c.in_ok-alone.ensures.read honest base.messages (told_here keyed d s.folder base (c.requires.ready.0.opened was) holds) (c.requires.within was base holds))
+    fetched base.messages c.args.place c.in_ok-alone.alone (c.requires.within was base holds) (c.in_ok-alone.ensures.read honest base.messages (told_where keyed (held_by d s.folder) base holds) (c.requires.within was base holds))
 
 pub returns-in_err-alone-clause-looks : goal.returns-in_err-alone-clause-looks
 returns-in_err-alone-clause-looks g c =
@@ -46,7 +51,7 @@ returns-in_err-alone-clause-looks g c =
     let e = g.D.Disk.state c.read.new.disk in
     let keyed = g.H.Digest.keyed in
     looks_where (state_of d keyed s.folder s.alone) (state_of e keyed s.folder s.alone) (IsIndexed d s.folder s.index) (IsIndexed e s.folder s.index)
-    (looks d e keyed s.folder s.alone s.alone c.requires.ready.0 c.read.ensures.quiet) (λ honest. c.requires.ready.1 (c.read.ensures.quiet.honest honest))
+    (looks d e keyed s.folder s.alone s.alone c.requires.ready.0 c.read.ensures.quiet) (λ honest. indexed_held d e s.folder s.folder s.index (held_quiet d e s.folder c.read.ensures.quiet) (c.requires.ready.1 (c.read.ensures.quiet.honest honest)))
 
 pub returns-clause-looks : goal.returns-clause-looks
 returns-clause-looks g c =
@@ -55,4 +60,10 @@ returns-clause-looks g c =
     let e = g.D.Disk.state c.read.new.disk in
     let keyed = g.H.Digest.keyed in
     looks_where (state_of d keyed s.folder s.alone) (state_of e keyed s.folder (Some c.in_ok-alone.alone)) (IsIndexed d s.folder s.index) (IsIndexed e s.folder s.index)
-    (looks d e keyed s.folder s.alone (Some c.in_ok-alone.alone) c.requires.ready.0 c.read.ensures.quiet) (λ honest. c.requires.ready.1 (c.read.ensures.quiet.honest honest))
+    (looks d e keyed s.folder s.alone (Some c.in_ok-alone.alone) c.requires.ready.0 c.read.ensures.quiet) (λ honest. indexed_held d e s.folder s.folder s.index (held_quiet d e s.folder c.read.ensures.quiet) (c.requires.ready.1 (c.read.ensures.quiet.honest honest)))
+
+pub read-requires-clause-legible : goal.read-requires-clause-legible
+read-requires-clause-legible g c honest = legible_open (g.D.Disk.state c.args.self.now.disk) c.args.self.now.folder (c.requires.ready.0.opened honest)
+
+pub returns-in_err-alone-clause-many : goal.returns-in_err-alone-clause-many
+returns-in_err-alone-clause-many g c is = inl (inl (c.in_err-alone.ensures.many (handed_on _ _ c.from_residual.result c.from_residual.ensures.1 is)))

@@ -1,9 +1,9 @@
-use Rattle.std.proofs.Common.{List, ℕ, subst, sym, ◌∙◌}
+use Rattle.std.proofs.Common.{List, ℕ, length, ap, subst, sym, ◌∙◌}
 use Rattle.base_store.proofs.Runs.{looks_commit, no_look}
-use Rattle.base_folder_store.specs.Added.{IsStoredAlone}
+use Rattle.base_folder_store.specs.Added.{IsStoredAlone, LacksRoom}
 use Rattle.base_folder_store.specs.Opened.{held_by}
 use Rattle.base_folder_store.specs.State.{IsIndexed, state_of, where_so}
-use Rattle.base_folder_store.proofs.Causes.{at_error, done_both}
+use Rattle.base_folder_store.proofs.Causes.{at_error, done_both, handed_on}
 use Rattle.base_folder_store.proofs.Indexed.{indexed_more}
 use Rattle.base_folder_store.proofs.Seen.{filed_more}
 use Rattle.base_folder_store.proofs.Stated.{stages, went_on}
@@ -42,7 +42,7 @@ returns-clause-goes_on g c =
     let says = c.stage.ensures in
     goes_on_where (state_of d keyed s.folder s.alone) (state_of e keyed now s.alone) (IsIndexed d s.folder s.index) (IsIndexed e now s.index) c.stage.result
     (went_on d e keyed s.folder now s.alone s.alone c.stage.result says.named says.opened says.same says.outside)
-    (indexed_more d e s.folder now s.index c.stage.result c.deref-2.result.now c.digest-digest.result c.requires.ready.0.opened says.opened says.staged says.outside.honest c.requires.ready.1)
+    (indexed_more d e s.folder now s.index c.stage.result c.deref-2.result.now c.digest-digest.result says.staged says.outside.honest c.requires.ready.1)
 
 pub returns-clause-undone : goal.returns-clause-undone
 returns-clause-undone g c = at_error c.stage.result (λ honest undoes base holds. absurd undoes)
@@ -56,3 +56,14 @@ returns-clause-commits g c =
     let now = c.stage.new.self in
     nothing_where (state_of d keyed s.folder s.alone) (state_of e keyed now s.alone) (IsIndexed d s.folder s.index) (IsIndexed e now s.index)
     (stages d e keyed s.folder now s.alone s.alone c.stage.ensures.path c.stage.ensures.any_moment c.stage.ensures.outside)
+
+pub returns-in_err-bytes-clause-many : goal.returns-in_err-bytes-clause-many
+returns-in_err-bytes-clause-many g c is room =
+    let long = c.in_err-bytes.ensures.many (handed_on _ _ c.from_residual.result c.from_residual.ensures.1 is) in
+    let short = room.text in
+    cc
+
+pub returns-clause-many : goal.returns-clause-many
+returns-clause-many g c is room =
+    let size = ap (λ (l : List ℕ). length l) (c.deref-2.ensures.value ∙ c.in_ok-bytes.ensures.bytes) in
+    room.room (subst (λ (n : ℕ). LacksRoom c.args.self.now.folder n) size (c.stage.ensures.many is))

@@ -1,11 +1,13 @@
-use Rattle.std.proofs.Common.{◌≡◌, Bool}
+use Rattle.std.proofs.Common.{◌≡◌, inl, Bool}
 use Rattle.std.specs.List.{list_any}
 use Rattle.echo_filed.specs.Filed.{has_id}
 use Rattle.base_file.specs.Base.{Base}
 use Rattle.base_folder_store.specs.Opened.{held_by}
 use Rattle.base_folder_store.specs.State.{IsIndexed, state_of, where_so}
-use Rattle.base_folder_store.proofs.Indexed.{indexed_on}
-use Rattle.base_folder_store.proofs.Seen.{id_digest, told_here}
+use Rattle.base_folder_store.proofs.Bases.{told_where}
+use Rattle.base_folder_store.proofs.Indexed.{indexed_held}
+use Rattle.base_folder_store.proofs.Legible.{held_quiet, legible_open}
+use Rattle.base_folder_store.proofs.Seen.{id_digest}
 use Rattle.base_folder_store.proofs.Stated.{answered, looks, read_cause}
 use Rattle.base_folder_store.proofs.WhereSo.{looks_where}
 use Rattle.base_folder_store.proofs.folder_store.FolderStoreStore.has_id.Goals as goal
@@ -15,10 +17,9 @@ returns-clause-found g c = λ honest base holds.
     let s = c.args.self.now in
     let d = g.D.Disk.state s.disk in
     let keyed = g.H.Digest.keyed in
-    let opened = c.requires.0.opened (c.find.ensures.quiet.honest honest) in
     answered (λ (found : Bool). found ≡ list_any (has_id c.args.msgid.now) base.messages) c.find.result
-    (c.find.ensures.found honest base.messages (told_here keyed d s.folder base opened holds)
-    (id_digest keyed (held_by d s.folder) base c.args.msgid.now s.folder.keys.items c.digest-digest.result holds opened.keys c.digest-digest.ensures))
+    (c.find.ensures.found honest base.messages (told_where keyed (held_by d s.folder) base holds)
+    (id_digest keyed (held_by d s.folder) base c.args.msgid.now c.digest-digest.result holds c.digest-digest.ensures))
 
 pub returns-clause-cause : goal.returns-clause-cause
 returns-clause-cause g c =
@@ -26,15 +27,12 @@ returns-clause-cause g c =
     let d = g.D.Disk.state s.disk in
     let keyed = g.H.Digest.keyed in
     let e = g.D.Disk.state c.find.new.disk in
-    read_cause (where_so (state_of d keyed s.folder s.alone) (IsIndexed d s.folder s.index)) (where_so (state_of e keyed s.folder s.alone) (IsIndexed e s.folder c.prepare.new.self)) (λ (base : Base) (found : Bool). found ≡ list_any (has_id c.args.msgid.now) base.messages) (g.D.Disk.failures s.disk) (g.D.Disk.failures c.find.new.disk) c.find.result c.find.ensures.cause
-    (λ honest base holds. let opened = c.requires.0.opened (c.find.ensures.quiet.honest honest) in c.find.ensures.found honest base.messages (told_here keyed d s.folder base opened holds)
-    (id_digest keyed (held_by d s.folder) base c.args.msgid.now s.folder.keys.items c.digest-digest.result holds opened.keys c.digest-digest.ensures))
+    read_cause (where_so (state_of d keyed s.folder s.alone) (IsIndexed d s.folder s.index)) (where_so (state_of e keyed s.folder s.alone) (IsIndexed e s.folder c.find.new.index)) (λ (base : Base) (found : Bool). found ≡ list_any (has_id c.args.msgid.now) base.messages) (g.D.Disk.failures s.disk) (g.D.Disk.failures c.find.new.disk) c.find.result c.find.ensures.cause
+    (λ honest base holds. c.find.ensures.found honest base.messages (told_where keyed (held_by d s.folder) base holds)
+    (id_digest keyed (held_by d s.folder) base c.args.msgid.now c.digest-digest.result holds c.digest-digest.ensures))
 
-pub find-requires-clause-indexed : goal.find-requires-clause-indexed
-find-requires-clause-indexed g c =
-    let s = c.args.self.now in
-    let d = g.D.Disk.state s.disk in
-    indexed_on d d s.folder s.index c.prepare.new.self c.deref.result.now c.deref.ensures.value c.prepare.ensures (λ is. is) c.requires.1
+pub find-requires-clause-legible : goal.find-requires-clause-legible
+find-requires-clause-legible g c honest = legible_open (g.D.Disk.state c.args.self.now.disk) c.args.self.now.folder (c.requires.0.opened honest)
 
 pub returns-clause-looks : goal.returns-clause-looks
 returns-clause-looks g c =
@@ -42,6 +40,9 @@ returns-clause-looks g c =
     let d = g.D.Disk.state s.disk in
     let e = g.D.Disk.state c.find.new.disk in
     let keyed = g.H.Digest.keyed in
-    looks_where (state_of d keyed s.folder s.alone) (state_of e keyed s.folder s.alone) (IsIndexed d s.folder s.index) (IsIndexed e s.folder c.prepare.new.self)
+    looks_where (state_of d keyed s.folder s.alone) (state_of e keyed s.folder s.alone) (IsIndexed d s.folder s.index) (IsIndexed e s.folder c.find.new.index)
     (looks d e keyed s.folder s.alone s.alone c.requires.0 c.find.ensures.quiet)
-    (indexed_on d e s.folder s.index c.prepare.new.self c.deref.result.now c.deref.ensures.value c.prepare.ensures c.find.ensures.quiet.honest c.requires.1)
+    (λ honest. indexed_held d e s.folder s.folder c.find.new.index (held_quiet d e s.folder c.find.ensures.quiet) (c.find.ensures.indexed honest))
+
+pub returns-clause-many : goal.returns-clause-many
+returns-clause-many g c is = inl (inl (c.find.ensures.many is))

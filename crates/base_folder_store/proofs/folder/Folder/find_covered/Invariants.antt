@@ -5,15 +5,15 @@ use Rattle.echo_filed.specs.Filed.{Filed}
 use Rattle.base_store.specs.Keys.{StandWhereTold}
 use Rattle.base_folder_store.specs.Answers.{HaveDigest}
 use Rattle.base_folder_store.specs.Opened.{held_by}
-use Rattle.base_folder_store.proofs.folder.Folder.find.Given as goal
+use Rattle.base_folder_store.proofs.folder.Folder.find_covered.Given as goal
 
 abbrev pub invariant-entries : goal.invariant-entries
 invariant-entries g l = record {
   quiet : ChangesNothing (g.D.Disk.state l.fn.disk) (g.D.Disk.state l.disk);
   cause : g.D.Disk.failures l.fn.disk ≤ g.D.Disk.failures l.disk;
-  within : l.below ≤ length l.self.keys.items / 16;
-  passed : Honestly (g.D.Disk.state l.disk) ((base : List Filed) → StandWhereTold base (held_by (g.D.Disk.state l.fn.disk) l.self).messages l.self.keys.items
-      → HaveDigest (g.W.Sought.test l.sought) l.digest base l.self.keys.items
+  within : l.below ≤ l.self.keys / 16;
+  passed : Honestly (g.D.Disk.state l.disk) ((base : List Filed) → StandWhereTold base (held_by (g.D.Disk.state l.fn.disk) l.self).messages (held_by (g.D.Disk.state l.fn.disk) l.self).keys
+      → HaveDigest (g.W.Sought.test l.sought) l.digest base (held_by (g.D.Disk.state l.fn.disk) l.self).keys
       → (j : ℕ) (d : Filed) → l.below ≤ j → j < length base → g.W.Sought.test l.sought (get_or base j d) ≡ false);
 }
 

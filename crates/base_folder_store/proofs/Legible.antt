@@ -1,0 +1,55 @@
+-- A folder whose files can be read.
+use Rattle.std.proofs.Common.{◌≡◌, ◌≤◌, ◌+◌, ◌*◌, ◌/◌, ℕ, List, length, take, sym, ap, subst, ◌∙◌, arith, length-append}
+use Rattle.std.proofs.lemmas.List.{length-take-le}
+use Rattle.std.specs.Prelude.{IsSome}
+use Rattle.disk_io.specs.Disk.{DiskState, bytes_in}
+use Rattle.disk_io.specs.Runs.{ChangesNothing}
+use Rattle.base_log.specs.AtRest.{IsStaged}
+use Rattle.base_log.specs.Names.{keys_of, messages_of}
+use Rattle.base_log.specs.Standing.{BaseBytes, base_at}
+use Rattle.base_log.specs.declared.log.CommitRecord.{CommitRecord}
+use Rattle.base_log.specs.declared.log.End.{End}
+use Rattle.base_log.proofs.Quiet.{base_quiet}
+use Rattle.base_folder_store.specs.Opened.{IsLegible, IsOpen, and_waiting, held_by, path_of}
+use Rattle.base_folder_store.specs.declared.folder.Folder.{Folder}
+
+pub legible_open : (d : DiskState) (f : Folder) → IsOpen d f → IsLegible d f
+legible_open d f opened = record {
+  names = opened.names;
+  messages_there = opened.staged.messages_there;
+  messages_long = opened.staged.messages_long;
+  keys_there = opened.staged.keys_there;
+  keys_long = opened.staged.keys_long;
+  keys = opened.keys;
+}
+
+-- where its two files are as they were, it can be read still
+pub legible_same : (d e : DiskState) (f : Folder) → e.seen (messages_of (path_of f) f.told.number) ≡ d.seen (messages_of (path_of f) f.told.number)
+    → e.seen (keys_of (path_of f) f.told.number) ≡ d.seen (keys_of (path_of f) f.told.number) → IsLegible d f → IsLegible e f
+legible_same d e f messages keys was = record {
+  names = was.names;
+  messages_there = subst (λ x. IsSome x) (sym messages) was.messages_there;
+  messages_long = subst (λ x. f.told.messages ≤ length (bytes_in x)) (sym messages) was.messages_long;
+  keys_there = subst (λ x. IsSome x) (sym keys) was.keys_there;
+  keys_long = subst (λ x. f.told.keys ≤ length (bytes_in x)) (sym keys) was.keys_long;
+  keys = was.keys;
+}
+
+pub legible_quiet : (d e : DiskState) (f : Folder) → ChangesNothing d e → IsLegible d f → IsLegible e f
+legible_quiet d e f quiet was = legible_same d e f (quiet.seen (messages_of (path_of f) f.told.number)) (quiet.seen (keys_of (path_of f) f.told.number)) was
+
+-- it holds the same after a look
+pub held_quiet : (d e : DiskState) (f : Folder) → ChangesNothing d e → held_by e f ≡ held_by d f
+held_quiet d e f quiet = ap (λ (b : BaseBytes). and_waiting b f.waiting) (base_quiet d e (path_of f) f.told quiet)
+
+-- so many bytes of the keys count
+pub keys_count : (d : DiskState) (path : List ℕ) (end : End) (told : CommitRecord) → IsStaged d path end told → length (base_at d path told).keys ≡ told.keys
+keys_count d path end told staged = length-take-le told.keys (bytes_in (d.seen (keys_of path told.number))) staged.keys_long
+
+-- so many bytes the keys have
+pub keys_all : (d : DiskState) (f : Folder) → IsLegible d f → length (held_by d f).keys ≡ f.keys
+keys_all d f legible =
+    let written : length (base_at d (path_of f) f.told).keys ≡ f.told.keys = length-take-le f.told.keys (bytes_in (d.seen (keys_of (path_of f) f.told.number))) legible.keys_long in
+    let all : length (held_by d f).keys ≡ length (base_at d (path_of f) f.told).keys + length f.waiting.keys.items = length-append (base_at d (path_of f) f.told).keys f.waiting.keys.items in
+    let sum = legible.keys in
+    omega (arith, written, all, sum)

@@ -1,0 +1,86 @@
+use Rattle.std.proofs.Common.{◌≡◌, ◌<◌, ◌-◌, ◌/◌, ℕ, List, length, min, sym, ap, subst, ◌∙◌, arith}
+use Rattle.std.specs.Prelude.{Vec}
+use Rattle.std.specs.declared.alloc.Global.{Global}
+use Rattle.base_log.specs.Standing.{BaseBytes}
+use Rattle.base_store.specs.Keys.{HasBytesOf, IsPieceOf, digest_at}
+use Rattle.echo_filed.specs.Stored.{stored_bytes}
+use Rattle.echo_filed.specs.declared.stored.Version.TheVariants.{Second}
+use Rattle.base_folder_store.specs.Answers.{IsStoredOf}
+use Rattle.base_folder_store.specs.Opened.{held_by}
+use Rattle.base_folder_store.specs.declared.reading.StoredMessage.{StoredMessage}
+use Rattle.base_folder_store.proofs.Causes.{answers_error, answers_whole}
+use Rattle.base_folder_store.proofs.Legible.{held_quiet, keys_all}
+use Rattle.base_folder_store.proofs.Numbered.{first_digest, piece_has}
+use Rattle.base_folder_store.proofs.folder.Folder.stored.Given as given
+use Rattle.base_folder_store.proofs.folder.Folder.stored.Goals.{After-stored_by}
+use Rattle.base_folder_store.proofs.folder.Folder.stored.Goals as goal
+
+-- the entry that was read
+record Entry (g : given.Over) (c : After-stored_by g) : Type 0 where
+  piece : IsPieceOf (held_by (g.D.Disk.state c.args.disk.now) c.args.self.now).keys c.args.place c.deref.result.now
+  inside : c.args.place < length (held_by (g.D.Disk.state c.args.disk.now) c.args.self.now).keys / 16
+  two : length c.deref.result.now / 16 ≡ min 2 (length (held_by (g.D.Disk.state c.args.disk.now) c.args.self.now).keys / 16 - c.args.place)
+
+entry : (g : given.Over) (c : After-stored_by g) → (g.D.Disk.state c.entry_at.new.disk).is_honest → Entry g c
+entry g c h1 =
+    let d = g.D.Disk.state c.args.disk.now in
+    let f = c.args.self.now in
+    let all = keys_all d f (c.requires.legible (c.entry_at.ensures.quiet.honest h1)) in
+    let within = c.requires.within in
+    let long = c.in_ok-entry.ensures.long in
+    let same = ap (λ (l : List ℕ). length l) c.deref.ensures.value in
+    record {
+      piece = subst (λ (l : List ℕ). IsPieceOf (held_by d f).keys c.args.place l) (sym c.deref.ensures.value) (c.in_ok-entry.ensures.entry h1);
+      inside = omega (arith, all, within);
+      two = ap (λ (n : ℕ). n / 16) same ∙ long ∙ ap (λ (n : ℕ). min 2 (n / 16 - c.args.place)) (sym all);
+    }
+
+pub returns-in_err-entry-clause-stored : goal.returns-in_err-entry-clause-stored
+returns-in_err-entry-clause-stored g c honest = λ base told inside.
+    answers_whole {T = Vec ℕ Global} (λ (stored : StoredMessage). IsStoredOf base c.args.place stored.bytes.items) _ c.from_residual.result c.from_residual.ensures.1 (c.in_err-entry.ensures.whole honest)
+
+pub stored_by-requires-clause-within : goal.stored_by-requires-clause-within
+stored_by-requires-clause-within g c =
+    let within = c.requires.within in
+    let long = c.in_ok-entry.ensures.long in
+    let same = ap (λ (l : List ℕ). length l) c.deref.ensures.value in
+    omega (arith, within, long, same)
+
+pub returns-in_err-bytes-clause-stored : goal.returns-in_err-bytes-clause-stored
+returns-in_err-bytes-clause-stored g c honest = λ base told inside.
+    let h1 = c.stored_by.ensures.quiet.honest honest in
+    let d = g.D.Disk.state c.args.disk.now in
+    let e = g.D.Disk.state c.entry_at.new.disk in
+    let f = c.args.self.now in
+    let one = entry g (goal.at.returns-in_err-bytes-clause-stored g c).After-stored_by h1 in
+    let stands = told.each c.args.place inside in
+    let has = piece_has (held_by d f).messages (held_by d f).keys c.deref.result.now c.args.place one.piece one.inside one.two stands.s stands.bytes in
+    answers_error {T = Vec ℕ Global} (λ (b : Vec ℕ Global). b.items ≡ stored_bytes Second stands.s) (λ (stored : StoredMessage). IsStoredOf base c.args.place stored.bytes.items) _ c.from_residual-in_err-bytes.result c.from_residual-in_err-bytes.ensures.1
+    (c.in_err-bytes.ensures.stored honest stands.s (subst (λ (b : BaseBytes). HasBytesOf b.messages c.deref.result.now 0 stands.s) (sym (held_quiet d e f c.entry_at.ensures.quiet)) has))
+
+pub returns-clause-stored : goal.returns-clause-stored
+returns-clause-stored g c honest = λ base told inside.
+    let h1 = c.stored_by.ensures.quiet.honest honest in
+    let d = g.D.Disk.state c.args.disk.now in
+    let e = g.D.Disk.state c.entry_at.new.disk in
+    let f = c.args.self.now in
+    let one = entry g (goal.at.returns-clause-stored g c).After-stored_by h1 in
+    let stands = told.each c.args.place inside in
+    let has = piece_has (held_by d f).messages (held_by d f).keys c.deref.result.now c.args.place one.piece one.inside one.two stands.s stands.bytes in
+    record {
+      s = stands.s;
+      size = stands.size;
+      alone = stands.alone;
+      is = stands.is;
+      same = c.in_ok-bytes.ensures.stored honest stands.s (subst (λ (b : BaseBytes). HasBytesOf b.messages c.deref.result.now 0 stands.s) (sym (held_quiet d e f c.entry_at.ensures.quiet)) has);
+    }
+
+pub returns-clause-digest : goal.returns-clause-digest
+returns-clause-digest g c honest =
+    let h1 = c.stored_by.ensures.quiet.honest honest in
+    let d = g.D.Disk.state c.args.disk.now in
+    let f = c.args.self.now in
+    let one = entry g (goal.at.returns-clause-digest g c).After-stored_by h1 in
+    c.digest_of-digest.ensures
+    ∙ ap (λ (l : List ℕ). digest_at l 0) (c.deref-2.ensures.value ∙ sym c.deref.ensures.value)
+    ∙ first_digest (held_by d f).messages (held_by d f).keys c.deref.result.now c.args.place one.piece one.inside one.two

@@ -1,0 +1,75 @@
+//! Reads a part of a file into a buffer.
+ghost use Rattle.std.specs.Prelude.{◌≡◌, ◌≤◌, ◌<◌, ◌+◌, ◌-◌, ◌^◌, length, take, drop, IfOk, OnOk, IsSome};
+ghost use Rattle.disk_io.specs.Disk.{Honestly, bytes_in};
+ghost use Rattle.disk_io.specs.Runs.{ChangesNothing, HasCause};
+
+use disk_io::{Disk, DiskError};
+
+// One read after the first bytes of the part, which were read before; answers their new number.
+fn read_more<D: Disk>(
+    disk: &mut D,
+    path: &[u8],
+    from: usize,
+    part: &mut [u8],
+    done: usize,
+) -> Result<usize, DiskError>
+    requires there { Honestly (D.state disk.old) (IsSome ((D.state disk.old).seen path.now)) }
+    requires within { Honestly (D.state disk.old) (from + length part.old ≤ length (bytes_in ((D.state disk.old).seen path.now))) }
+    requires fits { from + length part.old < 2 ^ 64 }
+    requires open { done < length part.old }
+    requires front { Honestly (D.state disk.old) (take done part.old ≡ take done (drop from (bytes_in ((D.state disk.old).seen path.now)))) }
+    ensures within { IfOk result (λ now. (done ≤ now) × (now ≤ length part.new)) }
+    ensures further { Honestly (D.state disk.new) (IfOk result (λ now. done < now)) }
+    ensures front { Honestly (D.state disk.new) (IfOk result (λ now. take now part.new ≡ take now (drop from (bytes_in ((D.state disk.old).seen path.now))))) }
+    ensures quiet { ChangesNothing (D.state disk.old) (D.state disk.new) }
+    ensures cause { HasCause (D.failures disk.old) (D.failures disk.new) result }
+{
+    let count = disk.read_at(path, from + done, &mut part[done..])?;
+    Ok(done + count)
+}
+
+// Fills the part with the bytes of the file from a place on.
+fn fill_part<D: Disk>(
+    disk: &mut D,
+    path: &[u8],
+    from: usize,
+    part: &mut [u8],
+) -> Result<(), DiskError>
+    requires there { Honestly (D.state disk.old) (IsSome ((D.state disk.old).seen path.now)) }
+    requires within { Honestly (D.state disk.old) (from + length part.old ≤ length (bytes_in ((D.state disk.old).seen path.now))) }
+    requires fits { from + length part.old < 2 ^ 64 }
+    ensures filled { Honestly (D.state disk.new) (OnOk result (part.new ≡ take (length part.new) (drop from (bytes_in ((D.state disk.old).seen path.now))))) }
+    ensures quiet { ChangesNothing (D.state disk.old) (D.state disk.new) }
+    ensures cause { HasCause (D.failures disk.old) (D.failures disk.new) result }
+{
+    let mut done = 0;
+    'reads: while done < part.len() {
+        let now = read_more(disk, path, from, part, done)?;
+        // Only a file that others cut ends here.
+        if now == done {
+            break;
+        }
+        done = now;
+    }
+    Ok(())
+}
+
+/// Reads the bytes of a file from one place up to another into a buffer, which is used again.
+pub(crate) fn read_into<D: Disk>(
+    disk: &mut D,
+    path: &[u8],
+    from: usize,
+    to: usize,
+    part: &mut Vec<u8>,
+) -> Result<(), DiskError>
+    requires there { Honestly (D.state disk.old) (IsSome ((D.state disk.old).seen path.now)) }
+    requires order { from ≤ to }
+    requires within { Honestly (D.state disk.old) (to ≤ length (bytes_in ((D.state disk.old).seen path.now))) }
+    ensures long { OnOk result (length part.new.items ≡ to - from) }
+    ensures bytes { Honestly (D.state disk.new) (OnOk result (part.new.items ≡ drop from (take to (bytes_in ((D.state disk.old).seen path.now))))) }
+    ensures quiet { ChangesNothing (D.state disk.old) (D.state disk.new) }
+    ensures cause { HasCause (D.failures disk.old) (D.failures disk.new) result }
+{
+    part.resize(to - from, 0)?;
+    fill_part(disk, path, from, part)
+}

@@ -1,0 +1,235 @@
+//! Messages and keys of an open base folder, read from its files and from what waits to be written.
+ghost use Rattle.std.specs.Prelude.{◌≡◌, ◌≤◌, ◌<◌, ◌+◌, ◌-◌, ◌*◌, ◌^◌, ◌/◌, ◌++◌, List, length, min, IfOk, IsErrOf, IsSome, OnOk, drop, take};
+ghost use Rattle.disk_io.specs.Disk.{Honestly, bytes_in};
+ghost use Rattle.disk_io.specs.Runs.{ChangesNothing, HasCause};
+ghost use Rattle.echo_filed.specs.Filed.{Filed};
+ghost use Rattle.echo_filed.specs.Stored.{Stored, stored_bytes};
+ghost use Rattle.echo_filed.specs.declared.stored.Version.TheVariants.{Second};
+ghost use Rattle.base_store.specs.Keys.{HasBytesOf, IsPieceOf, StandWhereTold, digest_at};
+ghost use Rattle.base_folder_store.specs.Added.{next_place};
+ghost use Rattle.base_folder_store.specs.Answers.{Answers, HasReadCause, IsAloneOf, IsStoredOf};
+ghost use Rattle.base_folder_store.specs.Opened.{IsLegible, held_by};
+
+use crate::alone::{Alone, read_alone};
+use crate::folder::{ENTRY, Folder};
+use crate::pieces::read_into;
+use base_store::{StoreError, digest_of, end_of, place_of};
+use disk_io::{Disk, DiskError};
+use std::alloc::Global;
+
+// Reads the bytes between two places of a file, of which the last ones wait to be written.
+fn read_across<D: Disk>(
+    disk: &mut D,
+    path: &[u8],
+    written: usize,
+    waiting: &[u8],
+    begins: usize,
+    ends: usize,
+    part: &mut Vec<u8>,
+) -> Result<(), DiskError>
+    requires there { Honestly (D.state disk.old) (IsSome ((D.state disk.old).seen path.now)) }
+    requires long { Honestly (D.state disk.old) (written ≤ length (bytes_in ((D.state disk.old).seen path.now))) }
+    requires order { begins ≤ ends }
+    requires within { ends ≤ written + length waiting.now }
+    ensures long { OnOk result (length part.new.items ≡ ends - begins) }
+    ensures bytes { Honestly (D.state disk.new) (OnOk result (part.new.items
+        ≡ drop begins (take ends (take written (bytes_in ((D.state disk.old).seen path.now)) ++ waiting.now)))) }
+    ensures quiet { ChangesNothing (D.state disk.old) (D.state disk.new) }
+    ensures cause { HasCause (D.failures disk.old) (D.failures disk.new) result }
+{
+    let from = begins.saturating_sub(written);
+    let to = ends.saturating_sub(written);
+    read_into(disk, path, begins.min(written), ends.min(written), part)?;
+    part.extend_from_slice(&waiting[from..to])?;
+    Ok(())
+}
+
+// The bytes of the message with this entry, before the next one's entry. Some messages wait to be written.
+fn stored_at<D: Disk>(
+    alloc: Global,
+    disk: &mut D,
+    messages: &[u8],
+    written: usize,
+    waiting: &[u8],
+    entry: &[u8],
+) -> Result<Vec<u8>, StoreError>
+    requires there { Honestly (D.state disk.old) (IsSome ((D.state disk.old).seen messages.now)) }
+    requires long { Honestly (D.state disk.old) (written ≤ length (bytes_in ((D.state disk.old).seen messages.now))) }
+    requires within { 0 < length entry.now / 16 }
+    ensures stored { Honestly (D.state disk.new) ((s : Stored) → HasBytesOf (take written (bytes_in ((D.state disk.old).seen messages.now)) ++ waiting.now) entry.now 0 s
+        → Answers (λ bytes. bytes.items ≡ stored_bytes Second s) result) }
+    ensures quiet { ChangesNothing (D.state disk.old) (D.state disk.new) }
+    ensures cause { HasReadCause (D.failures disk.old) (D.failures disk.new) result }
+    ensures many { IsErrOf result StoreError.TooMany → 2 ^ 64 ≤ written + length waiting.now }
+{
+    let Some(all) = written.checked_add(waiting.len()) else {
+        return Err(StoreError::TooMany);
+    };
+    let begins = place_of(entry, 0) as usize;
+    let ends = end_of(entry, 0, all as u64) as usize;
+    if begins > ends || ends > all {
+        return Err(StoreError::Damaged);
+    }
+    let mut bytes = Vec::new(alloc);
+    read_across(disk, messages, written, waiting, begins, ends, &mut bytes)?;
+    Ok(bytes)
+}
+
+/// A message as it is stored, and the digest in its entry.
+#[derive(Drop)]
+pub(crate) struct StoredMessage {
+    pub(crate) bytes: Vec<u8>,
+    pub(crate) digest: u64,
+}
+
+/// A message by itself, and the digest in its entry.
+#[derive(Drop)]
+pub(crate) struct ReadMessage {
+    pub(crate) alone: Alone,
+    pub(crate) digest: u64,
+}
+
+impl Folder {
+    // Reads the entries of the messages from one number up to another.
+    pub(crate) fn read_keys<D: Disk>(
+        &self,
+        disk: &mut D,
+        from: usize,
+        to: usize,
+        piece: &mut Vec<u8>,
+    ) -> Result<(), StoreError>
+        requires legible { Honestly (D.state disk.old) (IsLegible (D.state disk.old) self.now) }
+        requires order { from ≤ to }
+        requires within { to ≤ self.now.keys / 16 }
+        ensures long { OnOk result (length piece.new.items ≡ 16 * to - 16 * from) }
+        ensures piece { Honestly (D.state disk.new) (OnOk result (IsPieceOf (held_by (D.state disk.old) self.now).keys from piece.new.items)) }
+        ensures whole { Honestly (D.state disk.new) (IsErrOf result StoreError.Damaged → ⊥) }
+        ensures quiet { ChangesNothing (D.state disk.old) (D.state disk.new) }
+        ensures cause { HasReadCause (D.failures disk.old) (D.failures disk.new) result }
+        ensures few { IsErrOf result StoreError.TooMany → ⊥ }
+    {
+        let (begins, ends) = (ENTRY * from, ENTRY * to);
+        let written = self.told.keys;
+        let waiting = &self.waiting.keys;
+        if ends.saturating_sub(written) > waiting.len() {
+            return Err(StoreError::Damaged);
+        }
+        read_across(
+            disk,
+            &self.names.keys,
+            written,
+            waiting,
+            begins,
+            ends,
+            piece,
+        )?;
+        Ok(())
+    }
+
+    // The entry of the message of this number, and the next one if there is one.
+    pub(crate) fn entry_at<D: Disk>(
+        &self,
+        alloc: Global,
+        disk: &mut D,
+        place: usize,
+    ) -> Result<Vec<u8>, StoreError>
+        requires legible { Honestly (D.state disk.old) (IsLegible (D.state disk.old) self.now) }
+        requires within { place < self.now.keys / 16 }
+        ensures long { IfOk result (λ entry. length entry.items / 16 ≡ min 2 (self.now.keys / 16 - place)) }
+        ensures entry { Honestly (D.state disk.new) (IfOk result (λ entry. IsPieceOf (held_by (D.state disk.old) self.now).keys place entry.items)) }
+        ensures whole { Honestly (D.state disk.new) (IsErrOf result StoreError.Damaged → ⊥) }
+        ensures quiet { ChangesNothing (D.state disk.old) (D.state disk.new) }
+        ensures cause { HasReadCause (D.failures disk.old) (D.failures disk.new) result }
+        ensures few { IsErrOf result StoreError.TooMany → ⊥ }
+    {
+        let mut entry = Vec::new(alloc);
+        let next = place + (self.count() - place).min(2);
+        self.read_keys(disk, place, next, &mut entry)?;
+        Ok(entry)
+    }
+
+    // The bytes of the message with this entry.
+    pub(crate) fn stored_by<D: Disk>(
+        &self,
+        alloc: Global,
+        disk: &mut D,
+        entry: &[u8],
+    ) -> Result<Vec<u8>, StoreError>
+        requires legible { Honestly (D.state disk.old) (IsLegible (D.state disk.old) self.now) }
+        requires within { 0 < length entry.now / 16 }
+        ensures stored { Honestly (D.state disk.new) ((s : Stored) → HasBytesOf (held_by (D.state disk.old) self.now).messages entry.now 0 s
+            → Answers (λ bytes. bytes.items ≡ stored_bytes Second s) result) }
+        ensures quiet { ChangesNothing (D.state disk.old) (D.state disk.new) }
+        ensures cause { HasReadCause (D.failures disk.old) (D.failures disk.new) result }
+        ensures many { IsErrOf result StoreError.TooMany → 2 ^ 64 ≤ next_place self.now }
+    {
+        let messages = &self.names.messages;
+        let waiting = &self.waiting.messages;
+        stored_at(alloc, disk, messages, self.told.messages, waiting, entry)
+    }
+
+    // The bytes of the message of this number, counted from 0, and its digest.
+    pub(crate) fn stored<D: Disk>(
+        &self,
+        alloc: Global,
+        disk: &mut D,
+        place: usize,
+    ) -> Result<StoredMessage, StoreError>
+        requires legible { Honestly (D.state disk.old) (IsLegible (D.state disk.old) self.now) }
+        requires within { place < self.now.keys / 16 }
+        ensures stored { Honestly (D.state disk.new) ((base : List Filed) → StandWhereTold base (held_by (D.state disk.old) self.now).messages (held_by (D.state disk.old) self.now).keys
+            → place < length base → Answers (λ stored. IsStoredOf base place stored.bytes.items) result) }
+        ensures digest { Honestly (D.state disk.new) (IfOk result (λ stored. stored.digest ≡ digest_at (held_by (D.state disk.old) self.now).keys place)) }
+        ensures quiet { ChangesNothing (D.state disk.old) (D.state disk.new) }
+        ensures cause { HasReadCause (D.failures disk.old) (D.failures disk.new) result }
+        ensures many { IsErrOf result StoreError.TooMany → 2 ^ 64 ≤ next_place self.now }
+    {
+        let entry = self.entry_at(alloc, disk, place)?;
+        let bytes = self.stored_by(alloc, disk, &entry)?;
+        let digest = digest_of(&entry, 0);
+        Ok(StoredMessage { bytes, digest })
+    }
+
+    // The message of this number, counted from 0, and its digest.
+    pub(crate) fn read_told<D: Disk>(
+        &self,
+        alloc: Global,
+        disk: &mut D,
+        place: usize,
+    ) -> Result<ReadMessage, StoreError>
+        requires legible { Honestly (D.state disk.old) (IsLegible (D.state disk.old) self.now) }
+        requires within { place < self.now.keys / 16 }
+        ensures read { Honestly (D.state disk.new) ((base : List Filed) → StandWhereTold base (held_by (D.state disk.old) self.now).messages (held_by (D.state disk.old) self.now).keys
+            → place < length base → Answers (λ read. IsAloneOf base place read.alone) result) }
+        ensures digest { Honestly (D.state disk.new) (IfOk result (λ read. read.digest ≡ digest_at (held_by (D.state disk.old) self.now).keys place)) }
+        ensures quiet { ChangesNothing (D.state disk.old) (D.state disk.new) }
+        ensures cause { HasReadCause (D.failures disk.old) (D.failures disk.new) result }
+        ensures many { IsErrOf result StoreError.TooMany → 2 ^ 64 ≤ next_place self.now }
+    {
+        let stored = self.stored(alloc, disk, place)?;
+        let alone = read_alone(alloc, &stored.bytes)?;
+        Ok(ReadMessage {
+            alone,
+            digest: stored.digest,
+        })
+    }
+
+    /// The message of this number, counted from 0.
+    pub fn read<D: Disk>(
+        &self,
+        alloc: Global,
+        disk: &mut D,
+        place: usize,
+    ) -> Result<Alone, StoreError>
+        requires legible { Honestly (D.state disk.old) (IsLegible (D.state disk.old) self.now) }
+        requires within { place < self.now.keys / 16 }
+        ensures read { Honestly (D.state disk.new) ((base : List Filed) → StandWhereTold base (held_by (D.state disk.old) self.now).messages (held_by (D.state disk.old) self.now).keys
+            → place < length base → Answers (IsAloneOf base place) result) }
+        ensures quiet { ChangesNothing (D.state disk.old) (D.state disk.new) }
+        ensures cause { HasReadCause (D.failures disk.old) (D.failures disk.new) result }
+        ensures many { IsErrOf result StoreError.TooMany → 2 ^ 64 ≤ next_place self.now }
+    {
+        let read = self.read_told(alloc, disk, place)?;
+        Ok(read.alone)
+    }
+}

@@ -1,0 +1,34 @@
+use Rattle.std.proofs.Common.{◌≡◌, ◌*◌, ◌/◌, ◌+◌, false, true, length, List, ℕ, sym, ap, ◌∙◌, arith, length-append}
+use Rattle.std.proofs.lemmas.Bool.{cond-false, cond-true}
+use Rattle.base_store.specs.Expected.{is_expected}
+use Rattle.base_store.specs.Index.{covered}
+use Rattle.base_store.proofs.Found.{kept_more, taken_size}
+use Rattle.base_store.proofs.index.Index.take_in.Goals as goal
+use Rattle.base_store.proofs.index.Index.take_in.Goals.{After-extend_from_slice}
+
+pub returns-then-has-clause-index : goal.returns-then-has-clause-index
+returns-then-has-clause-index c = λ keys at is was.
+    let index = c.args.self.now in
+    let expected : is_expected index.expected c.args.digest ≡ true = sym c.has.ensures ∙ c.if-has.true in
+    let passed = sym (cond-true (is_expected index.expected c.args.digest) index.expected.passed (length index.keys.items / 16) expected) ∙ at in
+    record { rest = was.rest; front = was.front; even = was.even; chains = was.chains; found = c.go_over.ensures.found keys passed is was.found }
+
+-- so many of its own keys it covers
+own : (c : After-extend_from_slice) → covered c.args.self.now c.args.digest ≡ length c.args.self.now.keys.items / 16
+own c =
+    let other : is_expected c.args.self.now.expected c.args.digest ≡ false = sym c.has.ensures ∙ c.if-has.false in
+    cond-false (is_expected c.args.self.now.expected c.args.digest) c.args.self.now.expected.passed (length c.args.self.now.keys.items / 16) other
+
+pub returns-else-has-clause-index : goal.returns-else-has-clause-index
+returns-else-has-clause-index c = λ keys at is was.
+    let here = sym (own (goal.at.returns-else-has-clause-index c).After-extend_from_slice) ∙ at in
+    let more = kept_more c.extend_from_slice.result keys c.args.piece.now c.extend_from_slice.new.self.items c.args.from c.args.self.now c.extend_from_slice.ensures.items here is was in
+    record { rest = more.rest; front = more.front; even = more.even; chains = more.chains; found = was.found }
+
+pub returns-else-has-clause-covered : goal.returns-else-has-clause-covered
+returns-else-has-clause-covered c = λ keys at is was.
+    let index = c.args.self.now in
+    let other : is_expected index.expected c.args.digest ≡ false = sym c.has.ensures ∙ c.if-has.false in
+    let here = sym (own (goal.at.returns-else-has-clause-covered c).After-extend_from_slice) ∙ at in
+    taken_size c.extend_from_slice.result index.keys.items c.args.piece.now c.extend_from_slice.new.self.items c.args.from
+    (cond-false (is_expected index.expected c.args.digest) index.expected.passed (length c.extend_from_slice.new.self.items / 16) other) c.extend_from_slice.ensures.items here was.even
