@@ -79,9 +79,9 @@ pub enum PostEnd {
 }
 
 /// Posts a message, as it was asked, at the station of these paths.
-pub(crate) fn post_at<W: Sink, E: Sink>(
-    rt: &HostRuntime,
-    place: Place<'_>,
+pub(crate) fn post_at<'a, W: Sink, E: Sink>(
+    rt: &'a HostRuntime,
+    place: Place<'a>,
     asked: &mut Asked<'_>,
     out: &mut W,
     errors: &mut E,
