@@ -78,11 +78,11 @@ pub enum PostEnd {
     Stopped(Status),
 }
 
-/// Posts a message at the station of these paths.
-pub(crate) fn post_at<W: Sink, E: Sink>(
-    rt: &HostRuntime,
-    place: Place<'_>,
-    post: Post<'_>,
+/// Posts a message, as it was asked, at the station of these paths.
+pub(crate) fn post_at<'a, W: Sink, E: Sink>(
+    rt: &'a HostRuntime,
+    place: Place<'a>,
+    asked: &mut Asked<'_>,
     out: &mut W,
     errors: &mut E,
 ) -> PostEnd {
@@ -91,8 +91,7 @@ pub(crate) fn post_at<W: Sink, E: Sink>(
         Ok(found) => found,
         Err(fault) => return PostEnd::Stopped(fault.report(errors)),
     };
-    let mut asked = Asked::Post(post);
-    match change_at(found.at(rt, place), &mut locks, &mut asked, None, out) {
+    match change_at(found.at(rt, place), &mut locks, asked, None, out) {
         Ok(()) => PostEnd::Posted,
         Err(Fault::Post(why)) => PostEnd::Refused(why),
         Err(fault) => PostEnd::Stopped(fault.report(errors)),
