@@ -49,7 +49,7 @@ pub fn run_post_mail<W: Sink, E: Sink>(
         Ok(given) => given,
         Err(fault) => return fault.report(errors),
     };
-    match answered_message(rt, words.base, &given) {
+    match answered_message(rt, words, &given) {
         Ok(found) => post_given(rt, words, &given, found.as_ref(), out, errors),
         Err(fault) => match links_fault(rt, words.links, errors) {
             Some(status) => status,
@@ -89,12 +89,13 @@ fn mail_given<'a>(
 // The message that the mail answers, if something of it is wanted and the base has it.
 fn answered_message<'a>(
     rt: &HostRuntime,
-    base: &'a str,
+    words: &PostMailWords<'a>,
     given: &Given,
 ) -> Result<Option<Answered>, Fault<'a>> {
-    let Some(id) = wanted_id(rt.alloc(), given)? else {
+    let Some(id) = wanted_id(rt.alloc(), words, given)? else {
         return Ok(None);
     };
+    let base = words.base;
     if !fs::exists(rt, base).unwrap_or(true) {
         return Ok(None);
     }
@@ -103,16 +104,20 @@ fn answered_message<'a>(
     find_answered(rt.alloc(), id.as_slice(), &bytes, hasher)
 }
 
-// The id of the message that the mail answers, if the mail names no area or the charset of that message is asked for. A
-// mail that cannot be read is refused later.
-fn wanted_id(alloc: Global, given: &Given) -> Result<Option<Items<u8>>, AllocError> {
+// The id of the message that the mail answers, if no area is named or the charset of that message is asked for. A mail
+// that cannot be read is refused later.
+fn wanted_id(
+    alloc: Global,
+    words: &PostMailWords<'_>,
+    given: &Given,
+) -> Result<Option<Items<u8>>, AllocError> {
     let mail = match read_mail(alloc, &given.mail) {
         Ok(mail) => mail,
         Err(MailFault::Memory) => return Err(AllocError),
         Err(_) => return Ok(None),
     };
     let fields = mail.fields.as_slice();
-    if given.charset.is_some() && area_in(fields).is_some() {
+    if given.charset.is_some() && (words.area.is_some() || area_in(fields).is_some()) {
         return Ok(None);
     }
     match value_in(fields, b"In-Reply-To") {
@@ -159,14 +164,14 @@ fn charset_of(given: &Given, found: Option<&Answered>) -> Option<Charset> {
     }
 }
 
-// What the mail lacks: its area is that of the answered message, if there is one.
+// What the mail lacks. Without a word for its area that is the area of the answered message.
 fn defaults_of<'a>(words: &PostMailWords<'a>, found: Option<&'a Answered>) -> MailDefaults<'a> {
     let tag = match found {
         Some(found) => str::from_utf8(found.tag.as_slice()).ok(),
         None => None,
     };
     MailDefaults {
-        area: tag.or(words.area),
+        area: words.area.or(tag),
         to: words.to,
         from: words.from,
         subject: words.subject,
