@@ -143,7 +143,7 @@ fn is_own(name: &str) -> bool {
     match name.rsplit_once('.') {
         Some(("messages" | "keys", digit)) => digit.len() == 1
             && digit.as_bytes()[0].is_ascii_digit(),
-        Some(_) => false,
-        None => name == "log",
+        Some((first, last)) => first == "outbound" && last == "new",
+        None => name == "log" || name == "outbound",
     }
 }
