@@ -131,8 +131,10 @@ def try_turned(judge, folder):
 
 
 def state_of(path):
-    """The files of a base and their bytes."""
-    return files_of(path, "") if os.path.isdir(path) else content(path)
+    """The files of a base and their bytes, without the note of the folder of packets."""
+    if not os.path.isdir(path):
+        return content(path)
+    return {name: found for name, found in files_of(path, "").items() if name != "outbound"}
 
 
 def try_scan(judge, folder, where, before, messages):
