@@ -102,9 +102,13 @@ COMMANDS = {
 
 
 def copy_of(folder, to):
-    """A copy of a station."""
+    """A copy of a station, without the note of its folder of packets: that names the one of the original."""
     shutil.rmtree(to, ignore_errors=True)
-    return shutil.copytree(folder, to)
+    path = shutil.copytree(folder, to)
+    note = os.path.join(path, "base", "outbound")
+    if os.path.exists(note):
+        os.remove(note)
+    return path
 
 
 def finish(name):
