@@ -19,10 +19,11 @@ struct Kept<F: Drop> {
     placed: Placed<F>,
 }
 
-/// The file that was read last, and the two that were written last.
+/// The two files that were read last, and the two that were written last.
 #[derive(Drop)]
 pub(crate) struct KeptFiles<F: Drop> {
     read: Option<Kept<F>>,
+    read_before: Option<Kept<F>>,
     written: Option<Kept<F>>,
     written_before: Option<Kept<F>>,
 }
@@ -55,6 +56,7 @@ impl<F: Drop> KeptFiles<F> {
     pub(crate) fn none() -> KeptFiles<F> {
         KeptFiles {
             read: None,
+            read_before: None,
             written: None,
             written_before: None,
         }
@@ -62,11 +64,18 @@ impl<F: Drop> KeptFiles<F> {
 
     /// The file at the path that is open to be read.
     pub(crate) fn take_read(&mut self, path: &[u8]) -> Option<Placed<F>> {
-        take(&mut self.read, path)
+        let last = take(&mut self.read, path);
+        if last.is_some() {
+            return last;
+        }
+        take(&mut self.read_before, path)
     }
 
     pub(crate) fn keep_read(&mut self, path: &[u8], placed: Placed<F>) {
-        self.read = with_path(path, placed);
+        let last = mem::replace(&mut self.read, with_path(path, placed));
+        if last.is_some() {
+            self.read_before = last;
+        }
     }
 
     /// The file at the path that is open to be written.
