@@ -51,14 +51,29 @@ impl<'a> JamPoster<'a> {
         })
     }
 
-    /// Posts the message. Its own id stays, if it is one of this system and free. A message that was posted under its id
-    /// before is not posted again.
-    pub fn post<W: Sink, E: Sink>(
+    /// Posts the message, and reports a fault. One that is not of the message alone stops all postings.
+    pub fn post_or_refuse<W: Sink, E: Sink>(
         &self,
         draft: &JamDraft<'_>,
         out: &mut W,
         errors: &mut E,
     ) -> PostEnd {
+        match self.post(draft, out, errors) {
+            PostEnd::Refused(why) => {
+                let status = Fault::Post(why).report(errors);
+                if is_of_message(why) {
+                    PostEnd::Refused(why)
+                } else {
+                    PostEnd::Stopped(status)
+                }
+            }
+            ended => ended,
+        }
+    }
+
+    // Posts the message. Its own id stays, if it is one of this system and free. A message that was posted under its id
+    // before is not posted again.
+    fn post<W: Sink, E: Sink>(&self, draft: &JamDraft<'_>, out: &mut W, errors: &mut E) -> PostEnd {
         let serial = match own_serial(self.rt.alloc(), draft.id, self.own) {
             Ok(Some(serial)) => serial,
             Ok(None) => return self.post_with(draft, self.serial, true, out, errors),
@@ -114,6 +129,14 @@ impl<'a> JamPoster<'a> {
         let base = base_bytes(self.rt, self.place.base)?;
         is_posted(self.rt.alloc(), words, &base, hasher)
     }
+}
+
+// Whether the fault is one of the message alone.
+fn is_of_message(why: PostFault) -> bool {
+    matches!(
+        why,
+        PostFault::ByteZero | PostFault::FieldTooLong | PostFault::BadReply
+    )
 }
 
 // The address of the link file, which is read under its lock.

@@ -141,16 +141,6 @@ fn run_words<W: Sink, E: Sink>(
     }
 }
 
-// The status of a command line that asks for no command.
-fn status_of(rt: &HostRuntime, ending: Ending) -> Status {
-    match ending {
-        Ending::Helped => Status::Good,
-        Ending::CannotPrint => Fault::CannotUse("-").report(&mut Watched::new(rt.stderr())),
-        Ending::OutOfMemory => Fault::OutOfMemory.report(&mut Watched::new(rt.stderr())),
-        Ending::Refused => Status::CommandLine,
-    }
-}
-
 // The words of the command line. The status is that of what stops it: words that are no text, or
 // no memory.
 fn words_given(rt: &HostRuntime) -> Result<Vec<String>, Status> {
@@ -193,7 +183,12 @@ fn run(rt: &HostRuntime) -> Status {
     match parse(rt.alloc(), words.as_slice()) {
         Ok(Some(asked)) => run_asked(rt, &asked),
         Ok(None) => Status::CommandLine,
-        Err(error) => status_of(rt, explain(rt, &error)),
+        Err(error) => match explain(rt, &error) {
+            Ending::Helped => Status::Good,
+            Ending::CannotPrint => Fault::CannotUse("-").report(&mut Watched::new(rt.stderr())),
+            Ending::OutOfMemory => Fault::OutOfMemory.report(&mut Watched::new(rt.stderr())),
+            Ending::Refused => Status::CommandLine,
+        },
     }
 }
 
