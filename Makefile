@@ -51,8 +51,10 @@ bin/echonet: toolchain
 	$(call prove,echonet $(if $(filter trials,$(MAKECMDGOALS)),test_speed test_crashes),bin/echonet)
 endif
 
+# One process for each crate, since each process loads all that stands below it. Alone `rt ci` gives a crate up to four,
+# and lets some wait for memory that they do not take.
 test: toolchain
-	rt ci
+	RT_JOBS=$$(scripts/jobs.sh 0) rt ci
 
 edits: toolchain
 	$(call prove,$(or $(only),$(notdir $(wildcard edits/*))))
@@ -66,7 +68,7 @@ crate-table:
 
 times: toolchain
 	@mkdir -p bin
-	python3 scripts/gate_times.py bin/times.md rt ci
+	RT_JOBS=$$(scripts/jobs.sh 0) python3 scripts/gate_times.py bin/times.md rt ci
 
 seconds:
 	scripts/seconds.sh

@@ -1,7 +1,8 @@
 #!/usr/bin/env bash
 # Prints how many crates to prove side by side: one for each 3.5 GB of free memory, at least 2, and at most two more than
-# there are processors.
+# there are processors. Word: how many more, instead of two.
 set -eu
+most=$(($(nproc) + ${1:-2}))
 cd /sys/fs/cgroup 2> /dev/null || cd /
 free=$(awk '$1 == "MemAvailable:" { print int($2 / 1024) }' /proc/meminfo)
 if [ -f memory.max ] && [ "$(cat memory.max)" != max ]; then
@@ -10,6 +11,6 @@ if [ -f memory.max ] && [ "$(cat memory.max)" != max ]; then
   [ "$own" -ge "$free" ] || free=$own
 fi
 jobs=$((free / 3584))
-[ "$jobs" -le $(($(nproc) + 2)) ] || jobs=$(($(nproc) + 2))
+[ "$jobs" -le "$most" ] || jobs=$most
 [ "$jobs" -ge 2 ] || jobs=2
 echo "$jobs"

@@ -27,7 +27,13 @@ cd "$(dirname "$0")/.."
       if ((crate, other) in uses && below(other) > most) most = below(other)
     return belows[crate] = seconds[crate] + most
   }
+  # Counts the crates that one stands on.
+  function count(top, crate, other) {
+    for (other in wanted)
+      if ((crate, other) in uses && !((top, other) in under)) { under[top, other]; number[top]++; count(top, other) }
+  }
   END {
+    for (crate in wanted) count(crate, crate)
     for (crate in seconds) { time += seconds[crate]; long += lines[crate] }
     for (crate in wanted)
       if (!(crate in seconds)) seconds[crate] = lines[crate] * (long ? time / long : 1)
@@ -35,8 +41,9 @@ cd "$(dirname "$0")/.."
       if (above(crate) > longest) longest = above(crate)
     for (crate in wanted) {
       chain = above(crate) + below(crate) - seconds[crate]
-      # Each process loads all that stands below the crate. So only the crates of the longest chain have a second one.
-      processes = chain >= 0.95 * longest ? 2 : 1
+      # Each process loads all that stands below the crate. So only crates of the longest chain that stand on at most
+      # twelve others have a second one.
+      processes = chain >= 0.95 * longest && number[crate] <= 12 ? 2 : 1
       print above(crate), crate, processes, int(18 * (1 - above(crate) / longest))
     }
   }' | sort -k 1,1nr -k 2,2 | cut -d ' ' -f 2-
