@@ -19,7 +19,7 @@ CHANGES = {
     "cmd_base/outbound_note": "the note of the folder of packets, in a base folder",
     "cmd_base/hard_links": "copies of files that a snapshot shares, before a base folder is opened",
     "cmd_base/scan_files": "calls of RealDisk, passed on; packets under temporary names",
-    "cmd_input/converting": "convert into a file",
+    "cmd_read/converting": "convert into a file",
     "cmd_read/jam": "export into a JAM base",
     "cmd_read/locked": "the same: a JAM base that is begun",
     "cmd_read/making": "new files of export",

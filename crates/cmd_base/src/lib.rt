@@ -3,21 +3,20 @@
 //! `base_files`, the files of the system on which a base file is replaced.
 //!
 //! `scan_files` adds the packets of a scan, `left_files` lists those of earlier scans. For a base folder, `hard_links`
-//! keeps snapshots unchanged, `found` is its state before it is opened, and `opened` is work on the open folder.
-//! `expecting` has the keys of the messages that `toss` will read, `outbound_note` the folder of packets.
+//! keeps snapshots unchanged, `expecting` has the keys of the messages that `toss` will read, and `outbound_note` the
+//! folder of packets.
 #![tactic(auto)]
 
 mod base_files;
 mod expecting;
-mod found;
 mod hard_links;
 mod left_files;
-mod opened;
 mod outbound_note;
 mod scan_files;
 
 pub use base_files::BaseFiles;
-pub use found::{FolderState, found_in};
+pub use expecting::expected_keys;
+pub use hard_links::break_hard_links;
 pub use left_files::LeftFiles;
-pub use opened::Opened;
+pub use outbound_note::note_outbound;
 pub use scan_files::ScanFiles;

@@ -1,7 +1,7 @@
 //! Base folders: which BASE is one, and its files.
 use crate::{folder_fault, folder_path, output_fault, read_file};
-use base_file::{Base, BaseFault};
-use base_folder::{FolderSnapshot, OpenError, fill, log_end, read_snapshot};
+use base_file::BaseFault;
+use base_folder::{FolderSnapshot, read_snapshot};
 use base_store::SipDigest;
 use cmd_status::Fault;
 use disk_system::{RealDisk, Unknown, flush_path};
@@ -15,34 +15,6 @@ pub fn is_folder(rt: &HostRuntime, path: &str) -> bool {
     match fs::metadata(rt, path) {
         Ok(found) => found.is_dir(),
         Err(_) => false,
-    }
-}
-
-/// Fills the empty base folder with this path with the messages of a base.
-pub fn fill_folder<'a>(
-    rt: &HostRuntime,
-    to: &'a str,
-    base: &Base<RandomState>,
-) -> Result<(), Fault<'a>> {
-    flush_name(rt, to, 0)?;
-    let strange = is_strange(rt, to)?;
-    let path = folder_path(rt, to)?;
-    fill_at(rt, to, path.as_str(), strange, base)
-}
-
-// Fills it. Its files have `path` before their names.
-fn fill_at<'a>(
-    rt: &HostRuntime,
-    to: &'a str,
-    path: &str,
-    strange: bool,
-    base: &Base<RandomState>,
-) -> Result<(), Fault<'a>> {
-    let key = drawn_key(rt)?;
-    let mut disk = RealDisk::new(rt, Unknown);
-    match fill::<_, SipDigest, _>(rt.alloc(), &mut disk, path.as_bytes(), strange, key, base) {
-        Ok(()) => Ok(()),
-        Err(why) => Err(why.fault(to)),
     }
 }
 
@@ -81,28 +53,6 @@ pub fn base_bytes<'a>(rt: &HostRuntime, base: &'a str) -> Result<Vec<u8>, Fault<
 // The bytes of a base file with the messages of a base folder.
 fn snapshot_bytes<'a>(rt: &HostRuntime, snapshot: &FolderSnapshot) -> Result<Vec<u8>, Fault<'a>> {
     Ok(snapshot.as_file::<SipDigest>(rt.alloc())?)
-}
-
-/// Whether nothing was ever committed in the folder, and all its files can belong to a base folder.
-pub fn is_empty<'a>(rt: &HostRuntime, base: &'a str) -> Result<bool, Fault<'a>> {
-    let strange = is_strange(rt, base)?;
-    let path = folder_path(rt, base)?;
-    is_empty_at(rt, base, path.as_str(), strange)
-}
-
-// The same. The files have `path` before their names.
-fn is_empty_at<'a>(
-    rt: &HostRuntime,
-    base: &'a str,
-    path: &str,
-    strange: bool,
-) -> Result<bool, Fault<'a>> {
-    let mut disk = RealDisk::new(rt, Unknown);
-    match log_end(rt.alloc(), &mut disk, path.as_bytes(), strange) {
-        Ok(end) => Ok(end.gate == 0),
-        Err(OpenError::Wrong(_)) => Ok(false),
-        Err(why) => Err(why.fault(base)),
-    }
 }
 
 /// A key for digests, as two halves. If the system gives no seed, that is a failed read.

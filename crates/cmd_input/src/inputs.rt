@@ -12,6 +12,9 @@ pub const MAX_INPUT: usize = 67_108_864;
 /// The most bytes of a link file, a script or a posted body.
 pub const MAX_TEXT_FILE: usize = 1_048_576;
 
+/// The first bytes of every base file.
+pub const BASE_START: &[u8] = b"ECHOBAS";
+
 /// Why the file with this path was not read.
 pub fn input_fault(fault: InputFault, path: &str) -> Fault<'_> {
     match fault {
@@ -60,11 +63,6 @@ pub fn read_standard_input<'a>(rt: &HostRuntime, most: usize) -> Result<Vec<u8>,
     read_whole(rt.alloc(), &mut Watched::new(rt.reader()), most).map_err(|fault| input_fault(
         fault, "-",
     ))
-}
-
-/// The bytes of a script.
-pub fn read_script<'a>(rt: &HostRuntime, path: &'a str) -> Result<Vec<u8>, Fault<'a>> {
-    read_file(rt, path, MAX_TEXT_FILE)
 }
 
 /// The bytes of link files in order, up to the first that cannot be read. The fault is that of this file, or the

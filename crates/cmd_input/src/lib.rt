@@ -1,15 +1,13 @@
-//! The input of commands: files, standard input, the clock, locks and bases. The progress line and the command
-//! `convert` are here too. Promise: the stamp of a second is the one that the calendar gives it, and there is none
+//! The input of commands: files, standard input, the clock, locks and bases. The progress line is here too. Promise: the stamp of a second is the one that the calendar gives it, and there is none
 //! exactly if its year has more than four digits (`stamp_at`, `shown_at`). All else is proved to be safe and to end, and
 //! no more. Begin with `paths`, the names of files.
 //!
 //! `inputs` reads files, `packets` the packet files of `toss`. `moment` turns seconds into a stamp, `local` finds the
 //! time zone, `clock` reads the clock. `locks` has the locks of a station, `progress` the progress line. `folders`
-//! reads and fills base folders, and `converting` is the command `convert`.
+//! reads base folders.
 #![tactic(auto)]
 
 mod clock;
-mod converting;
 mod folders;
 mod inputs;
 mod local;
@@ -20,11 +18,10 @@ mod paths;
 mod progress;
 
 pub use clock::{created_now, moment_of, serial_from};
-pub use converting::{BASE_START, run_convert};
 pub use folders::{base_bytes, drawn_key, flush_name, is_folder, is_strange, look_into};
 pub use inputs::{
-    MAX_INPUT, MAX_TEXT_FILE, input_fault, output_fault, read_file, read_given, read_if_given,
-    read_link_file, read_links, read_script, read_standard_input,
+    BASE_START, MAX_INPUT, MAX_TEXT_FILE, input_fault, output_fault, read_file, read_given,
+    read_if_given, read_link_file, read_links, read_standard_input,
 };
 pub use locks::{BaseLock, LinkLock, folder_fault, lead_to_one, lock_file, locked_folder};
 pub use moment::{shown_at, stamp_at};

@@ -1,6 +1,6 @@
 //! The commands that change no base: `show`, `nodelist`, `check`, `links`, `why`, `picture`, `list`, `export` and
-//! `replay`, each on the files that its words name. `export --msg` and `export --jam` write files for readers, and
-//! `resend` a packet.
+//! `replay`, each on the files that its words name. `export --msg` and `export --jam` write files for readers,
+//! `resend` a packet, and `convert` another base.
 //!
 //! They are proved to be safe and to end, and no more. The crates that they call promise what they print and write.
 //!
@@ -9,10 +9,11 @@
 //! shows the progress. `bases` and `listing` have `list` and `export`, for a base file and for a folder. For `export
 //! --msg` and `--jam`: `making` (new files), `stored` (a file for each message), `named` (files of a JAM base, no
 //! links), `locked` (a JAM base is begun, and locked) and `jam`. `outbox` reads and marks the messages that `post --jam`
-//! posts. `resending` has `resend`.
+//! posts. `resending` has `resend`, and `converting` has `convert`.
 #![tactic(auto)]
 
 mod bases;
+mod converting;
 mod files;
 mod jam;
 mod judging;
@@ -27,6 +28,7 @@ mod resending;
 mod stored;
 
 pub use bases::{run_export, run_list};
+pub use converting::run_convert;
 pub use jam::run_export_jam;
 pub use judging::run_links;
 pub use nets::{run_check, run_picture, run_replay, run_why};

@@ -4,7 +4,9 @@ use cmd_check::{
     Besides, assume, check, check_all, check_assuming, picture, picture_why, print_assumed, replay,
     why,
 };
-use cmd_input::{MAX_INPUT, PathNames, Progress, read_if_given, read_links, read_script};
+use cmd_input::{
+    MAX_INPUT, MAX_TEXT_FILE, PathNames, Progress, read_file, read_if_given, read_links,
+};
 use cmd_status::{Fault, Status, parse_address};
 use cmd_words::CheckWords;
 use disk_io::Sink;
@@ -151,7 +153,7 @@ fn replay_input<'a>(
     rt: &HostRuntime,
     script: &'a str,
 ) -> Result<(Vec<u8>, RandomState), Fault<'a>> {
-    let bytes = read_script(rt, script)?;
+    let bytes = read_file(rt, script, MAX_TEXT_FILE)?;
     let hasher = RandomState::new(rt).map_err(|_| Fault::CannotUse(script))?;
     Ok((bytes, hasher))
 }

@@ -3,12 +3,15 @@
 //! be safe and to end, and no more: the crates `station` and `station_scan` promise what a command reads and writes on any
 //! disk. Begin with `place`, the paths, the locks and the base of a station.
 //!
-//! `running` runs a command on it. `posting` has the words of `post`, `posting_jam` posts a message of a JAM
-//! base, and `posting_mail` a mail. `changing`, `tossing` and `scanning` are the
-//! commands by their words. `unplaced` reports the path at which a scan failed.
+//! `found` is the state of a base folder before it is opened, and `opened` is work on the open folder. `running` runs a
+//! command on a station. `posting` has the words of `post`, `posting_jam` posts a message of a JAM base, and `posting_mail` a
+//! mail. `changing`, `tossing` and `scanning` are the commands by their words. `unplaced`
+//! reports the path at which a scan failed.
 #![tactic(auto)]
 
 mod changing;
+mod found;
+mod opened;
 mod place;
 mod posting;
 mod posting_jam;

@@ -2,7 +2,8 @@
 ghost use Rattle.std.specs.Prelude.{OnOk};
 ghost use Rattle.station.specs.Opening.{AreFree};
 
-use cmd_base::{BaseFiles, FolderState, found_in};
+use crate::found::{FolderState, found_in};
+use cmd_base::BaseFiles;
 use cmd_input::{BaseLock, LinkLock, is_folder};
 use cmd_status::Fault;
 use disk_io::Disk;

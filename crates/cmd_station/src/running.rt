@@ -5,10 +5,10 @@ ghost use Rattle.disk_io.specs.Disk.{Honestly};
 ghost use Rattle.base_log.specs.Opening.{AreAlone};
 ghost use Rattle.station.specs.Opening.{AreFree};
 
+use crate::opened::Opened;
 use crate::place::Station;
 use base_file::BaseFault;
 use base_store::{SipDigest, StoreError};
-use cmd_base::Opened;
 use cmd_input::{Messages, Progress, Tossing, look_into};
 use cmd_status::Fault;
 use cmd_store::{CommandError, StoreCommand};

@@ -4,11 +4,12 @@ ghost use Rattle.disk_io.specs.Disk.{Honestly};
 ghost use Rattle.base_log.specs.Opening.{AreAlone};
 ghost use Rattle.station.specs.Opening.{AreFree};
 
+use crate::opened::Opened;
 use crate::place::{Place, Station, find_base, locks_of};
 use crate::running::{fault_of, file_station, folder_station};
 use crate::unplaced::report_unplaced;
 use base_store::{SipDigest, StoreError};
-use cmd_base::{LeftFiles, Opened, ScanFiles};
+use cmd_base::{LeftFiles, ScanFiles};
 use cmd_input::{Messages, Progress, folder_path, moment_of};
 use cmd_status::{Fault, Status};
 use cmd_store::CommandError;

@@ -1,6 +1,5 @@
 //! The program `echonet`: it reads the words of the command line and calls the command that they name. The commands that
-//! change no base are in `cmd_read`, those that change one in `cmd_station`, and `convert` is in `cmd_input`. `post --jam`,
-//! in `post_jam`, needs both.
+//! change no base are in `cmd_read`, and those that change one in `cmd_station`. `post --jam`, in `post_jam`, needs both.
 //!
 //! It is proved to be safe and to end, and no more. It is small, so that the crates below it are proved in parallel.
 //! Begin at `main`, the last function, then read `run_words`.
@@ -9,11 +8,11 @@
 mod post_jam;
 
 use crate::post_jam::run_post_jam;
-use cmd_input::{Cleared, Progress, names_of, run_convert};
+use cmd_input::{Cleared, Progress, names_of};
 use cmd_notes::{Heard, Noted};
 use cmd_read::{
-    run_check, run_export, run_export_jam, run_export_stored, run_links, run_list, run_nodelist,
-    run_picture, run_replay, run_resend, run_show, run_why,
+    run_check, run_convert, run_export, run_export_jam, run_export_stored, run_links, run_list,
+    run_nodelist, run_picture, run_replay, run_resend, run_show, run_why,
 };
 use cmd_station::{
     ScanWords, run_post, run_post_mail, run_post_stored, run_purge, run_reply, run_scan, run_toss,

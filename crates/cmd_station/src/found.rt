@@ -1,19 +1,19 @@
 //! The state of a base folder before it is opened.
 
-use crate::hard_links::break_hard_links;
+use cmd_base::break_hard_links;
 use cmd_input::{drawn_key, folder_path, is_strange};
 use cmd_status::Fault;
 use station_bases::FolderProbe;
 
 /// The state of a base folder before it is opened, and the path before the names of its files.
 #[derive(Drop)]
-pub struct FolderState {
-    pub path: String,
-    pub found: FolderProbe,
+pub(crate) struct FolderState {
+    pub(crate) path: String,
+    pub(crate) found: FolderProbe,
 }
 
 /// The state of the base folder with this path, and a key for its digests. Its files have no second path then.
-pub fn found_in<'a>(rt: &HostRuntime, base: &'a str) -> Result<FolderState, Fault<'a>> {
+pub(crate) fn found_in<'a>(rt: &HostRuntime, base: &'a str) -> Result<FolderState, Fault<'a>> {
     let strange = is_strange(rt, base)?;
     let path = folder_path(rt, base)?;
     match probe(rt, base, path.as_str(), strange) {

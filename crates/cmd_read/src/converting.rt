@@ -1,15 +1,16 @@
 //! `convert` makes a base file or a base folder with the messages of another base.
 
-use crate::folders::{base_bytes, fill_folder, is_empty, is_folder};
-use crate::{folder_of, locked_folder, output_fault};
 use base_file::{Base, BaseFault};
+use base_folder::{OpenError, fill, log_end};
+use base_store::SipDigest;
+use cmd_input::{
+    BASE_START, base_bytes, drawn_key, flush_name, folder_of, folder_path, is_folder, is_strange,
+    locked_folder, output_fault,
+};
 use cmd_status::{Fault, Status, print_rest};
 use disk_io::{Sink, Watched};
-use disk_system::{NewFile, create_file, flush_folder};
+use disk_system::{NewFile, RealDisk, Unknown, create_file, flush_folder};
 use std::collections::hash_map::RandomState;
-
-/// The first bytes of every base file.
-pub const BASE_START: &[u8] = b"ECHOBAS";
 
 /// The word in the staging path of a new base file where other files have the address of a system.
 const OWN: &str = "base";
@@ -81,6 +82,56 @@ fn fill_if_empty<'a>(
         fill_folder(rt, to, base)
     } else {
         Err(Fault::CannotUse(to))
+    }
+}
+
+// Whether nothing was ever committed in the folder, and all its files can belong to a base folder.
+fn is_empty<'a>(rt: &HostRuntime, base: &'a str) -> Result<bool, Fault<'a>> {
+    let strange = is_strange(rt, base)?;
+    let path = folder_path(rt, base)?;
+    is_empty_at(rt, base, path.as_str(), strange)
+}
+
+// The same. The files have `path` before their names.
+fn is_empty_at<'a>(
+    rt: &HostRuntime,
+    base: &'a str,
+    path: &str,
+    strange: bool,
+) -> Result<bool, Fault<'a>> {
+    let mut disk = RealDisk::new(rt, Unknown);
+    match log_end(rt.alloc(), &mut disk, path.as_bytes(), strange) {
+        Ok(end) => Ok(end.gate == 0),
+        Err(OpenError::Wrong(_)) => Ok(false),
+        Err(why) => Err(why.fault(base)),
+    }
+}
+
+// Fills the empty base folder with this path with the messages of a base.
+fn fill_folder<'a>(
+    rt: &HostRuntime,
+    to: &'a str,
+    base: &Base<RandomState>,
+) -> Result<(), Fault<'a>> {
+    flush_name(rt, to, 0)?;
+    let strange = is_strange(rt, to)?;
+    let path = folder_path(rt, to)?;
+    fill_at(rt, to, path.as_str(), strange, base)
+}
+
+// Fills it. Its files have `path` before their names.
+fn fill_at<'a>(
+    rt: &HostRuntime,
+    to: &'a str,
+    path: &str,
+    strange: bool,
+    base: &Base<RandomState>,
+) -> Result<(), Fault<'a>> {
+    let key = drawn_key(rt)?;
+    let mut disk = RealDisk::new(rt, Unknown);
+    match fill::<_, SipDigest, _>(rt.alloc(), &mut disk, path.as_bytes(), strange, key, base) {
+        Ok(()) => Ok(()),
+        Err(why) => Err(why.fault(to)),
     }
 }
 

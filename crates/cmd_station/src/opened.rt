@@ -1,10 +1,9 @@
 //! The work of the program on an open base folder, before a command.
 ghost use Rattle.std.specs.Prelude.{◌≡◌, Some};
 
-use crate::expecting::expected_keys;
-use crate::outbound_note::note_outbound;
 use base_folder_store::FolderStore;
 use base_store::{SipDigest, Store};
+use cmd_base::{expected_keys, note_outbound};
 use cmd_input::{Tossing, flush_name, lead_to_one};
 use cmd_status::Fault;
 use disk_io::Disk;
@@ -14,7 +13,7 @@ use station::BeforeCommand;
 /// Before packets are tossed into a folder, it learns which messages they have. The name of a folder without messages
 /// is synced.
 #[derive(Drop)]
-pub struct Opened<'a, 'b, 'r> {
+pub(crate) struct Opened<'a, 'b, 'r> {
     rt: &'r HostRuntime,
     base: &'a str,
     toss: Option<Tossing<'b>>,
@@ -25,7 +24,7 @@ pub struct Opened<'a, 'b, 'r> {
 
 impl<'a, 'b, 'r> Opened<'a, 'b, 'r> {
     /// For the folder of this name, with the packets that are tossed into it, if there are any.
-    pub fn new(
+    pub(crate) fn new(
         rt: &'r HostRuntime,
         base: &'a str,
         toss: Option<Tossing<'b>>,
@@ -40,7 +39,7 @@ impl<'a, 'b, 'r> Opened<'a, 'b, 'r> {
     }
 
     /// The same for a command that writes packets into this folder.
-    pub fn apart_from(self, outbound: &'a str) -> Opened<'a, 'b, 'r> {
+    pub(crate) fn apart_from(self, outbound: &'a str) -> Opened<'a, 'b, 'r> {
         Opened {
             outbound: Some(outbound),
             ..self
