@@ -1,11 +1,13 @@
 //! Tosses a packet into a store, and notes the messages that were not filed.
-ghost use Rattle.std.specs.Prelude.{◌≡◌, ◌+◌, ◌<◌, ◌≤◌, ◌^◌, ◌≢◌, [], ◌++◌, IfErr, IsErr, OnErr, OnOk, vec_capacity, vec_len};
+ghost use Rattle.std.specs.Prelude.{◌≡◌, ◌+◌, ◌<◌, ◌≤◌, ◌^◌, ◌≢◌, [], ◌++◌, IfErr, IsErr, IsErrOf, OnErr, OnOk, vec_capacity, vec_len};
 ghost use Rattle.base_file.specs.Base.{Base};
 ghost use Rattle.disk_io.specs.Disk.{Honestly};
 ghost use Rattle.base_store.specs.Store.{CommitsNothing, HasStoreCause};
 ghost use Rattle.model_steps.specs.declared.outcome.Outcome.TheVariants.{Filed};
 ghost use Rattle.echo_toss.specs.declared.fault.TossCause.TheVariants as cause;
 ghost use Rattle.echo_toss.specs.declared.step_error.TossStepError.TheVariants as toss;
+ghost use Rattle.base_store.specs.declared.store_error.StoreError.TheVariants.{TooMany};
+ghost use Rattle.echo_toss.specs.Bounds.{AddsReceived, IsPastBound};
 ghost use Rattle.echo_toss.specs.Messages.{CountsStop};
 ghost use Rattle.echo_toss.specs.PacketSteps.{CountsToss};
 ghost use Rattle.echo_toss.specs.PacketsIn.{GoesOnUnlessFailed, messages_answer, packet_answer, stop_in, toss_answer};
@@ -46,6 +48,7 @@ pub fn toss_noting_in<T: Store, R: Source>(
     ensures device { CountsToss (packet_answer result) (R.failures reader.old) (R.failures reader.new) }
     ensures goes_on { GoesOnUnlessFailed (T.state store.old) (stop_in result) (T.state store.new) }
     ensures commits { CommitsNothing (T.state store.old) (T.state store.new) }
+    ensures many { IsErrOf (toss_answer (stop_in result)) TooMany → IsPastBound T.state (AddsReceived limits links.now) (T.state store.old) }
     ensures cause { HasStoreCause (T.state store.old) (T.state store.new) (T.failures store.old) (T.failures store.new) (toss_answer (stop_in result)) }
     ensures room { vec_len text.new + room ≤ vec_capacity text.new }
 {
@@ -87,6 +90,7 @@ fn note_messages_in<T: Store, R: Source>(
     ensures device { CountsStop (messages_answer result) (R.failures reader.old) (R.failures reader.new) }
     ensures goes_on { GoesOnUnlessFailed (T.state store.old) result (T.state store.new) }
     ensures commits { CommitsNothing (T.state store.old) (T.state store.new) }
+    ensures many { IsErrOf (toss_answer result) TooMany → IsPastBound T.state (AddsReceived limits links.now) (T.state store.old) }
     ensures cause { HasStoreCause (T.state store.old) (T.state store.new) (T.failures store.old) (T.failures store.new) (toss_answer result) }
     ensures room { vec_len text.new + room ≤ vec_capacity text.new }
 {

@@ -8,4 +8,5 @@ pub mod Purges
 pub mod Tosses
 pub mod TossedFiles
 pub mod Runs
+pub mod Bounded
 mod Answered

@@ -1,3 +1,4 @@
+pub mod Bounded
 pub mod Stops
 pub mod Answered
 pub mod Posted

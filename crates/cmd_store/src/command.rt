@@ -1,11 +1,14 @@
 //! What a command on a store owes, whichever command and whichever store that is.
-ghost use Rattle.std.specs.Prelude.{Bool, Result, IfErr, OnOk};
+ghost use Rattle.std.specs.Prelude.{Bool, Result, IfErr, IsErrOf, OnOk};
 ghost use Rattle.base_file.specs.Base.{Base};
 ghost use Rattle.disk_io.specs.Disk.{Honestly};
 ghost use Rattle.echo_links.specs.Links.{LinkFile as TheLinks};
 ghost use Rattle.cmd_status.specs.Devices.{Output, output_of};
 ghost use Rattle.base_store.specs.Store.{HasStoreCause};
+ghost use Rattle.base_store.specs.declared.store_error.StoreError.TheVariants.{TooMany};
 ghost use Rattle.cmd_store.specs.Answered.{HasCommitted, MayMake, StaysWhereMet};
+ghost use Rattle.echo_filed.specs.Filed.{Filed as TheMessage};
+ghost use Rattle.cmd_store.specs.Bounded.{StaysTooMany};
 ghost use Rattle.cmd_store.specs.Stops.{store_answer};
 ghost use Rattle.cmd_store.specs.declared.command_error.CommandError.{CommandError as TheStop};
 
@@ -33,6 +36,9 @@ pub trait StoreCommand<'a> {
     // Whether what the store held before may be committed where the command meets a fault.
     ghost commits_held: { Self → Bool };
 
+    // Which message it may add to this base.
+    ghost adds: { Self → TheLinks → Base → TheMessage → Type 0 };
+
     /// Runs it with this link file on the store, prints its lines, and commits.
     fn run<T: PurgedStore, W: Sink>(
         &mut self,
@@ -49,5 +55,6 @@ pub trait StoreCommand<'a> {
         ensures ready { OnOk result (T.state store.new).is_ready }
         ensures met { IfErr result (StaysWhereMet (commits_held self.old) (T.state store.old) (T.state store.new)) }
         ensures crash { MayMake (may self.old self.new links.now) (T.state store.old) (T.state store.new) }
+        ensures many { IsErrOf (store_answer result) TooMany → StaysTooMany (commits_held self.old) T.state (adds self.old links.now) (T.state store.old) (T.state store.new) }
         ensures cause { HasStoreCause (T.state store.old) (T.state store.new) (T.failures store.old) (T.failures store.new) (store_answer result) };
 }

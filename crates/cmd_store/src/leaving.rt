@@ -1,8 +1,10 @@
 //! The end of a command: its lines are printed, and what the store holds is committed.
-ghost use Rattle.std.specs.Prelude.{IfErr, OnOk};
+ghost use Rattle.std.specs.Prelude.{IfErr, IsErrOf, OnOk};
 ghost use Rattle.cmd_status.specs.Devices.{output_of};
 ghost use Rattle.base_store.specs.Store.{Commits, HasStoreCause, MayCommit};
+ghost use Rattle.base_store.specs.declared.store_error.StoreError.TheVariants.{TooMany};
 ghost use Rattle.cmd_store.specs.Answered.{LooksWhereMet, PrintsAll};
+ghost use Rattle.cmd_store.specs.Bounded.{IsUncommitted};
 ghost use Rattle.cmd_store.specs.Stops.{IsOfStore, store_answer};
 
 use crate::command_error::CommandError;
@@ -16,6 +18,7 @@ pub fn commit_on<'a, T: Store>(store: &mut T) -> Result<(), CommandError<'a>>
     ensures committed { OnOk result (Commits (T.state store.old) (T.state store.new)) }
     ensures either { MayCommit (T.state store.old) (T.state store.new) }
     ensures of_store { IfErr result IsOfStore }
+    ensures many { IsErrOf (store_answer result) TooMany → IsUncommitted (T.state store.old) (T.state store.new) }
     ensures cause { HasStoreCause (T.state store.old) (T.state store.new) (T.failures store.old) (T.failures store.new) (store_answer result) }
 {
     store.commit()?;
@@ -33,6 +36,7 @@ pub(crate) fn leave<'a, T: Store, W: Sink>(
     ensures committed { OnOk result (Commits (T.state store.old) (T.state store.new)) }
     ensures met { IfErr result (LooksWhereMet (T.state store.old) (T.state store.new)) }
     ensures either { MayCommit (T.state store.old) (T.state store.new) }
+    ensures many { IsErrOf (store_answer result) TooMany → IsUncommitted (T.state store.old) (T.state store.new) }
     ensures cause { HasStoreCause (T.state store.old) (T.state store.new) (T.failures store.old) (T.failures store.new) (store_answer result) }
 {
     print_rest(lines, out)?;

@@ -4,8 +4,9 @@
 //! The contract for the program: each command prints just the lines, or returns just the fault, that the base of the
 //! store and the command's words give. If it ends well, the store holds and has committed the base that the command
 //! makes. If it met a fault, it has committed at most what the store held before. A crash at any time leaves the base
-//! that was committed before, or the one that the command makes. A failure of the store is returned as one. A mail
-//! posts its words in the bytes of a charset, and other words if the charset lacks one.
+//! that was committed before, or the one that the command makes. A failure of the store is returned as one. It is
+//! that there is too much only if the store was full or had no room, and then nothing was committed. A mail posts its
+//! words in the bytes of a charset, and other words if the charset lacks one.
 //!
 //! Each is a type that implements `StoreCommand`, except `scan`, which needs the disk for its packets.
 //!

@@ -1,6 +1,7 @@
 //! `post --mail` as a command on a store.
 ghost use Rattle.std.specs.Prelude.{false};
 ghost use Rattle.echo_toss.specs.PacketsIn.{state_in};
+ghost use Rattle.cmd_store.specs.Bounded.{AddsMailed};
 ghost use Rattle.cmd_store.specs.MailPosted.{Mails, MailsOn, ReadsMail};
 
 use crate::fault::LetterFault;
@@ -43,6 +44,8 @@ impl<'a> StoreCommand<'a> for PostMail<'_> {
     ghost may = { λ self _ file. Mails file self.letter self.asked };
 
     ghost commits_held = { λ self. false };
+
+    ghost adds = { λ self file. AddsMailed file self.letter self.asked };
 
     fn run<T: PurgedStore, W: Sink>(
         &mut self,

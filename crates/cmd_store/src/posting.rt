@@ -1,13 +1,15 @@
 //! The command `post` on a store.
-ghost use Rattle.std.specs.Prelude.{false, IfErr, OnOk};
+ghost use Rattle.std.specs.Prelude.{false, IfErr, IsErrOf, OnOk};
 ghost use Rattle.disk_io.specs.Disk.{Honestly};
 ghost use Rattle.base_file.specs.Base.{Base};
 ghost use Rattle.cmd_report.specs.Lines.{posted_line};
 ghost use Rattle.cmd_status.specs.Devices.{output_of};
 ghost use Rattle.base_store.specs.Store.{Commits, HasStoreCause, MayCommit};
+ghost use Rattle.base_store.specs.declared.store_error.StoreError.TheVariants.{TooMany};
 ghost use Rattle.echo_text.specs.Ids.{id_of};
 ghost use Rattle.echo_toss.specs.PacketsIn.{state_in};
 ghost use Rattle.cmd_store.specs.Answered.{CommitsNoneWhereMet, HasCommitted, LooksWhereMet, MayMake, PrintsAll};
+ghost use Rattle.cmd_store.specs.Bounded.{AddsPosted, IsStoppedFull, IsUncommitted};
 ghost use Rattle.cmd_store.specs.FreeSerial.{PostsAs, PostsAsOn};
 ghost use Rattle.cmd_store.specs.Stops.{store_answer};
 
@@ -41,6 +43,8 @@ impl<'a> StoreCommand<'a> for Post<'_> {
 
     ghost commits_held = { λ self. false };
 
+    ghost adds = { λ self file. AddsPosted file self.words self.body.now };
+
     fn run<T: PurgedStore, W: Sink>(
         &mut self,
         alloc: Global,
@@ -71,6 +75,7 @@ pub(crate) fn post_as<'a, T: Store, W: Sink>(
     ensures ready { OnOk result (T.state store.new).is_ready }
     ensures met { IfErr result (CommitsNoneWhereMet (T.state store.old) (T.state store.new)) }
     ensures crash { MayMake (PostsAs free links.now words.entry body.now) (T.state store.old) (T.state store.new) }
+    ensures many { IsErrOf (store_answer result) TooMany → IsStoppedFull T.state (AddsPosted links.now words.entry body.now) (T.state store.old) (T.state store.new) }
     ensures cause { HasStoreCause (T.state store.old) (T.state store.new) (T.failures store.old) (T.failures store.new) (store_answer result) }
 {
     let draft = draft_of(alloc, words, body)?;
@@ -92,6 +97,7 @@ fn leave_posted<'a, T: Store, W: Sink>(
     ensures committed { OnOk result (Commits (T.state store.old) (T.state store.new)) }
     ensures met { IfErr result (LooksWhereMet (T.state store.old) (T.state store.new)) }
     ensures either { MayCommit (T.state store.old) (T.state store.new) }
+    ensures many { IsErrOf (store_answer result) TooMany → IsUncommitted (T.state store.old) (T.state store.new) }
     ensures cause { HasStoreCause (T.state store.old) (T.state store.new) (T.failures store.old) (T.failures store.new) (store_answer result) }
 {
     let mut lines = Vec::new(alloc);

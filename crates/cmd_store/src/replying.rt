@@ -1,11 +1,12 @@
 //! The command `reply` on a store.
-ghost use Rattle.std.specs.Prelude.{false, IfErr, OnOk, slice_get};
+ghost use Rattle.std.specs.Prelude.{false, IfErr, IsErrOf, OnOk, slice_get};
 ghost use Rattle.disk_io.specs.Disk.{Honestly};
 ghost use Rattle.base_file.specs.Base.{Base};
 ghost use Rattle.cmd_status.specs.Devices.{output_of};
 ghost use Rattle.base_store.specs.Store.{HasStoreCause, LooksOn};
 ghost use Rattle.echo_toss.specs.PacketsIn.{state_in};
 ghost use Rattle.cmd_store.specs.Answered.{CommitsNoneWhereMet, HasCommitted, MayMake};
+ghost use Rattle.cmd_store.specs.Bounded.{AddsReply, IsStoppedFull};
 ghost use Rattle.cmd_store.specs.Replied.{FindsOn, Replies, RepliesOn};
 ghost use Rattle.cmd_store.specs.Stops.{store_answer};
 
@@ -38,6 +39,8 @@ impl<'a> StoreCommand<'a> for Reply<'_> {
 
     ghost commits_held = { λ self. false };
 
+    ghost adds = { λ self file. AddsReply file self.answer self.body.now };
+
     fn run<T: PurgedStore, W: Sink>(
         &mut self,
         alloc: Global,
@@ -68,6 +71,7 @@ fn reply_on<'a, T: Store, W: Sink>(
     ensures ready { OnOk result (T.state store.new).is_ready }
     ensures met { IfErr result (CommitsNoneWhereMet (T.state store.old) (T.state store.new)) }
     ensures crash { MayMake (Replies links.now index answer.entry body.now) (T.state store.old) (T.state store.new) }
+    ensures many { IsErrOf (store_answer result) StoreError.TooMany → IsStoppedFull T.state (AddsReply links.now answer.entry body.now) (T.state store.old) (T.state store.new) }
     ensures cause { HasStoreCause (T.state store.old) (T.state store.new) (T.failures store.old) (T.failures store.new) (store_answer result) }
 {
     let found = found_on(alloc, index, store)?;
@@ -92,6 +96,7 @@ fn found_on<'a, T: Store>(
     requires { (T.state store.old).is_ready }
     ensures found { Honestly (T.state store.new).disk ((base : Base) → (T.state store.old).keeps base → FindsOn (slice_get base.messages index) result) }
     ensures looks { LooksOn (T.state store.old) (T.state store.new) }
+    ensures many { IsErrOf (store_answer result) StoreError.TooMany → (T.state store.old).is_full }
     ensures cause { HasStoreCause (T.state store.old) (T.state store.new) (T.failures store.old) (T.failures store.new) (store_answer result) }
 {
     if index >= store.len() as u64 {

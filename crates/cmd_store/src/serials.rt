@@ -1,11 +1,14 @@
 //! The serial with which a message is posted.
-ghost use Rattle.std.specs.Prelude.{◌≡◌, ◌↔◌, true, IfErr, IsTrue, OnOk};
+ghost use Rattle.std.specs.Prelude.{◌≡◌, ◌↔◌, true, IfErr, IsErrOf, IsTrue, OnOk};
 ghost use Rattle.disk_io.specs.Disk.{Honestly};
 ghost use Rattle.base_file.specs.Base.{Base};
 ghost use Rattle.model_steps.specs.declared.fault.PostFault.TheVariants.{KnownSerial};
 ghost use Rattle.base_store.specs.Store.{CommitsNothing, GoesOn, HasStoreCause};
+ghost use Rattle.base_store.specs.declared.store_error.StoreError.TheVariants.{TooMany};
 ghost use Rattle.echo_toss.specs.declared.step_error.PostStepError.TheVariants.{Refused};
 ghost use Rattle.echo_toss.specs.Stores.{LooksWhereRefused, post_answer};
+ghost use Rattle.echo_toss.specs.Bounds.{IsPastBound};
+ghost use Rattle.cmd_store.specs.Bounded.{AddsDraft};
 ghost use Rattle.cmd_store.specs.FreeSerial.{FilesAs};
 
 use base_store::Store;
@@ -31,6 +34,7 @@ pub(crate) fn file_as<T: Store>(
     ensures looks { IfErr result (LooksWhereRefused (T.state store.old) (T.state store.new)) }
     ensures goes_on { OnOk result (GoesOn (T.state store.old) (T.state store.new)) }
     ensures commits { CommitsNothing (T.state store.old) (T.state store.new) }
+    ensures many { IsErrOf (post_answer result) TooMany → IsPastBound T.state (AddsDraft links.now words.entry draft.now) (T.state store.old) }
     ensures cause { HasStoreCause (T.state store.old) (T.state store.new) (T.failures store.old) (T.failures store.new) (post_answer result) }
 {
     if free {
@@ -55,6 +59,7 @@ fn file_free<T: Store>(
     ensures looks { IfErr result (LooksWhereRefused (T.state store.old) (T.state store.new)) }
     ensures goes_on { OnOk result (GoesOn (T.state store.old) (T.state store.new)) }
     ensures commits { CommitsNothing (T.state store.old) (T.state store.new) }
+    ensures many { IsErrOf (post_answer result) TooMany → IsPastBound T.state (AddsDraft links.now words.entry draft.now) (T.state store.old) }
     ensures cause { HasStoreCause (T.state store.old) (T.state store.new) (T.failures store.old) (T.failures store.new) (post_answer result) }
 {
     let (tag, start, stamp) = (words.tag, words.serial, words.stamp);

@@ -1,11 +1,13 @@
 //! The command `toss` on a store: packet files one after the other, of which one is open at a time.
-ghost use Rattle.std.specs.Prelude.{◌≡◌, ◌+◌, ◌≤◌, false, IfErr, OnOk, vec_capacity, vec_len};
+ghost use Rattle.std.specs.Prelude.{◌≡◌, ◌+◌, ◌≤◌, false, IfErr, IsErrOf, OnOk, vec_capacity, vec_len};
 ghost use Rattle.disk_io.specs.Disk.{Honestly};
 ghost use Rattle.base_file.specs.Base.{Base};
 ghost use Rattle.cmd_report.specs.TossedPacket.{TossRun};
 ghost use Rattle.cmd_status.specs.Devices.{device_of, output_of};
 ghost use Rattle.base_store.specs.Store.{CommitsNothing, GoesOn, HasStoreCause};
 ghost use Rattle.cmd_store.specs.Answered.{CommitsNoneWhereMet, MayMake};
+ghost use Rattle.echo_toss.specs.Bounds.{AddsReceived, IsPastBound};
+ghost use Rattle.cmd_store.specs.Bounded.{IsStoppedFull};
 ghost use Rattle.cmd_store.specs.Stops.{store_answer};
 ghost use Rattle.cmd_store.specs.Tossed.{PrintsRun, ReportsIn, Tosses, TossesFiles, TossesIn, TossesNext, TossesOn, TossesTo};
 
@@ -58,6 +60,8 @@ impl<'a, P: PacketFiles<'a>> StoreCommand<'a> for Toss<'a, P> {
 
     ghost commits_held = { λ self. false };
 
+    ghost adds = { λ self file. AddsReceived self.limits file };
+
     fn run<T: PurgedStore, W: Sink>(
         &mut self,
         alloc: Global,
@@ -97,6 +101,7 @@ fn toss_on<'a, T: Store, P: PacketFiles<'a>, W: Sink>(
     ensures ready { OnOk result (T.state store.new).is_ready }
     ensures met { IfErr result (CommitsNoneWhereMet (T.state store.old) (T.state store.new)) }
     ensures crash { MayMake (Tosses (P.is_honest packets.new) noting limits (device_of P.Reader.remaining P.Reader.failures) links.now (P.coming packets.old)) (T.state store.old) (T.state store.new) }
+    ensures many { IsErrOf (store_answer result) StoreError.TooMany → IsStoppedFull T.state (AddsReceived limits links.now) (T.state store.old) (T.state store.new) }
     ensures cause { HasStoreCause (T.state store.old) (T.state store.new) (T.failures store.old) (T.failures store.new) (store_answer result) }
 {
     let mut lines = Vec::new(alloc);
@@ -136,6 +141,7 @@ fn toss_files<'a, T: Store, P: PacketFiles<'a>>(
         → TossesFiles (P.is_honest packets.new) noting limits (device_of P.Reader.remaining P.Reader.failures) links.now base (P.coming packets.old) (P.coming packets.new) lines.old.items lines.new.items result (T.state store.new)) }
     ensures goes_on { OnOk result (GoesOn (T.state store.old) (T.state store.new)) }
     ensures commits { CommitsNothing (T.state store.old) (T.state store.new) }
+    ensures many { IsErrOf result StoreError.TooMany → IsPastBound T.state (AddsReceived limits links.now) (T.state store.old) }
     ensures cause { HasStoreCause (T.state store.old) (T.state store.new) (T.failures store.old) (T.failures store.new) result }
 {
     'files: while let Some(opened) = packets.open_next() {
@@ -168,6 +174,7 @@ fn toss_next<'a, T: Store, R: Source>(
         → TossesNext noting limits links.now base (device_of R.remaining R.failures reader.old) (device_of R.remaining R.failures reader.new) lines.old.items lines.new.items result (T.state store.new)) }
     ensures goes_on { OnOk result (GoesOn (T.state store.old) (T.state store.new)) }
     ensures commits { CommitsNothing (T.state store.old) (T.state store.new) }
+    ensures many { IsErrOf result StoreError.TooMany → IsPastBound T.state (AddsReceived limits links.now) (T.state store.old) }
     ensures cause { HasStoreCause (T.state store.old) (T.state store.new) (T.failures store.old) (T.failures store.new) result }
 {
     if lines.reserve(MOST_TALLY).is_err() {

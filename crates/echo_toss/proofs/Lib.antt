@@ -15,3 +15,4 @@ pub mod Stops
 pub mod Parsed
 pub mod WholePackets
 pub mod PacketsIn
+pub mod Bounds

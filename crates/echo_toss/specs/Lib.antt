@@ -1,6 +1,7 @@
 pub mod Tallies
 pub mod Refusals
 pub mod Wanted
+pub mod Bounds
 pub mod Counts
 pub mod Exports
 pub mod PacketSteps

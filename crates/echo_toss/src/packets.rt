@@ -1,9 +1,11 @@
 //! Whole packets: the header, then message by message.
-ghost use Rattle.std.specs.Prelude.{◌≡◌, [], MatchResult};
+ghost use Rattle.std.specs.Prelude.{◌≡◌, [], IsErrOf, MatchResult};
 ghost use Rattle.disk_io.specs.Disk.{Honestly};
 ghost use Rattle.base_file.specs.Base.{Base};
 ghost use Rattle.base_store.specs.Store.{CommitsNothing, HasStoreCause};
 ghost use Rattle.model_steps.specs.Tossing.{destination_of, sender_of, zone_of};
+ghost use Rattle.base_store.specs.declared.store_error.StoreError.TheVariants.{TooMany};
+ghost use Rattle.echo_toss.specs.Bounds.{AddsReceived, IsPastBound};
 ghost use Rattle.echo_toss.specs.Tallies.{all_counted, tally_of};
 ghost use Rattle.echo_toss.specs.PacketSteps.{CountsToss, PacketStep};
 ghost use Rattle.echo_toss.specs.Messages.{CountsStop, IsOpened, IsUnopened};
@@ -43,6 +45,7 @@ pub fn toss_packet_in<T: Store, R: Source>(
     ensures device { CountsToss (packet_answer result) (R.failures reader.old) (R.failures reader.new) }
     ensures goes_on { GoesOnUnlessFailed (T.state store.old) (stop_in result) (T.state store.new) }
     ensures commits { CommitsNothing (T.state store.old) (T.state store.new) }
+    ensures many { IsErrOf (toss_answer (stop_in result)) TooMany → IsPastBound T.state (AddsReceived limits links.now) (T.state store.old) }
     ensures cause { HasStoreCause (T.state store.old) (T.state store.new) (T.failures store.old) (T.failures store.new) (toss_answer (stop_in result)) }
 {
     let mut tally = Tally::NONE;
@@ -108,6 +111,7 @@ fn toss_messages<T: Store, R: Source>(
     ensures device { CountsStop (messages_answer result) (R.failures reader.old) (R.failures reader.new) }
     ensures goes_on { GoesOnUnlessFailed (T.state store.old) result (T.state store.new) }
     ensures commits { CommitsNothing (T.state store.old) (T.state store.new) }
+    ensures many { IsErrOf (toss_answer result) TooMany → IsPastBound T.state (AddsReceived limits links.now) (T.state store.old) }
     ensures cause { HasStoreCause (T.state store.old) (T.state store.new) (T.failures store.old) (T.failures store.new) (toss_answer result) }
 {
     let mut given = 0;

@@ -1,4 +1,4 @@
-ghost use Rattle.std.specs.Prelude.{◌≡◌, None, IfErr, IfOk, MatchResult, OnErr, OnOk};
+ghost use Rattle.std.specs.Prelude.{◌≡◌, None, IfErr, IfOk, IsErrOf, MatchResult, OnErr, OnOk};
 ghost use Rattle.std.specs.List.{list_any};
 ghost use Rattle.echo_text.specs.Ids.{id_of};
 ghost use Rattle.echo_filed.specs.Filed.{has_id, key_of};
@@ -6,6 +6,7 @@ ghost use Rattle.disk_io.specs.Disk.{Honestly};
 ghost use Rattle.base_file.specs.Base.{Base};
 ghost use Rattle.base_store.specs.Store.{CommitsNothing, GoesOn, HasStoreCause, LooksOn, Undoes, with_message};
 ghost use Rattle.model_steps.specs.Posting.{PostStep, post_refusal, posted};
+ghost use Rattle.echo_toss.specs.Bounds.{IsPastBound};
 ghost use Rattle.echo_toss.specs.Refusals.{IsPrepared, draft_refusal};
 ghost use Rattle.echo_toss.specs.Stores.{IsPostStop, LooksWhereRefused, post_answer};
 
@@ -44,6 +45,7 @@ pub fn post_step<T: Store>(
     ensures goes_on { OnOk result (GoesOn (T.state store.old) (T.state store.new)) }
     ensures undone { OnErr result (Undoes (T.state store.old) (T.state store.new)) }
     ensures commits { CommitsNothing (T.state store.old) (T.state store.new) }
+    ensures many { IsErrOf (post_answer result) StoreError.TooMany → IsPastBound T.state (λ base m. m ≡ posted links.now tag.now draft.now serial stamp) (T.state store.old) }
     ensures cause { HasStoreCause (T.state store.old) (T.state store.new) (T.failures store.old) (T.failures store.new) (post_answer result) }
 {
     let new = prepared(alloc, links, store, tag, draft, serial, stamp)?;
@@ -96,6 +98,7 @@ fn prepared<T: Store>(
         → MatchResult result (λ new. IsPrepared links.now base.messages tag.now draft.now serial stamp new.0 new.1) (IsPostStop links.now base.messages tag.now draft.now serial stamp)) }
     ensures key { IfOk result (λ new. new.0 ≡ key_of new.1) }
     ensures looks { LooksOn (T.state store.old) (T.state store.new) }
+    ensures many { IsErrOf (post_answer result) StoreError.TooMany → (T.state store.old).is_full }
     ensures cause { HasStoreCause (T.state store.old) (T.state store.new) (T.failures store.old) (T.failures store.new) (post_answer result) }
 {
     judge(links, tag, draft, stamp)?;
@@ -116,6 +119,7 @@ fn is_known<T: Store>(
     ensures known { Honestly (T.state store.new).disk ((base : Base) → (T.state store.old).keeps base
         → IfOk result (λ known. known ≡ list_any (has_id (id_of system serial)) base.messages)) }
     ensures looks { LooksOn (T.state store.old) (T.state store.new) }
+    ensures many { IsErrOf result StoreError.TooMany → (T.state store.old).is_full }
     ensures cause { HasStoreCause (T.state store.old) (T.state store.new) (T.failures store.old) (T.failures store.new) result }
 {
     let id = MsgId::write(alloc, system, serial)?;

@@ -1,8 +1,9 @@
-ghost use Rattle.std.specs.Prelude.{◌≡◌, IfOk, OnErr, OnOk};
+ghost use Rattle.std.specs.Prelude.{◌≡◌, IfOk, IsErrOf, OnErr, OnOk};
 ghost use Rattle.disk_io.specs.Disk.{Honestly};
 ghost use Rattle.base_file.specs.Base.{Base};
 ghost use Rattle.base_store.specs.Store.{CommitsNothing, GoesOn, HasStoreCause, LooksOn, Undoes};
 ghost use Rattle.model_steps.specs.Tossing.{TossStep, toss_outcome, tossing};
+ghost use Rattle.echo_toss.specs.Bounds.{AddsTossed, IsPastBound};
 ghost use Rattle.echo_toss.specs.Stores.{LooksUnlessFiled, and_filed};
 ghost use Rattle.echo_toss.specs.Wanted.{HasOwnKey, IsVerdict};
 
@@ -35,6 +36,7 @@ pub fn toss_step<T: Store>(
     ensures goes_on { OnOk result (GoesOn (T.state store.old) (T.state store.new)) }
     ensures undone { OnErr result (Undoes (T.state store.old) (T.state store.new)) }
     ensures commits { CommitsNothing (T.state store.old) (T.state store.new) }
+    ensures many { IsErrOf result StoreError.TooMany → IsPastBound T.state (AddsTossed links.now sender packed.now) (T.state store.old) }
     ensures cause { HasStoreCause (T.state store.old) (T.state store.new) (T.failures store.old) (T.failures store.new) result }
 {
     let verdict = judged(alloc, links, store, sender, packed)?;
@@ -82,6 +84,7 @@ fn judged<T: Store>(
         → IfOk result (IsVerdict links.now base.messages sender packed.now)) }
     ensures key { IfOk result HasOwnKey }
     ensures looks { LooksOn (T.state store.old) (T.state store.new) }
+    ensures many { IsErrOf result StoreError.TooMany → (T.state store.old).is_full }
     ensures cause { HasStoreCause (T.state store.old) (T.state store.new) (T.failures store.old) (T.failures store.new) result }
 {
     let reading = read(alloc, links, sender, packed)?;

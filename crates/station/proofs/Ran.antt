@@ -5,15 +5,18 @@ use Rattle.base_file.specs.Base.{Base}
 use Rattle.disk_io.specs.Disk.{DiskState, Files}
 use Rattle.disk_io.specs.Runs.{ChangesNothing, LeavesOnly}
 use Rattle.disk_io.proofs.Moments.{then_nothing, then_run, weaker_run}
-use Rattle.base_store.specs.Store.{HasStoreCause, IsSameStore, KeepsBeside, LooksOn, SameBesideStore, LeavesEither, LeavesCommitted, StoreState}
+use Rattle.base_store.specs.Store.{CommitsNothing, HasStoreCause, IsSameStore, KeepsBeside, LooksOn, MayCommit, SameBesideStore, LeavesEither, LeavesCommitted, StoreState}
 use Rattle.base_store.proofs.Runs.{same_store}
 use Rattle.cmd_store.specs.Answered.{HasCommitted, MayMake, StandsForMade, StaysWhereMet}
+use Rattle.cmd_store.specs.Bounded.{StaysTooMany}
 use Rattle.cmd_store.specs.Stops.{store_answer}
 use Rattle.cmd_store.specs.declared.command_error.CommandError.{CommandError}
 use Rattle.cmd_store.specs.declared.command_error.CommandError.TheVariants.{Met, Store}
 use Rattle.station.specs.Opening.{IsOpenFor}
 use Rattle.station.specs.Place.{IsOfPlace, KeepsElsewhere, Place, SameElsewhere, StandsAlone, StandsOrWasLeft}
-use Rattle.station.specs.Running.{IsKept, IsRunOn, MadeOrWasLeft, StandsAsBefore, StandsWhereMet}
+use Rattle.echo_filed.specs.Filed.{Filed}
+use Rattle.echo_toss.specs.Bounds.{IsPastBound}
+use Rattle.station.specs.Running.{IsKept, IsRunOn, MadeOrWasLeft, StandsAsBefore, StandsWhereMet, UnlessHeld}
 
 same_seen : (a b : DiskState) → ChangesNothing a b → a.seen ≡ b.seen
 same_seen a b quiet =
@@ -59,6 +62,11 @@ module _ (place : Place) (d0 : DiskState) (s0 s1 : StoreState) (looks : LooksOn 
     elsewhere = elsewhere_quiet place d0 s0.disk s1.disk of.elsewhere looks.quiet;
   }
 
+-- why the store held too much
+pub past_unless : {T : Type 0} (state : T → StoreState) (Adds : Base → Filed → Type 0) (held : Bool) (old new : StoreState) → StaysTooMany held state Adds old new → UnlessHeld held (IsPastBound state Adds old)
+past_unless state Adds false old new stays = stays.past
+past_unless state Adds true old new stays = tt
+
 module _ (place : Place) (d0 d2 : DiskState) (s0 s1 : StoreState) (begun : IsOpenFor place d0 s0) (of : IsOfPlace place d0 s0) (quiet : ChangesNothing s1.disk d2) where
   outside_store : (c : Files) → SameBesideStore s0 c → SameElsewhere place d0 c
   outside_store c same m out named flushed =
@@ -83,18 +91,32 @@ module _ (place : Place) (d0 d2 : DiskState) (s0 s1 : StoreState) (begun : IsOpe
       stands = left_so base same ready honest is;
     }
 
+    -- what a crash leaves where nothing was committed, and where at most the base from before was
+    none_run : s1.disk.is_honest → CommitsNothing s0 s1 → LeavesOnly d0 s1.disk (StandsOrWasLeft place d0 base)
+    none_run honest none =
+        then_run d0 s0.disk s1.disk (StandsOrWasLeft place d0 base) (LeavesCommitted s0 base) (begun.run base stands)
+        (none.any_moment honest base (begun.committed base stands))
+        (λ c s. inl (record { elsewhere = outside_store c s.beside; stands = (of.stands base c).0 s.stands }))
+
+    may_run : s1.disk.is_honest → MayCommit s0 s1 → LeavesOnly d0 s1.disk (StandsOrWasLeft place d0 base)
+    may_run honest may =
+        then_run d0 s0.disk s1.disk (StandsOrWasLeft place d0 base) (LeavesEither s0 base base) (begun.run base stands)
+        (may.any_moment honest base base (begun.committed base stands) (begun.keeps base stands))
+        (λ c s. inl (record { elsewhere = outside_store c s.beside; stands = (of.stands base c).0 (⊎_elim (λ was. was) (λ is. is) s.stands) }))
+
+    -- the same where the store held too much
+    pub refused_run : {T : Type 0} (state : T → StoreState) (Adds : Base → Filed → Type 0) (held : Bool) → s1.disk.is_honest → StaysTooMany held state Adds s0 s1 → LeavesOnly d0 d2 (StandsOrWasLeft place d0 base)
+    refused_run state Adds false honest stays = then_nothing d0 s1.disk d2 (StandsOrWasLeft place d0 base) (none_run honest stays.commits) quiet
+    refused_run state Adds true honest stays = then_nothing d0 s1.disk d2 (StandsOrWasLeft place d0 base) (may_run honest stays) quiet
+
     met_may : {A : Type 0} (held : Bool) (result : Result A CommandError) → s1.disk.is_honest → IfErr result (StaysWhereMet held s0 s1) → IfErr result (StandsWhereMet place d0 d2 base)
     met_may held (Ok done) honest may = tt
     met_may false (Err (Met fault)) honest (none, on) =
         as_before none.same on.ready honest (on.committed honest base (begun.committed base stands))
-        (then_run d0 s0.disk s1.disk (StandsOrWasLeft place d0 base) (LeavesCommitted s0 base) (begun.run base stands)
-        (none.any_moment honest base (begun.committed base stands))
-        (λ c s. inl (record { elsewhere = outside_store c s.beside; stands = (of.stands base c).0 s.stands })))
+        (none_run honest none)
     met_may true (Err (Met fault)) honest (may, on) =
         as_before may.same on.ready honest (⊎_elim (λ was. was base (begun.committed base stands)) (λ is. is base (begun.keeps base stands)) (on.committed honest))
-        (then_run d0 s0.disk s1.disk (StandsOrWasLeft place d0 base) (LeavesEither s0 base base) (begun.run base stands)
-        (may.any_moment honest base base (begun.committed base stands) (begun.keeps base stands))
-        (λ c s. inl (record { elsewhere = outside_store c s.beside; stands = (of.stands base c).0 (⊎_elim (λ was. was) (λ is. is) s.stands) })))
+        (may_run honest may)
     met_may held (Err (Store cause)) honest may = tt
 
     made_run : (May : Base → Base → Type 0) → s1.disk.is_honest → MayMake May s0 s1 → LeavesOnly d0 d2 (MadeOrWasLeft place d0 (May base) base)

@@ -1,15 +1,19 @@
 -- A command is run on a station.
-use Rattle.std.specs.Prelude.{◌≡◌, ◌⊎◌, Result, Err, IfErr, OnOk, IsErrOf}
+use Rattle.std.specs.Prelude.{◌≡◌, ◌⊎◌, Bool, true, false, Result, Err, IfErr, OnOk, IsErrOf}
 use Rattle.base_file.specs.Base.{Base}
 use Rattle.disk_io.specs.Disk.{DiskState, Files}
 use Rattle.disk_io.specs.Runs.{LeavesOnly}
 use Rattle.echo_links.specs.Links.{LinkFile}
 use Rattle.cmd_status.specs.declared.fault.Fault.{Fault}
 use Rattle.cmd_status.specs.Devices.{Output}
+use Rattle.base_store.specs.Store.{StoreState}
 use Rattle.base_store.specs.declared.store_error.StoreError.TheVariants.{Damaged, Device}
 use Rattle.cmd_store.specs.declared.command_error.CommandError.{CommandError}
 use Rattle.cmd_store.specs.declared.command_error.CommandError.TheVariants.{Met, Store}
-use Rattle.station.specs.Place.{Place, SameElsewhere, StandsOrWasLeft}
+use Rattle.echo_filed.specs.Filed.{Filed}
+use Rattle.echo_toss.specs.Bounds.{IsPastBound}
+use Rattle.station.specs.Opening.{IsOpenFor}
+use Rattle.station.specs.Place.{IsOfPlace, Place, SameElsewhere, StandsOrWasLeft}
 
 -- The files hold a base that the command makes, as they are seen and after any crash.
 pub record IsKept (place : Place) (IsMade : Base → Type 0) (now : DiskState) : Type 0 where
@@ -75,3 +79,18 @@ abbrev pub RunsIn : {A : Type 0} → (LinkFile → Base → Type 0) → (LinkFil
 RunsIn IsAnswer Makes May place Reads Shut Stops failed old new old_out new_out result =
     IsRun IsAnswer Makes May place Reads failed old new result
     ⊎ (IsNotRun place Shut old new old_out new_out result ⊎ IsStopped place Stops old new old_out new_out result)
+
+-- This is so, unless the command may commit what the store held before.
+abbrev pub UnlessHeld : Bool → Type 0 → Type 0
+UnlessHeld false IsSo = IsSo
+UnlessHeld true IsSo = Unit {0}
+
+-- The store of the station held too much for a command that may add these messages. A crash leaves the base from before.
+pub record IsRefusedFull {K : Type 0} (state : K → StoreState) (held : Bool) (Adds : LinkFile → Base → Filed → Type 0) (place : Place) (Reads : LinkFile → Type 0) (old new : DiskState) : Type 0 where
+  pub file : LinkFile
+  pub read : Reads file
+  pub kept : K
+  pub begun : IsOpenFor place old (state kept)
+  pub of_place : IsOfPlace place old (state kept)
+  pub past : UnlessHeld held (IsPastBound state (Adds file) (state kept))
+  pub crash : (base : Base) → place.stands_for base old.seen → LeavesOnly old new (StandsOrWasLeft place old base)

@@ -1,11 +1,12 @@
 //! The packet files of `toss` on a disk: each is opened when its turn comes.
-ghost use Rattle.std.specs.Prelude.{◌≡◌, ◌≤◌, ℕ, Bool, true, false, List, map, IfErr, IfOk};
+ghost use Rattle.std.specs.Prelude.{◌≡◌, ◌≤◌, ℕ, Bool, true, false, List, Some, map, IfErr, IfOk};
 ghost use Rattle.disk_io.specs.Disk.{Honestly};
 ghost use Rattle.disk_io.specs.Runs.{ChangesNothing, HasCause};
 ghost use Rattle.cmd_report.specs.Coming.{IsCannotUse, Opens};
 ghost use Rattle.station.specs.PacketReader.{held_remaining};
 ghost use Rattle.station.specs.PacketsFound.{IsFound};
-ghost use Rattle.station.specs.PacketsOnDisk.{coming_at};
+ghost use Rattle.station.specs.Faults.{HasSize};
+ghost use Rattle.station.specs.PacketsOnDisk.{coming_at, most_held};
 
 use crate::held_bytes::HeldBytes;
 use crate::packet_reader::PacketReader;
@@ -150,8 +151,28 @@ fn find_packet<D: Disk>(alloc: Global, disk: &mut D, path: &[u8]) -> Result<Foun
             if size > MOST_HELD {
                 return Ok(Found::Unheld);
             }
-            Ok(Found::Whole(read_part(alloc, disk, path, 0, size)?))
+            hold_bytes(alloc, disk, path, size)
         }
         None => Ok(Found::Missing),
     }
+}
+
+// A file of this size. If another program changes its size meanwhile, its bytes are not held.
+fn hold_bytes<D: Disk>(
+    alloc: Global,
+    disk: &mut D,
+    path: &[u8],
+    size: usize,
+) -> Result<Found, DiskError>
+    requires there { Honestly (D.state disk.old) (HasSize ((D.state disk.old).seen path.now) (Some size)) }
+    requires held { size ≤ most_held }
+    ensures found { Honestly (D.state disk.new) (IfOk result (IsFound ((D.state disk.old).seen path.now))) }
+    ensures quiet { ChangesNothing (D.state disk.old) (D.state disk.new) }
+    ensures cause { HasCause (D.failures disk.old) (D.failures disk.new) result }
+{
+    let bytes = read_part(alloc, disk, path, 0, size)?;
+    if disk.len(path)? != size {
+        return Ok(Found::Unheld);
+    }
+    Ok(Found::Whole(bytes))
 }

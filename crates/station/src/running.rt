@@ -1,11 +1,13 @@
 //! A command is run on a station.
-ghost use Rattle.std.specs.Prelude.{◌≡◌, ◌⊎◌, OnOk};
+ghost use Rattle.std.specs.Prelude.{◌≡◌, ◌⊎◌, IsErrOf, OnOk};
 ghost use Rattle.disk_io.specs.Disk.{Honestly};
 ghost use Rattle.disk_io.specs.Runs.{ChangesNothing};
 ghost use Rattle.cmd_status.specs.Devices.{output_of};
 ghost use Rattle.station.specs.Opening.{AreFree, HaveFailed};
 ghost use Rattle.station.specs.Place.{KeepsElsewhere};
-ghost use Rattle.station.specs.Running.{RunsIn};
+ghost use Rattle.base_store.specs.declared.store_error.StoreError.TheVariants.{TooMany};
+ghost use Rattle.cmd_store.specs.declared.command_error.CommandError.TheVariants.{Store};
+ghost use Rattle.station.specs.Running.{IsRefusedFull, RunsIn};
 
 use crate::FileLock;
 use crate::before::BeforeCommand;
@@ -55,6 +57,8 @@ pub fn run_command<
         (Q.stops before.old before.new)
         failed (D.state disk) (D.state result.disk)
         (output_of W.contents W.failures W.holds out.old) (output_of W.contents W.failures W.holds out.new) result.done) }
+    ensures many { Honestly (D.state result.disk) (IsErrOf result.done (Store TooMany)
+        → IsRefusedFull P.Kept.state (C.commits_held command.old) (C.adds command.old) (P.place station) (P.reads station (D.state disk)) (D.state disk) (D.state result.disk)) }
     ensures elsewhere { KeepsElsewhere (P.place station) (D.state disk) (D.state result.disk) }
     ensures passed { OnOk result.done (Q.lets before.old) }
 {

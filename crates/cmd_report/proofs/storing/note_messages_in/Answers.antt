@@ -1,8 +1,10 @@
 use Rattle.std.proofs.Common.{◌∙◌, ◌+◌, ap, arith, refl}
+use Rattle.std.proofs.lemmas.Result.{err_from_is_err_and}
 use Rattle.base_store.proofs.Runs.{commits_none, goes_on_twice}
 use Rattle.model_steps.specs.Tossing.{tossing}
 use Rattle.echo_toss.specs.Stores.{and_filed}
 use Rattle.echo_toss.specs.Tallies.{all_counted}
+use Rattle.echo_toss.proofs.Bounds.{handed_many, past_after, past_wider}
 use Rattle.echo_toss.proofs.PacketTosses.{one_more_taken}
 use Rattle.echo_toss.proofs.PacketsIn.{all_counted-tally_with}
 use Rattle.cmd_report.proofs.Noted.{one_more_noted}
@@ -58,3 +60,12 @@ messages-preserved g c =
       later = omega (arith, h.later, answer.cause.later);
       free = noted.room;
     }
+
+pub returns-in_err-outcome-in-Some-clause-many : goal.returns-in_err-outcome-in-Some-clause-many
+returns-in_err-outcome-in-Some-clause-many g c =
+    let h = c.messages.invariant in
+    let within = rw c.in-Some.is at c.in_ok-message.ensures.within in
+    let p = err_from_is_err_and c.from_residual-in_err-outcome-in-Some.result c.from_residual-in_err-outcome-in-Some.ensures.1 in
+    rw (p.1, p.2) (λ is.
+    past_after g.T.Store.state _ _ _ h.commits h.on
+    (past_wider g.T.Store.state _ _ _ (λ base m adds. (c.args.sender, c.in-Some.message, within.0, adds)) (c.in_err-outcome-in-Some.ensures.many (handed_many c.in_err-outcome-in-Some.field-0.0 is))))

@@ -1,4 +1,4 @@
-use Rattle.std.proofs.Common.{ℕ}
+use Rattle.std.proofs.Common.{ℕ, ap, ◌∙◌}
 use Rattle.std.proofs.lemmas.Result.{err_from_is_err_and}
 use Rattle.base_store.proofs.Runs.{looks_commit, looks_go_on, no_look}
 use Rattle.echo_toss.specs.PacketsIn.{state_in}
@@ -7,6 +7,9 @@ use Rattle.cmd_store.specs.Stops.{store_answer}
 use Rattle.cmd_store.proofs.Commits.{caused_after, committed_where, makes_none, makes_then, met_after, met_refused, ready_where}
 use Rattle.cmd_store.proofs.FreePostings.{as_memory, as_posts, as_printed, as_stopped}
 use Rattle.cmd_store.proofs.Postings.{post_caused}
+use Rattle.model_steps.specs.Posting.{posted}
+use Rattle.echo_toss.proofs.Bounds.{past_wider}
+use Rattle.cmd_store.proofs.Bounded.{full_after, post_many}
 use Rattle.cmd_store.proofs.posting.post_as.Goals as goal
 
 pub returns-in_err-draft-clause-answers : goal.returns-in_err-draft-clause-answers
@@ -74,3 +77,14 @@ pub returns-clause-cause : goal.returns-clause-cause
 returns-clause-cause g c =
     caused_after _ _ _ _ _ _ (store_answer c.leave_posted.result) c.file_as.ensures.cause.later
     (λ honest base kept. let filed = c.in_ok-serial.ensures.filed (c.leave_posted.ensures.either.beside.honest honest) base kept in (_, filed.keeps)) c.leave_posted.ensures.cause
+
+pub returns-in_err-serial-clause-many : goal.returns-in_err-serial-clause-many
+returns-in_err-serial-clause-many g c =
+    let p = err_from_is_err_and c.from_residual-in_err-serial.result c.from_residual-in_err-serial.ensures.1 in
+    rw (p.1, p.2) (post_many _ ℕ (Unit {0}) c.in_err-serial.field-0.0 (λ is. record {
+      past = past_wider g.T.Store.state _ _ _ (λ base m adds. (adds.0, adds.1 ∙ ap (λ d. posted c.args.links.now c.args.words.tag.now d adds.0 c.args.words.stamp) c.in_ok-draft.ensures)) (c.in_err-serial.ensures.many is);
+      commits = c.file_as.ensures.commits;
+    }))
+
+pub returns-clause-many : goal.returns-clause-many
+returns-clause-many g c = λ is. full_after g.T.Store.state _ _ _ c.file_as.new.store c.file_as.ensures.commits c.in_ok-serial.ensures.goes_on (c.leave_posted.ensures.many is)

@@ -4,6 +4,7 @@ use Rattle.cmd_store.specs.Purged.{Purges}
 use Rattle.cmd_store.specs.Stops.{store_answer}
 use Rattle.cmd_store.proofs.Commits.{caused_after, committed_where, may_after, ready_where}
 use Rattle.cmd_store.proofs.Purges.{purge_may, purge_printed, purge_then}
+use Rattle.cmd_store.proofs.Bounded.{may_then_nothing}
 use Rattle.cmd_store.proofs.purging.purge_on.Goals as goal
 
 pub returns-in_err-count-clause-answers : goal.returns-in_err-count-clause-answers
@@ -50,3 +51,6 @@ pub returns-clause-cause : goal.returns-clause-cause
 returns-clause-cause g c =
     caused_after _ _ _ _ _ _ (store_answer c.leave.result) c.purge.ensures.cause.later
     (λ honest base kept. (_, c.in_ok-count.ensures.purged (c.leave.ensures.either.beside.honest honest) base kept)) c.leave.ensures.cause
+
+pub returns-clause-many : goal.returns-clause-many
+returns-clause-many g c = λ is. may_then_nothing _ _ _ c.purge.ensures.either c.in_ok-count.ensures.committed (c.leave.ensures.many is).commits

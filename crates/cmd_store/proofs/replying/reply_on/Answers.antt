@@ -1,9 +1,12 @@
 use Rattle.std.proofs.Common.{refl, ◌∙◌}
 use Rattle.std.proofs.lemmas.Result.{err_from_is_err_and}
-use Rattle.base_store.proofs.Runs.{looks_commit}
+use Rattle.base_store.proofs.Runs.{looks_commit, looks_then_commits}
 use Rattle.echo_toss.specs.PacketsIn.{state_in}
 use Rattle.cmd_store.proofs.Commits.{makes_none, met_looking}
 use Rattle.cmd_store.proofs.Replies.{met_looked, reply_crash, reply_stopped}
+use Rattle.cmd_report.specs.declared.posting.NewMessage.{NewMessage}
+use Rattle.cmd_store.specs.Bounded.{AddsPosted}
+use Rattle.echo_toss.proofs.Bounds.{full_now, past_looked, past_wider}
 use Rattle.cmd_store.proofs.replying.reply_on.Goals as goal
 
 pub returns-in_err-found-clause-answers : goal.returns-in_err-found-clause-answers
@@ -34,3 +37,30 @@ returns-clause-crash g c =
       serial = refl;
       stamp = refl;
     })
+
+pub returns-in_err-found-clause-many : goal.returns-in_err-found-clause-many
+returns-in_err-found-clause-many g c =
+    let p = err_from_is_err_and c.from_residual.result c.from_residual.ensures.1 in
+    rw (p.1, p.2) (λ is. record {
+      past = full_now g.T.Store.state _ c.args.store.now c.requires (c.in_err-found.ensures.many is);
+      commits = looks_commit _ _ c.requires c.found_on.ensures.looks;
+    })
+
+pub returns-clause-many : goal.returns-clause-many
+returns-clause-many g c = λ is.
+    let looks = c.found_on.ensures.looks in
+    let stop = c.post_as.ensures.many is in
+    let words : NewMessage = record {
+      tag = c.as_slice.result;
+      to_name = c.as_slice-2.result;
+      from_name = c.args.answer.from_name;
+      subject = c.as_slice-3.result;
+      reply = c.as_slice-4.result;
+      serial = c.args.answer.serial;
+      stamp = c.args.answer.stamp;
+    } in
+    record {
+      past = past_looked g.T.Store.state _ _ _ c.requires looks
+          (past_wider g.T.Store.state (AddsPosted c.args.links.now words c.args.body.now) _ _ (λ base m adds. (words, refl, refl, adds)) stop.past);
+      commits = looks_then_commits _ _ _ c.requires looks stop.commits;
+    }

@@ -1,5 +1,7 @@
 use Rattle.std.proofs.Common.{arith}
 use Rattle.cmd_store.proofs.FreePostings.{filed_first, looks_known, none_looked, one_more_looked, refused_known, refused_on}
+use Rattle.std.proofs.lemmas.Result.{err_from_is_err_and}
+use Rattle.echo_toss.proofs.Bounds.{past_looked, past_wider}
 use Rattle.cmd_store.proofs.serials.file_free.Goals as goal
 
 pub serials-init : goal.serials-init
@@ -26,3 +28,13 @@ returns-in-Err-clause-filed g c = λ honest base kept.
     let other = c.if-not-is_of_serial.true in
     refused_on c.args.links.now _ c.args.words c.args.draft.now c.serials.serial base c.in-Err.stop (c.in-Err.ensures.stop honest base (so.looks.keeps base kept))
     (λ same. let known = c.is_of_serial.ensures.1 same in absurd (cc))
+
+pub returns-in-Err-clause-many : goal.returns-in-Err-clause-many
+returns-in-Err-clause-many g c = λ is.
+    past_looked g.T.Store.state _ _ _ c.requires c.serials.invariant.looks (past_wider g.T.Store.state _ _ _ (λ base m adds. (c.serials.serial, adds)) (c.in-Err.ensures.many is))
+
+pub returns-in_err-post_step-clause-many : goal.returns-in_err-post_step-clause-many
+returns-in_err-post_step-clause-many g c =
+    let p = err_from_is_err_and c.from_residual.result c.from_residual.ensures.1 in
+    rw (p.1, p.2) (λ is.
+    past_looked g.T.Store.state _ _ _ c.requires c.serials.invariant.looks (past_wider g.T.Store.state _ _ _ (λ base m adds. (c.serials.serial, adds)) (c.in_err-post_step.ensures.many is)))

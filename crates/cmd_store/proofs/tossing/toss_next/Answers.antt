@@ -1,6 +1,7 @@
 use Rattle.std.proofs.Common.{true, false, refl}
 use Rattle.cmd_status.specs.Devices.{device_of}
 use Rattle.cmd_store.proofs.Tosses.{next_from, next_tossed, next_unread}
+use Rattle.cmd_store.proofs.Bounded.{reports_many}
 use Rattle.cmd_store.proofs.tossing.toss_next.Goals as goal
 
 pub returns-then-is_err-clause-tossed : goal.returns-then-is_err-clause-tossed
@@ -24,3 +25,9 @@ returns-else-noting-clause-tossed g c = λ honest base kept.
     next_from c.args.noting false c.args.limits c.args.links.now base before after c.args.lines.now.items c.reserve.new.self.items c.push_answer-else-noting.new.lines.items c.push_answer-else-noting.result _ c.if-noting.false c.reserve.ensures.items
     (next_tossed false c.args.limits c.args.links.now base went.next before after c.reserve.new.self.items c.reserve.new.self.items c.push_answer-else-noting.new.lines.items (g.T.Store.state c.args.store.now) (g.T.Store.state c.toss_packet_in-answer.new.store) c.toss_packet_in-answer.result c.push_answer-else-noting.result
     went.step refl went.holds c.toss_packet_in-answer.ensures.device c.push_answer-else-noting.ensures)
+
+pub returns-then-noting-clause-many : goal.returns-then-noting-clause-many
+returns-then-noting-clause-many g c = λ is. c.toss_noting_in-answer.ensures.many (reports_many _ _ c.toss_noting_in-answer.result c.push_answer.result c.push_answer.ensures is)
+
+pub returns-else-noting-clause-many : goal.returns-else-noting-clause-many
+returns-else-noting-clause-many g c = λ is. c.toss_packet_in-answer.ensures.many (reports_many _ _ c.toss_packet_in-answer.result c.push_answer-else-noting.result c.push_answer-else-noting.ensures is)

@@ -1,6 +1,9 @@
 use Rattle.cmd_status.specs.Devices.{device_of}
 use Rattle.cmd_store.proofs.Commits.{makes_then}
 use Rattle.cmd_store.proofs.Runs.{none_before, tosses}
+use Rattle.std.proofs.lemmas.Result.{err_from_is_err_and}
+use Rattle.echo_toss.proofs.Bounds.{handed_many}
+use Rattle.cmd_store.proofs.Bounded.{full_after}
 use Rattle.cmd_store.proofs.tossing.toss_on.Goals as goal
 
 pub returns-in_err-commit-clause-crash : goal.returns-in_err-commit-clause-crash
@@ -18,3 +21,15 @@ returns-clause-crash g c =
     (none_before (g.P.PacketFiles.is_honest c.toss_files.new.packets) c.args.noting c.args.limits (device_of g.P.Reader.Read.remaining g.P.Reader.Source.failures) c.args.links.now base (g.P.PacketFiles.coming c.args.packets.now) _ _ _ _ _ c.new-lines.ensures.items
     (c.in_ok-stopped.ensures.tossed before base kept)))
     c.commit.ensures.either
+
+pub returns-in_err-stopped-clause-many : goal.returns-in_err-stopped-clause-many
+returns-in_err-stopped-clause-many g c =
+    let p = err_from_is_err_and c.from_residual.result c.from_residual.ensures.1 in
+    rw (p.1, p.2) (λ is. record { past = c.in_err-stopped.ensures.many (handed_many c.in_err-stopped.field-0.0 is); commits = c.toss_files.ensures.commits })
+
+pub returns-in_err-commit-clause-many : goal.returns-in_err-commit-clause-many
+returns-in_err-commit-clause-many g c =
+    let p = err_from_is_err_and c.from_residual-in_err-commit.result c.from_residual-in_err-commit.ensures.1 in
+    rw (p.1, p.2) (λ is.
+    full_after g.T.Store.state _ _ _ c.toss_files.new.store c.toss_files.ensures.commits c.in_ok-stopped.ensures.goes_on
+    (record { full = c.in_err-commit.ensures.many is; commits = c.in_err-commit.ensures.refused is }))

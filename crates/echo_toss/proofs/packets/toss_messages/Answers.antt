@@ -4,6 +4,7 @@ use Rattle.base_store.proofs.Runs.{commits_none, goes_on_twice}
 use Rattle.model_steps.specs.Tossing.{toss_outcome, tossing}
 use Rattle.echo_toss.specs.Tallies.{all_counted, tally_with}
 use Rattle.echo_toss.specs.Stores.{and_filed}
+use Rattle.echo_toss.proofs.Bounds.{handed_many, past_after, past_wider}
 use Rattle.echo_toss.proofs.PacketTosses.{one_more_taken}
 use Rattle.echo_toss.proofs.PacketsIn.{all_counted-tally_with, begun, read_all, read_faulty, read_so_far}
 use Rattle.echo_toss.proofs.packets.toss_messages.Goals as goal
@@ -79,3 +80,12 @@ returns-in-None-clause-read g c = λ base.
     let h = c.messages.invariant in
     let ends = rw c.in-None.is at c.in_ok-message.ensures.taken in
     read_all c.args.limits c.args.sender c.args.links.now base _ _ _ c.messages.given c.messages.place c.messages.tally _ _ _ (h.any base) h.counted ends
+
+pub returns-in_err-outcome-in-Some-clause-many : goal.returns-in_err-outcome-in-Some-clause-many
+returns-in_err-outcome-in-Some-clause-many g c =
+    let h = c.messages.invariant in
+    let within = rw c.in-Some.is at c.in_ok-message.ensures.within in
+    let p = err_from_is_err_and c.from_residual-in_err-outcome-in-Some.result c.from_residual-in_err-outcome-in-Some.ensures.1 in
+    rw (p.1, p.2) (λ is.
+    past_after g.T.Store.state _ _ _ h.commits h.on
+    (past_wider g.T.Store.state _ _ _ (λ base m adds. (c.args.sender, c.in-Some.message, within.0, adds)) (c.in_err-outcome-in-Some.ensures.many (handed_many c.in_err-outcome-in-Some.field-0.0 is))))

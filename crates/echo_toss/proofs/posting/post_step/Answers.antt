@@ -1,4 +1,6 @@
+use Rattle.std.proofs.lemmas.Result.{err_from_is_err_and}
 use Rattle.base_store.proofs.Runs.{looks_then_commits}
+use Rattle.echo_toss.proofs.Bounds.{full_now, no_room_now, past_looked}
 use Rattle.echo_toss.proofs.posting.post_step.Goals as goal
 
 pub file-requires-clause-new : goal.file-requires-clause-new
@@ -7,3 +9,17 @@ file-requires-clause-new g c = λ honest base kept. (c.in_ok-new.ensures.prepare
 pub returns-in_err-file-clause-commits : goal.returns-in_err-file-clause-commits
 returns-in_err-file-clause-commits g c =
     looks_then_commits (g.T.Store.state c.args.store.now) (g.T.Store.state c.prepared.new.store) (g.T.Store.state c.file.new.self) c.requires c.prepared.ensures.looks c.file.ensures.commits
+
+pub returns-in_err-new-clause-many : goal.returns-in_err-new-clause-many
+returns-in_err-new-clause-many g c =
+    let p = err_from_is_err_and c.from_residual.result c.from_residual.ensures.1 in
+    rw (p.1, p.2) (λ is. full_now g.T.Store.state _ c.args.store.now c.requires (c.in_err-new.ensures.many is))
+
+pub returns-in_err-file-clause-many : goal.returns-in_err-file-clause-many
+returns-in_err-file-clause-many g c =
+    let p = err_from_is_err_and c.from_residual-in_err-file.result c.from_residual-in_err-file.ensures.1 in
+    let looks = c.prepared.ensures.looks in
+    rw (p.1, p.2) (λ is.
+    past_looked g.T.Store.state _ _ _ c.requires looks
+    (no_room_now g.T.Store.state _ c.prepared.new.store _ looks.ready (c.in_err-file.ensures.many is)
+    (λ honest base kept. (c.in_ok-new.ensures.prepared honest base (looks.keeps_no_other base kept)).message)))

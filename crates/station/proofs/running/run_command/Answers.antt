@@ -1,7 +1,7 @@
 use Rattle.std.proofs.Common.{◌≡◌, ◌≤◌, ap, arith, inl, inr, refl}
 use Rattle.station.proofs.Failures.{failed_wider}
 use Rattle.cmd_store.specs.Stops.{store_answer}
-use Rattle.station.proofs.Ran.{elsewhere_after, looks_of, looks_open, run_on, stopped_on}
+use Rattle.station.proofs.Ran.{elsewhere_after, looks_of, looks_open, past_unless, refused_run, run_on, stopped_on}
 use Rattle.station.proofs.running.run_command.Goals as goal
 
 pub returns-in-Ok-prepare-clause-runs : goal.returns-in-Ok-prepare-clause-runs
@@ -37,6 +37,34 @@ returns-in-Ok-prepare-clause-runs g c = λ honest.
           (did.answers honest2 base) (did.committed honest2 base) did.ready did.met did.crash did.cause;
       cause = λ is. inl (failed_wider f0 f2 f3 f4 (omega arith) (omega (arith, same)) (did.cause.failed (ap (λ r. store_answer r) is)));
     })
+
+pub returns-in-Ok-prepare-clause-many : goal.returns-in-Ok-prepare-clause-many
+returns-in-Ok-prepare-clause-many g c = λ honest is.
+    let d0 = g.D.Disk.state c.args.disk in
+    let d2 = g.D.Disk.state c.into_disk-disk.result in
+    let state = g.P.Kept.Store.state in
+    let s0 = state c.in-Ok.opened.kept in
+    let s1 = state c.prepare.new.store in
+    let s2 = state c.run-done.new.store in
+    let place = g.P.OpenStation.place c.args.station in
+    let opened = c.in-Ok.ensures.opened in
+    let looks = c.prepare.ensures.looks in
+    let did = c.run-done.ensures in
+    let quiet = c.into_disk-disk.ensures.quiet in
+    let honest2 = quiet.honest honest in
+    let honest0 = looks.quiet.honest (did.crash.beside.honest honest2) in
+    let begun = looks_open place d0 s0 s1 looks (opened.begun honest0) in
+    let of = looks_of place d0 s0 s1 looks opened.of_place in
+    let full = did.many (ap (λ r. store_answer r) is) in
+    record {
+      file = c.in-Ok.opened.links;
+      read = opened.read honest0;
+      kept = c.prepare.new.store;
+      begun = begun;
+      of_place = of;
+      past = past_unless state _ _ s1 s2 full;
+      crash = λ base stands. refused_run place d0 d2 s1 s2 begun of quiet base stands state _ _ honest2 full;
+    }
 
 pub returns-in-Ok-prepare-clause-elsewhere : goal.returns-in-Ok-prepare-clause-elsewhere
 returns-in-Ok-prepare-clause-elsewhere g c =

@@ -1,0 +1,70 @@
+-- Commands on a store that holds too much.
+use Rattle.std.proofs.Common.{◌≡◌, List, ℕ, inl, inr, Option, Result, Ok, Err, ap, sym, ◌∙◌}
+use Rattle.std.specs.Prelude.{IsErrOf}
+use Rattle.base_file.specs.Base.{Base}
+use Rattle.disk_io.specs.Disk.{Files, Honestly}
+use Rattle.disk_io.proofs.Moments.{then_run}
+use Rattle.base_store.specs.Store.{CommitsNothing, GoesOn, IsSameStore, KeepsBeside, KeepsOrCommits, LeavesCommitted, LeavesEither, MayCommit, SameBesideStore, StoreState}
+use Rattle.base_store.specs.declared.store_error.StoreError.{StoreError}
+use Rattle.base_store.specs.declared.store_error.StoreError.TheVariants.{TooMany}
+use Rattle.base_store.proofs.Runs.{commits_none, same_twice}
+use Rattle.cmd_status.specs.declared.fault.Fault.{Fault}
+use Rattle.echo_filed.specs.Filed.{Filed}
+use Rattle.echo_toss.specs.declared.step_error.PostStepError.{PostStepError}
+use Rattle.echo_toss.specs.declared.step_error.PostStepError.TheVariants as post
+use Rattle.echo_toss.specs.declared.step_error.StoppedToss.{StoppedToss}
+use Rattle.echo_toss.specs.declared.step_error.TossStepError.{TossStepError}
+use Rattle.echo_toss.specs.declared.step_error.TossStepError.TheVariants as toss
+use Rattle.echo_toss.specs.declared.tally.Tally.{Tally}
+use Rattle.echo_toss.specs.PacketsIn.{stop_in, toss_answer}
+use Rattle.echo_toss.specs.Stores.{post_answer}
+use Rattle.echo_toss.proofs.Bounds.{full_now, handed_many, past_after}
+use Rattle.cmd_store.specs.Bounded.{IsStoppedFull, IsUncommitted}
+use Rattle.cmd_store.specs.Stops.{post_stop, store_answer}
+use Rattle.cmd_store.specs.Tossed.{ReportsIn, ReportsStop}
+use Rattle.cmd_store.proofs.Commits.{kept_twice}
+
+-- a posting that the store held too much for, as a command tells it
+pub post_many : (P : Type 0) (A B : Type 0) (why : PostStepError) → (IsErrOf (post_answer {T = A} (Err why)) TooMany → P) → IsErrOf (store_answer {A = B} (Err (post_stop why))) TooMany → P
+post_many P A B (post.Refused refusal) gives is = gives is
+post_many P A B (post.Store cause) gives is = gives is
+
+-- what was changed and not committed is too much for a commit
+pub full_after : {T : Type 0} (state : T → StoreState) (Adds : Base → Filed → Type 0) (old new : StoreState) (mid : T) → CommitsNothing old (state mid) → GoesOn old (state mid) → IsUncommitted (state mid) new → IsStoppedFull state Adds old new
+full_after state Adds old new mid commits on not = record {
+  past = past_after state Adds old (state mid) commits on (full_now state Adds mid on.ready not.full);
+  commits = commits_none old (state mid) new commits on not.commits;
+}
+
+-- files as a later call leaves them, as the store was before
+stood_before : (old mid : StoreState) (c : Files) → IsSameStore old mid → KeepsBeside old mid → SameBesideStore mid c → SameBesideStore old c
+stood_before old mid c same kept beside m other named flushed =
+    beside m (λ own. other ((same.own m).0 own)) (kept.named m other named) (kept.flushed m other flushed) ∙ kept.seen m other
+
+-- what may have been committed, and then nothing
+pub may_then_nothing : (old mid new : StoreState) → MayCommit old mid → Honestly mid.disk (KeepsOrCommits old mid) → CommitsNothing mid new → MayCommit old new
+may_then_nothing old mid new may done none = record {
+  any_moment = λ honest first next is h.
+      let before = none.beside.honest honest in
+      let run = may.any_moment before first next is h in
+      elim (done before) [
+        | inl was ↦
+            then_run old.disk mid.disk new.disk (LeavesEither old first next) (LeavesCommitted mid first) run (none.any_moment honest first (was first is))
+            (λ c s. record { beside = stood_before old mid c may.same may.beside s.beside; stands = inl ((may.same.stands first c).0 s.stands) })
+        | inr kept ↦
+            then_run old.disk mid.disk new.disk (LeavesEither old first next) (LeavesCommitted mid next) run (none.any_moment honest next (kept next h))
+            (λ c s. record { beside = stood_before old mid c may.same may.beside s.beside; stands = inr ((may.same.stands next c).0 s.stands) })
+      ];
+  beside = kept_twice old mid new may.same may.beside none.beside;
+  same = same_twice old mid new may.same none.same;
+}
+
+stop_many : (old new : List ℕ) (tally : Tally) (why : TossStepError) (result : Result (Option Fault) StoreError) → ReportsStop old new tally why result → IsErrOf result TooMany
+    → IsErrOf (toss_answer {A = Unit {0}} (Err why)) TooMany
+stop_many old new tally (toss.Packet why) result is many = absurd (cc (is.0, many))
+stop_many old new tally (toss.Store cause) result is many = handed_many cause (sym is ∙ many)
+
+-- a packet that the store held too much for
+pub reports_many : (old new : List ℕ) (answer : Result Tally StoppedToss) (result : Result (Option Fault) StoreError) → ReportsIn old new answer result → IsErrOf result TooMany → IsErrOf (toss_answer (stop_in answer)) TooMany
+reports_many old new (Ok tally) result is many = absurd (cc (is.0, many))
+reports_many old new (Err stopped) result is many = stop_many old new stopped.tally stopped.stop result is many

@@ -1,0 +1,46 @@
+-- A command on a store that holds too much.
+use Rattle.std.specs.Prelude.{◌≡◌, ℕ, Bool, true, false, List}
+use Rattle.base_file.specs.Base.{Base}
+use Rattle.base_store.specs.Store.{CommitsNothing, MayCommit, StoreState}
+use Rattle.cmd_report.specs.declared.posting.NewMessage.{NewMessage}
+use Rattle.cmd_report.specs.declared.replying.Answer.{Answer}
+use Rattle.cmd_report.specs.Posted.{draft_given}
+use Rattle.echo_filed.specs.Filed.{Filed}
+use Rattle.echo_links.specs.Links.{LinkFile}
+use Rattle.echo_toss.specs.Bounds.{IsPastBound}
+use Rattle.model_steps.specs.declared.draft.Draft.{Draft}
+use Rattle.model_steps.specs.Posting.{posted}
+use Rattle.cmd_store.specs.declared.letter.Letter.{Letter}
+use Rattle.cmd_store.specs.declared.mailed.MailWords.{MailWords}
+use Rattle.cmd_store.specs.Mailed.{IsPosting}
+
+-- The store was full, so that a commit did nothing.
+pub record IsUncommitted (old new : StoreState) : Type 0 where
+  pub full : old.is_full
+  pub commits : CommitsNothing old new
+
+-- The store held too much for a command that may add these messages, and nothing was committed.
+pub record IsStoppedFull {T : Type 0} (state : T → StoreState) (Adds : Base → Filed → Type 0) (old new : StoreState) : Type 0 where
+  pub past : IsPastBound state Adds old
+  pub commits : CommitsNothing old new
+
+-- The same. Of a command that may commit what the store held before, only that nothing else was committed.
+abbrev pub StaysTooMany : {T : Type 0} → Bool → (T → StoreState) → (Base → Filed → Type 0) → StoreState → StoreState → Type 0
+StaysTooMany false state Adds old new = IsStoppedFull state Adds old new
+StaysTooMany true state Adds old new = MayCommit old new
+
+-- The message of these words and this draft, with some serial.
+abbrev pub AddsDraft : LinkFile → NewMessage → Draft → Base → Filed → Type 0
+AddsDraft file words draft base m = (serial : ℕ) × (m ≡ posted file words.tag.now draft serial words.stamp)
+
+-- The message of these words and this body.
+abbrev pub AddsPosted : LinkFile → NewMessage → List ℕ → Base → Filed → Type 0
+AddsPosted file words body base m = AddsDraft file words (draft_given words body) base m
+
+-- A message with this body from the author of an answer.
+abbrev pub AddsReply : LinkFile → Answer → List ℕ → Base → Filed → Type 0
+AddsReply file answer body base m = (words : NewMessage) × (words.from_name.now ≡ answer.from_name.now) × (words.stamp ≡ answer.stamp) × AddsPosted file words body base m
+
+-- The message of a letter.
+abbrev pub AddsMailed : LinkFile → Letter → MailWords → Base → Filed → Type 0
+AddsMailed file letter asked base m = (words : NewMessage) × IsPosting letter asked words × AddsPosted file words letter.body base m

@@ -1,0 +1,34 @@
+-- That a store holds too much, after calls that committed nothing.
+use Rattle.std.specs.Prelude.{◌≡◌, ◌⊎◌, List, Some}
+use Rattle.disk_io.specs.Disk.{Honestly}
+use Rattle.base_file.specs.Base.{Base}
+use Rattle.echo_addr.specs.declared.address.Address.{Address}
+use Rattle.echo_filed.specs.Filed.{Filed}
+use Rattle.echo_links.specs.Links.{LinkFile}
+use Rattle.echo_packet.specs.declared.limits.Limits.{Limits}
+use Rattle.echo_packet.specs.Message.{IsMessage, Message}
+use Rattle.base_store.specs.Store.{CommitsNothing, GoesOn, StoreState}
+use Rattle.model_steps.specs.Tossing.{tossing}
+
+-- the store is full, or it has no room for a message that is to be added
+pub record IsTooMuch (Adds : Base → Filed → Type 0) (s : StoreState) : Type 0 where
+  pub past : s.is_full ⊎ ((m : Filed) × (s.has_room m → ⊥) × Honestly s.disk ((base : Base) → s.keeps base → Adds base m))
+
+-- Calls went well and committed nothing, and then the store held too much. It is the store of that time.
+pub record IsPastBound {T : Type 0} (state : T → StoreState) (Adds : Base → Filed → Type 0) (old : StoreState) : Type 0 where
+  pub store : T
+  pub commits : CommitsNothing old (state store)
+  pub goes_on : GoesOn old (state store)
+  pub much : IsTooMuch Adds (state store)
+
+-- nothing is added
+abbrev pub AddsNone : Base → Filed → Type 0
+AddsNone base m = ⊥
+
+-- the message that a toss of this one files
+abbrev pub AddsTossed : LinkFile → Address → Message → Base → Filed → Type 0
+AddsTossed file sender packed base m = Some m ≡ tossing file base.messages sender packed
+
+-- the message that a toss files of one that a packet within the limits may have
+abbrev pub AddsReceived : Limits → LinkFile → Base → Filed → Type 0
+AddsReceived limits file base m = (sender : Address) × (packed : Message) × IsMessage limits.text packed × AddsTossed file sender packed base m
