@@ -8,7 +8,7 @@ use Rattle.base_folder.proofs.filling.add_from.Given as goal
 
 abbrev pub invariant-messages : goal.invariant-messages
 invariant-messages g l = record {
-  stays : StaysOpen l.fn.folder l.folder (g.D.Disk.state l.disk) (Ok tt);
+  stays : StaysOpen {T = Unit {0}} l.fn.folder l.folder (g.D.Disk.state l.disk) (Ok tt);
   held : Honestly (g.D.Disk.state l.disk) ((cursor : ℕ) → HoldsFront g.H.Digest.keyed (held_by (g.D.Disk.state l.fn.disk) l.fn.folder) l.base.messages l.fn.from cursor
       → HoldsFront g.H.Digest.keyed (held_by (g.D.Disk.state l.disk) l.folder) l.base.messages l.i cursor);
   same : Honestly (g.D.Disk.state l.disk) (committed_by (g.D.Disk.state l.disk) l.folder ≡ committed_by (g.D.Disk.state l.fn.disk) l.fn.folder);

@@ -30,6 +30,9 @@ claim_for-requires g c =
       | else-owner-ne0-via-else-owner-ne0 w ↦ inl w.if-owner-ne0.false
     ])
 
+pub returns-then-owner-number-clause-run : goal.returns-then-owner-number-clause-run
+returns-then-owner-number-clause-run g c = looked_only c.args.path.now (g.D.Disk.state c.args.disk.now) (g.D.Disk.state c.judged.new.disk) c.judged.ensures.quiet
+
 pub returns-in_err-folder-clause-run : goal.returns-in_err-folder-clause-run
 returns-in_err-folder-clause-run g c =
     let says = c.in_ok-log.ensures in
