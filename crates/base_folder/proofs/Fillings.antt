@@ -18,7 +18,6 @@ use Rattle.base_folder_store.specs.Held.{HoldsBase, StandsForBaseAlone, StandsFo
 use Rattle.base_folder_store.specs.Opened.{IsOpen, committed_by, held_by, path_of}
 use Rattle.base_folder_store.specs.declared.folder.Folder.{Folder}
 use Rattle.base_folder_store.proofs.Seen.{at_end, end_holds}
-use Rattle.base_folder_store.proofs.Staged.{both_runs}
 use Rattle.base_folder_store.proofs.Stubbed.{new_at}
 use Rattle.base_file.specs.declared.fault.BaseFault.TheVariants as fault
 use Rattle.base_store.specs.declared.store_error.StoreError.{StoreError}
@@ -74,11 +73,6 @@ fills_run keyed path d e f bytes before now first next was is same run kept comm
     (commits_one keyed path d e before now first next (subst (λ (b : BaseBytes). HoldsBase keyed b first) (sym same) was) is kept)
 
 -- one run after another, of a folder that keeps its path
-pub adds_run : (path here : List ℕ) (d e f : DiskState) (base now : BaseBytes) → here ≡ path → LeavesOnly d e (StandsAlone path d base) → LeavesOnly e f (StandsAlone here e now) → KeepsOutside path d e → now ≡ base
-    → LeavesOnly d f (StandsAlone path d base)
-adds_run path here d e f base now at one two kept same =
-    both_runs path d e f base now one (subst (λ (p : List ℕ). LeavesOnly e f (StandsAlone p e now)) at two) kept same
-
 pub adds_outside : (path here : List ℕ) (d e f : DiskState) → here ≡ path → KeepsOutside path d e → KeepsOutside here e f → KeepsOutside path d f
 adds_outside path here d e f at one two = outside_twice path d e f one (subst (λ (p : List ℕ). KeepsOutside p e f) at two)
 

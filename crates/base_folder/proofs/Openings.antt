@@ -4,7 +4,7 @@ use Rattle.std.specs.Prelude.{◌⊎◌}
 use Rattle.echo_addr.specs.declared.address.Address.{Address}
 use Rattle.std.proofs.lemmas.Bool.{cases_lt}
 use Rattle.base_file.specs.Base.{Base}
-use Rattle.disk_io.specs.Disk.{DiskState, Files, bytes_in}
+use Rattle.disk_io.specs.Disk.{DiskState, Files, Honestly, bytes_in}
 use Rattle.disk_io.specs.Runs.{ChangesNothing, LeavesOnly}
 use Rattle.disk_io.proofs.Moments.{then_run, weaker_run}
 use Rattle.base_log.specs.Names.{keys_of, log_of, messages_of}
@@ -15,19 +15,21 @@ use Rattle.base_log.specs.declared.log.CommitRecord.{CommitRecord}
 use Rattle.base_log.specs.Opening.{StandsOrWasLeft}
 use Rattle.base_log.specs.Reading.{IsLogIn, IsRead}
 use Rattle.base_log.specs.declared.log.Log.{Log}
+use Rattle.base_log.specs.Moments.{KeepsOutside}
 use Rattle.base_log.proofs.Empty.{stands_quiet}
+use Rattle.base_log.proofs.Gates.{outside_quiet, outside_twice}
 use Rattle.base_log.proofs.Opened.{base_found}
 use Rattle.base_log.proofs.Quiet.{base_quiet}
 use Rattle.base_store.specs.Keys.{FolderStandsFor}
 use Rattle.base_folder_store.specs.Held.{HoldsBase, StandsForBase, StandsForBaseOrWasLeft, digest_by}
-use Rattle.base_folder_store.specs.Opened.{IsNamed, IsOpen, IsWritten, committed_by, held_by, path_of}
+use Rattle.base_folder_store.specs.Opened.{IsLogOfBase, IsNamed, IsOpen, IsWritten, committed_by, held_by, path_of}
 use Rattle.base_folder_store.specs.Owned.{with_mark}
 use Rattle.base_folder_store.specs.declared.folder.Folder.{Folder}
 use Rattle.base_folder_store.proofs.Claimed.{claimed_holds, claimed_open}
 use Rattle.base_folder_store.proofs.Bases.{opened_run}
 use Rattle.base_folder_store.proofs.Waits.{written_held}
 use Rattle.base_folder.specs.Ours.{IsLeftAlone, IsMarkOfOther, IsOfOther, SameKey, number_of}
-use Rattle.base_folder.specs.Unopened.{HaveRoom}
+use Rattle.base_folder.specs.Unopened.{HaveRoom, OpensOnly}
 use Rattle.base_folder.specs.Wrong.{IsToldBy}
 use Rattle.base_folder.proofs.Wrongs.{one_end}
 use Rattle.base_folder.specs.declared.open_error.OpenError.{OpenError}
@@ -132,3 +134,24 @@ left_alone d e unread.Raced quiet = tt
 
 pub claimed_named : (f g : Folder) → g ≡ with_mark f g.told.mark → IsNamed f → IsNamed g
 claimed_named f g only named = subst (λ (x : Folder). IsNamed x) (sym only) named
+
+-- as a run: looks, and what opening does behind them
+pub looked_only : (path : List ℕ) (d e : DiskState) → ChangesNothing d e → OpensOnly path d e
+looked_only path d e quiet = record { any_moment = λ honest keyed base stands. looked_run keyed path d e base quiet; outside = outside_quiet path d e quiet }
+
+pub opened_only : (path : List ℕ) (d e f : DiskState) (log : Log) → ChangesNothing d e → Honestly e (IsLogIn path d.seen log) → IsRead log → Honestly f (LeavesOnly e f (StandsOrWasLeft path e (base_at e path log.end.told)))
+    → KeepsOutside path e f → OpensOnly path d f
+opened_only path d e f log quiet is read run kept = record {
+  any_moment = λ honest keyed base stands. opening_run keyed path d e f log base stands quiet (is (kept.honest honest)) read (run honest);
+  outside = outside_twice path d e f (outside_quiet path d e quiet) kept;
+}
+
+-- the log of the base that is opened
+pub log_since : (path : List ℕ) (d e : DiskState) (log : Log) → ChangesNothing d e → log.end.told.number < 10 → IsRead log → Honestly e (IsLogIn path d.seen log) → Honestly e (StandsFor path (base_at d path log.end.told) d.seen)
+    → IsLogOfBase e path log
+log_since path d e log quiet digit read is stands = record {
+  digit = digit;
+  read = read;
+  same = λ honest. is honest ∙ ap bytes_in (sym (quiet.seen (log_of path)));
+  stands = λ honest. stood_since d e path log.end.told quiet (stands honest);
+}

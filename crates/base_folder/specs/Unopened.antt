@@ -1,10 +1,15 @@
 -- A base folder after it was opened.
-use Rattle.std.specs.Prelude.{◌<◌, ◌^◌, ℕ, List}
+use Rattle.std.specs.Prelude.{◌≡◌, ◌<◌, ◌^◌, ℕ, List}
 use Rattle.base_file.specs.Base.{Base}
-use Rattle.disk_io.specs.Disk.{DiskState}
-use Rattle.base_folder_store.specs.Held.{HoldsBase}
-use Rattle.base_folder_store.specs.Opened.{committed_by, held_by}
+use Rattle.base_log.specs.Moments.{KeepsOutside}
+use Rattle.disk_io.specs.Disk.{DiskState, Honestly}
+use Rattle.disk_io.specs.Runs.{LeavesOnly}
+use Rattle.echo_addr.specs.declared.address.Address.{Address}
+use Rattle.base_folder_store.specs.Held.{HoldsBase, StandsForBase, StandsForBaseOrWasLeft}
+use Rattle.base_folder_store.specs.Opened.{committed_by, held_by, path_of}
+use Rattle.base_folder_store.specs.State.{IsUsable}
 use Rattle.base_folder_store.specs.declared.folder.Folder.{Folder}
+use Rattle.base_folder.specs.Ours.{HasGivenKey, number_of}
 
 -- eight bytes have room for each digest
 abbrev pub HaveRoom : (ℕ → ℕ → List ℕ → ℕ) → Type 0
@@ -14,3 +19,15 @@ HaveRoom keyed = (first second : ℕ) (bytes : List ℕ) → keyed first second 
 pub record HasOpened (keyed : ℕ → ℕ → List ℕ → ℕ) (disk : DiskState) (base : Base) (folder : Folder) : Type 0 where
   pub held : HoldsBase keyed (held_by disk folder) base
   pub committed : HoldsBase keyed (committed_by disk folder) base
+
+-- A run that opens a folder: a crash at any time leaves the same base, or what a crash might have left before. Nothing outside the folder has changed.
+pub record OpensOnly (path : List ℕ) (old new : DiskState) : Type 0 where
+  pub any_moment : Honestly new ((keyed : ℕ → ℕ → List ℕ → ℕ) (base : Base) → StandsForBase keyed path base old.seen → LeavesOnly old new (StandsForBaseOrWasLeft keyed path old base))
+  pub outside : KeepsOutside path old new
+
+-- The folder at this path is open, belongs to this system, and has this key if the system drew it.
+pub record IsOpenedFor (at : List ℕ) (own : Address) (first second : ℕ) (disk : DiskState) (folder : Folder) : Type 0 where
+  pub usable : IsUsable disk folder
+  pub path : path_of folder ≡ at
+  pub ours : folder.told.mark.owner ≡ number_of own
+  pub drawn : HasGivenKey own first second folder

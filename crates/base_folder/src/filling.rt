@@ -5,12 +5,14 @@ ghost use Rattle.base_file.specs.Base.{IsBase};
 ghost use Rattle.disk_io.specs.Disk.{Honestly};
 ghost use Rattle.disk_io.specs.Runs.{LeavesOnly};
 ghost use Rattle.base_log.specs.AtRest.{IsAtRest};
-ghost use Rattle.base_log.specs.Moments.{KeepsOutside, StandsAlone};
+ghost use Rattle.base_log.specs.Moments.{KeepsOutside};
 ghost use Rattle.base_log.specs.Opening.{AreAlone};
 ghost use Rattle.base_folder_store.specs.Answers.{HasReadCause};
 ghost use Rattle.base_folder_store.specs.Held.{HoldsBase, StandsForBase};
-ghost use Rattle.base_folder_store.specs.Opened.{IsNamed, IsOpen, committed_by, held_by, path_of};
+ghost use Rattle.base_folder_store.specs.Calls.{StagesOnly, StaysOpen};
+ghost use Rattle.base_folder_store.specs.Opened.{IsOpen, committed_by, held_by, path_of};
 ghost use Rattle.base_folder_store.specs.Owned.{with_mark};
+ghost use Rattle.base_folder_store.specs.State.{IsUsable};
 ghost use Rattle.base_folder.specs.Filled.{HoldsFront, HoldsMore, IsKept, IsUnfilled, StandsForOneOf, StandsForOneOfOrWasLeft, no_messages, unfilled_cause};
 ghost use Rattle.base_folder.specs.Ours.{SameKey};
 ghost use Rattle.base_folder.specs.OpenError.{HasUnreadCause};
@@ -33,17 +35,11 @@ fn add<D: Disk, H: Digest>(
     folder: &mut Folder,
     message: &Filed,
 ) -> Result<(), StoreError>
-    requires named { IsNamed folder.old }
-    requires opened { Honestly (D.state disk.old) (IsOpen (D.state disk.old) folder.old) }
-    ensures named { IsNamed folder.new }
-    ensures opened { Honestly (D.state disk.new) (OnOk result (IsOpen (D.state disk.new) folder.new)) }
-    ensures path { path_of folder.new ≡ path_of folder.old }
-    ensures mark { folder.new.told.mark ≡ folder.old.told.mark }
+    requires { IsUsable (D.state disk.old) folder.old }
+    ensures stays { StaysOpen folder.old folder.new (D.state disk.new) result }
     ensures added { Honestly (D.state disk.new) (OnOk result (HoldsMore H.keyed (held_by (D.state disk.old) folder.old) (held_by (D.state disk.new) folder.new) message.now)) }
     ensures same { Honestly (D.state disk.new) (OnOk result (committed_by (D.state disk.new) folder.new ≡ committed_by (D.state disk.old) folder.old)) }
-    ensures any_moment { Honestly (D.state disk.new) (LeavesOnly (D.state disk.old) (D.state disk.new)
-        (StandsAlone (path_of folder.old) (D.state disk.old) (committed_by (D.state disk.old) folder.old))) }
-    ensures outside { KeepsOutside (path_of folder.old) (D.state disk.old) (D.state disk.new) }
+    ensures run { StagesOnly (path_of folder.old) (committed_by (D.state disk.old) folder.old) (D.state disk.old) (D.state disk.new) }
     ensures cause { HasReadCause (D.failures disk.old) (D.failures disk.new) result }
 {
     let bytes = bytes_alone(alloc, message)?;
@@ -61,20 +57,14 @@ fn add_next<D: Disk, H: Digest, S: BuildHasher>(
     base: &Base<S>,
     place: usize,
 ) -> Result<(), StoreError>
-    requires named { IsNamed folder.old }
-    requires opened { Honestly (D.state disk.old) (IsOpen (D.state disk.old) folder.old) }
+    requires usable { IsUsable (D.state disk.old) folder.old }
     requires base { IsBase base.now.messages base.now.cursor }
     requires within { place < length base.now.messages }
-    ensures named { IsNamed folder.new }
-    ensures opened { Honestly (D.state disk.new) (OnOk result (IsOpen (D.state disk.new) folder.new)) }
-    ensures path { path_of folder.new ≡ path_of folder.old }
-    ensures mark { folder.new.told.mark ≡ folder.old.told.mark }
+    ensures stays { StaysOpen folder.old folder.new (D.state disk.new) result }
     ensures added { Honestly (D.state disk.new) ((cursor : ℕ) → HoldsFront H.keyed (held_by (D.state disk.old) folder.old) base.now.messages place cursor
         → OnOk result (HoldsFront H.keyed (held_by (D.state disk.new) folder.new) base.now.messages (place + 1) cursor)) }
     ensures same { Honestly (D.state disk.new) (OnOk result (committed_by (D.state disk.new) folder.new ≡ committed_by (D.state disk.old) folder.old)) }
-    ensures any_moment { Honestly (D.state disk.new) (LeavesOnly (D.state disk.old) (D.state disk.new)
-        (StandsAlone (path_of folder.old) (D.state disk.old) (committed_by (D.state disk.old) folder.old))) }
-    ensures outside { KeepsOutside (path_of folder.old) (D.state disk.old) (D.state disk.new) }
+    ensures run { StagesOnly (path_of folder.old) (committed_by (D.state disk.old) folder.old) (D.state disk.old) (D.state disk.new) }
     ensures cause { HasReadCause (D.failures disk.old) (D.failures disk.new) result }
 {
     match base.message(place) {
@@ -92,21 +82,15 @@ fn add_from<D: Disk, H: Digest, S: BuildHasher>(
     from: usize,
     to: usize,
 ) -> Result<(), StoreError>
-    requires named { IsNamed folder.old }
-    requires opened { Honestly (D.state disk.old) (IsOpen (D.state disk.old) folder.old) }
+    requires usable { IsUsable (D.state disk.old) folder.old }
     requires base { IsBase base.now.messages base.now.cursor }
     requires order { from ≤ to }
     requires within { to ≤ length base.now.messages }
-    ensures named { IsNamed folder.new }
-    ensures opened { Honestly (D.state disk.new) (OnOk result (IsOpen (D.state disk.new) folder.new)) }
-    ensures path { path_of folder.new ≡ path_of folder.old }
-    ensures mark { folder.new.told.mark ≡ folder.old.told.mark }
+    ensures stays { StaysOpen folder.old folder.new (D.state disk.new) result }
     ensures added { Honestly (D.state disk.new) ((cursor : ℕ) → HoldsFront H.keyed (held_by (D.state disk.old) folder.old) base.now.messages from cursor
         → OnOk result (HoldsFront H.keyed (held_by (D.state disk.new) folder.new) base.now.messages to cursor)) }
     ensures same { Honestly (D.state disk.new) (OnOk result (committed_by (D.state disk.new) folder.new ≡ committed_by (D.state disk.old) folder.old)) }
-    ensures any_moment { Honestly (D.state disk.new) (LeavesOnly (D.state disk.old) (D.state disk.new)
-        (StandsAlone (path_of folder.old) (D.state disk.old) (committed_by (D.state disk.old) folder.old))) }
-    ensures outside { KeepsOutside (path_of folder.old) (D.state disk.old) (D.state disk.new) }
+    ensures run { StagesOnly (path_of folder.old) (committed_by (D.state disk.old) folder.old) (D.state disk.old) (D.state disk.new) }
     ensures cause { HasReadCause (D.failures disk.old) (D.failures disk.new) result }
 {
     'messages: for i in from..to {
@@ -122,18 +106,12 @@ fn add_scanned<D: Disk, H: Digest, S: BuildHasher>(
     folder: &mut Folder,
     base: &Base<S>,
 ) -> Result<(), StoreError>
-    requires named { IsNamed folder.old }
-    requires opened { Honestly (D.state disk.old) (IsOpen (D.state disk.old) folder.old) }
-    ensures named { IsNamed folder.new }
-    ensures opened { Honestly (D.state disk.new) (OnOk result (IsOpen (D.state disk.new) folder.new)) }
-    ensures path { path_of folder.new ≡ path_of folder.old }
-    ensures mark { folder.new.told.mark ≡ folder.old.told.mark }
+    requires { IsUsable (D.state disk.old) folder.old }
+    ensures stays { StaysOpen folder.old folder.new (D.state disk.new) result }
     ensures added { Honestly (D.state disk.new) (HoldsFront H.keyed (held_by (D.state disk.old) folder.old) base.now.messages 0 0
         → OnOk result (HoldsFront H.keyed (held_by (D.state disk.new) folder.new) base.now.messages base.now.cursor base.now.cursor)) }
     ensures same { Honestly (D.state disk.new) (OnOk result (committed_by (D.state disk.new) folder.new ≡ committed_by (D.state disk.old) folder.old)) }
-    ensures any_moment { Honestly (D.state disk.new) (LeavesOnly (D.state disk.old) (D.state disk.new)
-        (StandsAlone (path_of folder.old) (D.state disk.old) (committed_by (D.state disk.old) folder.old))) }
-    ensures outside { KeepsOutside (path_of folder.old) (D.state disk.old) (D.state disk.new) }
+    ensures run { StagesOnly (path_of folder.old) (committed_by (D.state disk.old) folder.old) (D.state disk.old) (D.state disk.new) }
     ensures cause { HasReadCause (D.failures disk.old) (D.failures disk.new) result }
 {
     add_from::<D, H, S>(alloc, disk, folder, base, 0, base.cursor())?;
@@ -148,18 +126,12 @@ fn add_all<D: Disk, H: Digest, S: BuildHasher>(
     folder: &mut Folder,
     base: &Base<S>,
 ) -> Result<(), StoreError>
-    requires named { IsNamed folder.old }
-    requires opened { Honestly (D.state disk.old) (IsOpen (D.state disk.old) folder.old) }
-    ensures named { IsNamed folder.new }
-    ensures opened { Honestly (D.state disk.new) (OnOk result (IsOpen (D.state disk.new) folder.new)) }
-    ensures path { path_of folder.new ≡ path_of folder.old }
-    ensures mark { folder.new.told.mark ≡ folder.old.told.mark }
+    requires { IsUsable (D.state disk.old) folder.old }
+    ensures stays { StaysOpen folder.old folder.new (D.state disk.new) result }
     ensures added { Honestly (D.state disk.new) (HoldsFront H.keyed (held_by (D.state disk.old) folder.old) base.now.messages 0 0
         → OnOk result (HoldsBase H.keyed (held_by (D.state disk.new) folder.new) base.now)) }
     ensures same { Honestly (D.state disk.new) (OnOk result (committed_by (D.state disk.new) folder.new ≡ committed_by (D.state disk.old) folder.old)) }
-    ensures any_moment { Honestly (D.state disk.new) (LeavesOnly (D.state disk.old) (D.state disk.new)
-        (StandsAlone (path_of folder.old) (D.state disk.old) (committed_by (D.state disk.old) folder.old))) }
-    ensures outside { KeepsOutside (path_of folder.old) (D.state disk.old) (D.state disk.new) }
+    ensures run { StagesOnly (path_of folder.old) (committed_by (D.state disk.old) folder.old) (D.state disk.old) (D.state disk.new) }
     ensures cause { HasReadCause (D.failures disk.old) (D.failures disk.new) result }
 {
     add_scanned::<D, H, S>(alloc, disk, folder, base)?;
@@ -173,8 +145,7 @@ fn fill_opened<D: Disk, H: Digest, S: BuildHasher>(
     folder: &mut Folder,
     base: &Base<S>,
 ) -> Result<(), StoreError>
-    requires named { IsNamed folder.old }
-    requires opened { Honestly (D.state disk.old) (IsOpen (D.state disk.old) folder.old) }
+    requires { IsUsable (D.state disk.old) folder.old }
     ensures opened { Honestly (D.state disk.new) (OnOk result (IsOpen (D.state disk.new) folder.new)) }
     ensures path { path_of folder.new ≡ path_of folder.old }
     ensures settled { Honestly (D.state disk.new) (OnOk result (IsAtRest (D.state disk.new) (path_of folder.new) folder.new.end)) }

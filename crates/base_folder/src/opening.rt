@@ -1,15 +1,13 @@
 //! A base folder opened to be changed.
-ghost use Rattle.std.specs.Prelude.{◌≡◌, ℕ, List, IfErr, IfOk, OnOk};
+ghost use Rattle.std.specs.Prelude.{ℕ, List, IfErr, IfOk, OnOk};
 ghost use Rattle.base_file.specs.Base.{Base};
 ghost use Rattle.disk_io.specs.Disk.{Honestly};
 ghost use Rattle.echo_addr.specs.declared.address.Address.{Address};
-ghost use Rattle.disk_io.specs.Runs.{LeavesOnly};
-ghost use Rattle.base_log.specs.Moments.{KeepsOutside};
 ghost use Rattle.base_log.specs.Opening.{AreAlone};
-ghost use Rattle.base_folder_store.specs.Held.{HoldsBase, StandsForBase, StandsForBaseOrWasLeft};
-ghost use Rattle.base_folder_store.specs.Opened.{IsNamed, IsOpen, IsWritten, held_by, path_of};
-ghost use Rattle.base_folder.specs.Ours.{HasGivenKey, IsLeftAlone, IsNotOurs, IsOfOther, number_of};
-ghost use Rattle.base_folder.specs.Unopened.{HasOpened, HaveRoom};
+ghost use Rattle.base_folder_store.specs.Held.{HoldsBase, StandsForBase};
+ghost use Rattle.base_folder_store.specs.Opened.{IsFresh, IsOpen, held_by};
+ghost use Rattle.base_folder.specs.Ours.{IsLeftAlone, IsNotOurs, IsOfOther};
+ghost use Rattle.base_folder.specs.Unopened.{HasOpened, HaveRoom, IsOpenedFor, OpensOnly};
 ghost use Rattle.base_folder.specs.OpenError.{HasUnreadCause, IsWrong};
 ghost use Rattle.base_folder.specs.Wrong.{IsSound};
 
@@ -33,17 +31,10 @@ pub fn open_base<D: Disk>(
 ) -> Result<Folder, OpenError>
     requires { Honestly (D.state disk.old) (AreAlone path.now (D.state disk.old)) }
     ensures opened { Honestly (D.state disk.new) (IfOk result (IsOpen (D.state disk.new))) }
-    ensures named { IfOk result IsNamed }
-    ensures path { IfOk result (λ folder. path_of folder ≡ path.now) }
-    ensures settled { IfOk result (λ folder. folder.told ≡ folder.end.told) }
-    ensures written { IfOk result IsWritten }
+    ensures fresh { IfOk result (IsFresh path.now) }
     ensures same { Honestly (D.state disk.new) ((keyed : ℕ → ℕ → List ℕ → ℕ) (base : Base) → StandsForBase keyed path.now base (D.state disk.old).seen
         → IfOk result (λ folder. HoldsBase keyed (held_by (D.state disk.new) folder) base)) }
-
-    // A crash at any time leaves the same base and all else as it was, or what a crash might have left before.
-    ensures any_moment { Honestly (D.state disk.new) ((keyed : ℕ → ℕ → List ℕ → ℕ) (base : Base) → StandsForBase keyed path.now base (D.state disk.old).seen
-        → LeavesOnly (D.state disk.old) (D.state disk.new) (StandsForBaseOrWasLeft keyed path.now (D.state disk.old) base)) }
-    ensures outside { KeepsOutside path.now (D.state disk.old) (D.state disk.new) }
+    ensures run { OpensOnly path.now (D.state disk.old) (D.state disk.new) }
     ensures sound { Honestly (D.state disk.new) (OnOk result (IsSound strange path.now (D.state disk.old).seen)) }
     ensures wrong { Honestly (D.state disk.new) (IfErr result (IsWrong strange path.now (D.state disk.old).seen)) }
     ensures left { IfErr result (IsLeftAlone (D.state disk.old) (D.state disk.new)) }
@@ -67,19 +58,13 @@ pub fn open_own<D: Disk>(
     key: (u64, u64),
 ) -> Result<Folder, OpenError>
     requires { Honestly (D.state disk.old) (AreAlone path.now (D.state disk.old)) }
-    ensures opened { Honestly (D.state disk.new) (IfOk result (IsOpen (D.state disk.new))) }
-    ensures named { IfOk result IsNamed }
-    ensures path { IfOk result (λ folder. path_of folder ≡ path.now) }
+    ensures own { IfOk result (IsOpenedFor path.now own key.0 key.1 (D.state disk.new)) }
     ensures same { Honestly (D.state disk.new) ((keyed : ℕ → ℕ → List ℕ → ℕ) (base : Base) → HaveRoom keyed → StandsForBase keyed path.now base (D.state disk.old).seen
         → IfOk result (HasOpened keyed (D.state disk.new) base)) }
-    ensures any_moment { Honestly (D.state disk.new) ((keyed : ℕ → ℕ → List ℕ → ℕ) (base : Base) → StandsForBase keyed path.now base (D.state disk.old).seen
-        → LeavesOnly (D.state disk.old) (D.state disk.new) (StandsForBaseOrWasLeft keyed path.now (D.state disk.old) base)) }
-    ensures outside { KeepsOutside path.now (D.state disk.old) (D.state disk.new) }
+    ensures run { OpensOnly path.now (D.state disk.old) (D.state disk.new) }
     ensures sound { Honestly (D.state disk.new) (OnOk result (IsSound strange path.now (D.state disk.old).seen)) }
 
-    // It belongs to this system, and to another one exactly if that is the answer; then nothing is changed.
-    ensures ours { IfOk result (λ folder. folder.told.mark.owner ≡ number_of own) }
-    ensures drawn { IfOk result (HasGivenKey own key.0 key.1) }
+    // It is another system's exactly if that is the answer; then nothing is changed.
     ensures other { Honestly (D.state disk.new) ((address : Address) → IsOfOther own strange path.now (D.state disk.old).seen address → OnOk result ⊥) }
     ensures refused { Honestly (D.state disk.new) (IfErr result (IsLeftAlone (D.state disk.old) (D.state disk.new))) }
     ensures wrong { Honestly (D.state disk.new) (IfErr result (IsNotOurs own strange path.now (D.state disk.old).seen)) }

@@ -9,7 +9,6 @@ use Rattle.base_log.specs.Opening.{StandsOrWasLeft}
 use Rattle.base_log.specs.AtRest.{IsAtRest, IsStaged}
 use Rattle.base_log.specs.declared.log.End.{End}
 use Rattle.base_log.specs.declared.log.CommitRecord.{CommitRecord}
-use Rattle.base_log.specs.declared.names.Names.{Names}
 use Rattle.base_log.proofs.Quiet.{base_quiet, staged_quiet}
 use Rattle.base_log.proofs.Rested.{rest_staged}
 use Rattle.echo_filed.specs.Filed.{Filed}

@@ -1,12 +1,10 @@
 -- A base folder, and beside its files those that are made in their place.
-use Rattle.std.proofs.Common.{◌≡◌, ◌≢◌, ◌≤◌, ◌/◌, ℕ, List, length, take, sym, ap, subst, ◌∙◌, arith, inl, inr, ⊎_elim}
+use Rattle.std.proofs.Common.{◌≡◌, ◌≢◌, ◌/◌, ℕ, List, length, sym, ap, subst, ◌∙◌, arith}
 use Rattle.disk_io.specs.Disk.{DiskState}
-use Rattle.disk_io.specs.Runs.{ChangesNothing, LeavesOnly}
-use Rattle.disk_io.proofs.Moments.{then_run, weaker_run}
+use Rattle.disk_io.specs.Runs.{ChangesNothing}
 use Rattle.base_log.specs.AtRest.{IsAtRest}
-use Rattle.base_log.specs.Moments.{IsBeforeOrAfter, KeepsOutside, StandsAlone}
 use Rattle.base_log.specs.Names.{keys_of, messages_of}
-use Rattle.base_log.specs.Standing.{BaseBytes, StandsFor, base_at}
+use Rattle.base_log.specs.Standing.{BaseBytes, base_at}
 use Rattle.base_log.specs.declared.log.CommitRecord.{CommitRecord}
 use Rattle.base_log.proofs.Paths.{keys_not_messages, keys_of-injective, messages_not_keys, messages_of-injective}
 use Rattle.base_file.specs.Base.{Base}
@@ -78,31 +76,6 @@ many_readable keyed d f base readable holds =
     let many = (told_readable keyed d f base readable holds).many in
     let long = keys_all d f readable.legible in
     omega (arith, many, long)
-
--- a run that leaves what a commit made the base
-pub after_commit : (path : List ℕ) (d e f : DiskState) (first next now : BaseBytes) → LeavesOnly d e (IsBeforeOrAfter path d first next) → LeavesOnly e f (StandsAlone path e now) → KeepsOutside path d e → now ≡ next
-    → LeavesOnly d f (IsBeforeOrAfter path d first next)
-after_commit path d e f first next now one two kept same =
-    then_run d e f (IsBeforeOrAfter path d first next) (StandsAlone path e now) one two
-    (λ c left. record {
-      outside = λ m out named flushed. left.outside m out (kept.named m out named) (kept.flushed m out flushed) ∙ kept.seen m out;
-      stands = inr (subst (λ (b : BaseBytes). StandsFor path b c) same left.stands);
-    })
-
--- what was committed is the base from before a commit
-pub before_only : (path : List ℕ) (d e : DiskState) (first next : BaseBytes) → LeavesOnly d e (StandsAlone path d first) → LeavesOnly d e (IsBeforeOrAfter path d first next)
-before_only path d e first next run =
-    weaker_run d e (StandsAlone path d first) (IsBeforeOrAfter path d first next) run (λ c left. record { outside = left.outside; stands = inl left.stands })
-
--- and a run that left it, before a commit
-pub before_commit : (path : List ℕ) (d e f : DiskState) (first next now held : BaseBytes) → LeavesOnly d e (StandsAlone path d first) → LeavesOnly e f (IsBeforeOrAfter path e now held) → KeepsOutside path d e → now ≡ first
-    → held ≡ next → LeavesOnly d f (IsBeforeOrAfter path d first next)
-before_commit path d e f first next now held one two kept same more =
-    then_run d e f (IsBeforeOrAfter path d first next) (IsBeforeOrAfter path e now held) (before_only path d e first next one) two
-    (λ c left. record {
-      outside = λ m out named flushed. left.outside m out (kept.named m out named) (kept.flushed m out flushed) ∙ kept.seen m out;
-      stands = ⊎_elim (λ (s : StandsFor path now c). inl (subst (λ (b : BaseBytes). StandsFor path b c) same s)) (λ (s : StandsFor path held c). inr (subst (λ (b : BaseBytes). StandsFor path b c) more s)) left.stands;
-    })
 
 -- under another cursor it is open still
 pub cursor_open : (d : DiskState) (f : Folder) (cursor : ℕ) → IsOpen d f → IsOpen d (record f { told = record f.told { cursor = cursor } })

@@ -1,11 +1,16 @@
 -- What reads answer, carried from one to the next.
-use Rattle.std.proofs.Common.{◌≡◌, ◌<◌, ◌≤◌, ◌-◌, ◌^◌, ℕ, inl, inr, Result, Ok, Err, ap, sym, subst, ◌∙◌, arith, ⊎_elim}
+use Rattle.std.proofs.Common.{◌≡◌, ◌<◌, ◌≤◌, ◌-◌, ◌^◌, ℕ, List, inl, inr, Result, Ok, Err, ap, sym, subst, ◌∙◌, arith, ⊎_elim}
 use Rattle.std.proofs.lemmas.Bool.{cases_lt}
 use Rattle.disk_io.specs.Device.{Failed}
+use Rattle.disk_io.specs.Disk.{DiskState, Honestly}
 use Rattle.std.specs.Result.{IfOk, IsErrAnd, IsErrOf, OnErr, OnOk}
+use Rattle.base_file.specs.Base.{Base}
+use Rattle.base_log.specs.Standing.{BaseBytes}
 use Rattle.base_store.specs.declared.store_error.StoreError.{StoreError}
 use Rattle.base_store.specs.declared.store_error.StoreError.TheVariants as error
-use Rattle.base_folder_store.specs.Answers.{Answers}
+use Rattle.base_folder_store.specs.Answers.{Answers, HasReadCause}
+use Rattle.base_folder_store.specs.Held.{HoldsBase}
+use Rattle.base_folder_store.specs.Left.{HasPurgeCause}
 
 -- where an error was handed on
 pub answers_error : {T U : Type 0} (P : T → Type 0) (Q : U → Type 0) (e : StoreError) (r : Result U StoreError) → IsErrAnd r (λ x. x ≡ e) → Answers {T = T} P (Err e) → Answers Q r
@@ -30,6 +35,15 @@ handed_on {E = E} e f (Err x) same is =
     let first : x ≡ e = same in
     let inside : x ≡ f = cc (is) in
     ap (λ (y : E). Err y) (sym first ∙ inside)
+
+-- why a purge failed in a call whose error was handed on
+pub purge_cause : {T U : Type 0} (disk : DiskState) (bytes : BaseBytes) (before now : ℕ) (e : StoreError) (r : Result U StoreError) → IsErrAnd r (λ x. x ≡ e) → HasReadCause {T = T} before now (Err e)
+    → Honestly disk (IsErrOf {T = T} (Err e) error.Damaged → (keyed : ℕ → ℕ → List ℕ → ℕ) (base : Base) → HoldsBase keyed bytes base → ⊥) → HasPurgeCause disk bytes before now r
+purge_cause disk bytes before now e r same cause damaged = record {
+  later = cause.later;
+  failed = λ is. cause.failed (handed_on _ _ r same is);
+  damaged = λ honest is. damaged honest (handed_on _ _ r same is);
+}
 
 -- a device that failed in a later call failed since the first
 pub failed_since : (first before now : ℕ) → first ≤ before → Failed before now → Failed first now
@@ -63,3 +77,8 @@ at_error (Err e) p = p
 pub on_ok_from : {T E P : Type 0} (r : Result T E) → P → OnOk r P
 on_ok_from (Ok x) p = p
 on_ok_from (Err e) p = tt
+
+-- nothing is said of a value where an error was handed on
+pub on_ok_none : {T E : Type 0} (P : Type 0) (e : E) (r : Result T E) → IsErrAnd r (λ x. x ≡ e) → OnOk r P
+on_ok_none P e (Ok x) same = absurd same
+on_ok_none P e (Err x) same = tt

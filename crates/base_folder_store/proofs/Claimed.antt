@@ -9,12 +9,12 @@ use Rattle.base_store.specs.declared.index.Index.{Index}
 use Rattle.base_store.proofs.Placed.{keys_long}
 use Rattle.base_store.specs.Store.{CommitsNothing, GoesOn}
 use Rattle.base_folder_store.specs.Held.{HoldsBase, digest_by}
-use Rattle.base_folder_store.specs.Opened.{IsOpen, held_by, path_of}
+use Rattle.base_folder_store.specs.Opened.{IsOpen, held_by}
 use Rattle.base_folder_store.specs.Owned.{IsUnclaimed, with_mark}
 use Rattle.base_folder_store.specs.State.{IsIndexed, IsUsable, state_of}
 use Rattle.base_folder_store.specs.declared.folder.Folder.{Folder}
 use Rattle.base_folder_store.proofs.Legible.{keys_all, legible_open}
-use Rattle.base_folder_store.proofs.Staged.{nothing_left, outside_same}
+use Rattle.base_folder_store.proofs.Runs.{run_none}
 use Rattle.base_folder_store.proofs.Stated.{stages}
 
 -- no keys are those of no messages
@@ -90,8 +90,8 @@ claim_goes_on keyed d f g mark result k claim usable =
 pub claim_commits : (keyed : ℕ → ℕ → List ℕ → ℕ) (d : DiskState) (f g : Folder) (mark : FolderIdentity) (result : Bool) (k : Option Base) → IsClaim f g mark result → IsUsable d f → CommitsNothing (state_of d keyed f k) (state_of d keyed g k)
 claim_commits keyed d f g mark result k claim usable =
     by_claim (λ (x : Folder). CommitsNothing (state_of d keyed f k) (state_of d keyed x k)) f g mark result claim
-    (stages d d keyed f f k k refl (λ honest. nothing_left d f (usable.opened honest)) (outside_same (path_of f) d))
-    (λ free. stages d d keyed f (with_mark f mark) k k refl (λ honest. nothing_left d f (usable.opened honest)) (outside_same (path_of f) d))
+    (stages d d keyed f f k k refl (run_none d f usable.opened))
+    (λ free. stages d d keyed f (with_mark f mark) k k refl (run_none d f usable.opened))
 
 pub claim_indexed : (d : DiskState) (f g : Folder) (mark : FolderIdentity) (result : Bool) (i : Index) → IsClaim f g mark result → IsIndexed d f i → IsIndexed d g i
 claim_indexed d f g mark result i claim was = by_claim (λ (x : Folder). IsIndexed d x i) f g mark result claim was (λ free. was)

@@ -1,5 +1,5 @@
 -- The index of a folder's keys, before and after calls.
-use Rattle.std.proofs.Common.{◌≡◌, ℕ, List, length, Result, Ok, Err, sym, ap, subst}
+use Rattle.std.proofs.Common.{◌≡◌, ℕ, List, length, Result, Ok, Err, sym, subst}
 use Rattle.std.specs.Prelude.{OnOk}
 use Rattle.disk_io.specs.Disk.{DiskState, Honestly}
 use Rattle.base_log.specs.Standing.{BaseBytes}

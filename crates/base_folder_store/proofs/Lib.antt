@@ -8,6 +8,7 @@ pub mod Looked
 pub mod Numbered
 mod OneMore
 mod Plain
+pub mod Runs
 pub mod Seen
 mod Single
 pub mod Staged

@@ -74,11 +74,15 @@ module _ (messages keys piece : List ℕ) (place : ℕ) (is : IsPieceOf keys pla
       sym (piece_digest keys place piece 0 is some) ∙ ap (digest_at keys) none
 
 -- what was read of the keys is a piece of them
+pub piece_long : (keys piece : List ℕ) (from to : ℕ) → 16 * to ≤ length keys → piece ≡ drop (16 * from) (take (16 * to) keys) → length piece ≡ 16 * to - 16 * from
+piece_long keys piece from to within is =
+    ap (λ (l : List ℕ). length l) is ∙ length-drop (16 * from) (take (16 * to) keys) ∙ ap (λ (n : ℕ). n - 16 * from) (length-take-le (16 * to) keys within)
+
 pub piece_of : (keys piece : List ℕ) (from to : ℕ) → from ≤ to → 16 * to ≤ length keys → piece ≡ drop (16 * from) (take (16 * to) keys) → IsPieceOf keys from piece
 piece_of keys piece from to order within is =
     let front : length (take (16 * to) keys) ≡ 16 * to = length-take-le (16 * to) keys within in
     let low : 16 * from ≤ length (take (16 * to) keys) = omega (arith, front, order) in
-    let long : length piece ≡ 16 * to - 16 * from = ap (λ (l : List ℕ). length l) is ∙ length-drop (16 * from) (take (16 * to) keys) ∙ ap (λ (n : ℕ). n - 16 * from) front in
+    let long = piece_long keys piece from to within is in
     record {
       rest = drop (16 * to) keys;
       within = omega (arith, order, within);

@@ -10,7 +10,7 @@ use Rattle.echo_filed.specs.Filed.{Filed, IsFiled, has_id, key_of, same_key}
 use Rattle.echo_filed.specs.declared.key.Key.{Key}
 use Rattle.echo_filed.proofs.Keys.{same_key_decides}
 use Rattle.base_file.specs.Base.{Base, IsBase, is_known}
-use Rattle.base_store.specs.Keys.{StandWhereTold, digest_at, digested, digested_key, digested_with}
+use Rattle.base_store.specs.Keys.{digested, digested_key, digested_with}
 use Rattle.base_store.proofs.Digests.{of_key}
 use Rattle.base_store.proofs.Told.{tells_each}
 use Rattle.base_store.specs.Store.{all_scanned, with_message}

@@ -1,20 +1,20 @@
 -- What staging and committing leave of an open base folder.
 use Rattle.std.proofs.Common.{◌≡◌, ◌<◌, ◌+◌, ◌^◌, ℕ, List, ◌++◌, length, refl, sym, ap, subst, ◌∙◌, arith, length-append}
 use Rattle.std.proofs.lemmas.List.{append_assoc, length-take-le}
-use Rattle.disk_io.specs.Disk.{DiskState, Files, bytes_in}
+use Rattle.disk_io.specs.Disk.{DiskState, bytes_in}
 use Rattle.disk_io.specs.Runs.{LeavesOnly}
-use Rattle.disk_io.proofs.Moments.{no_call, then_run}
+use Rattle.disk_io.proofs.Moments.{no_call}
 use Rattle.base_log.specs.AtRest.{IsAtRest, IsStaged}
 use Rattle.base_log.specs.Moments.{KeepsOutside, StandsAlone}
-use Rattle.base_log.specs.Names.{AreNames, folder_of, keys_of, messages_of}
-use Rattle.base_log.specs.Standing.{BaseBytes, StandsFor, and_keys, and_messages, base_at}
+use Rattle.base_log.specs.Names.{AreNames, folder_of, messages_of}
+use Rattle.base_log.specs.Standing.{BaseBytes, and_keys, and_messages, base_at}
 use Rattle.base_log.specs.declared.log.End.{End}
 use Rattle.base_log.specs.declared.log.CommitRecord.{CommitRecord}
 use Rattle.base_log.specs.declared.names.Names.{Names}
 use Rattle.base_log.proofs.Rested.{rest_staged}
 use Rattle.base_store.specs.Keys.{entry}
 use Rattle.base_folder_store.specs.Added.{OneMoreWaits, next_place, with_stored}
-use Rattle.base_folder_store.specs.Opened.{IsOpen, IsWritten, committed_by, held_by, path_of}
+use Rattle.base_folder_store.specs.Opened.{IsNamed, IsOpen, IsWritten, committed_by, held_by, path_of}
 use Rattle.base_folder_store.specs.declared.folder.Folder.{Folder}
 use Rattle.base_folder_store.proofs.Legible.{keys_count}
 use Rattle.base_folder_store.proofs.Waits.{written_held}
@@ -29,17 +29,9 @@ outside_same path d = record {
   honest = λ is. is;
 }
 
--- what is so of the disk behind a call that kept what is outside is so of the one before it
-pub alone_before : (path : List ℕ) (d e : DiskState) (base now : BaseBytes) → KeepsOutside path d e → now ≡ base → (c : Files) → StandsAlone path e now c → StandsAlone path d base c
-alone_before path d e base now kept same c left = record {
-  outside = λ m out named flushed. left.outside m out (kept.named m out named) (kept.flushed m out flushed) ∙ kept.seen m out;
-  stands = subst (λ (b : BaseBytes). StandsFor path b c) same left.stands;
-}
-
--- one run after another
-pub both_runs : (path : List ℕ) (d e f : DiskState) (base now : BaseBytes) → LeavesOnly d e (StandsAlone path d base) → LeavesOnly e f (StandsAlone path e now) → KeepsOutside path d e → now ≡ base → LeavesOnly d f (StandsAlone path d base)
-both_runs path d e f base now one two kept same =
-    then_run d e f (StandsAlone path d base) (StandsAlone path e now) one two (alone_before path d e base now kept same)
+-- it has the paths of its files still
+pub names_kept : (f g : Folder) → g.names ≡ f.names → g.told ≡ f.told → IsNamed f → IsNamed g
+names_kept f g names told was = subst (λ (t : CommitRecord). AreNames g.names t.number) (sym told) (subst (λ (n : Names). AreNames n f.told.number) (sym names) was)
 
 -- so many bytes of the messages count
 pub messages_count : (d : DiskState) (path : List ℕ) (end : End) (told : CommitRecord) → IsStaged d path end told → length (base_at d path told).messages ≡ told.messages
@@ -64,7 +56,7 @@ module _ (d : DiskState) (f g : Folder) (bytes : List ℕ) (digest : ℕ) (was :
 
   pub added_open : IsOpen d g
   added_open = record {
-    names = subst (λ (t : CommitRecord). AreNames g.names t.number) (sym more.told) (subst (λ (n : Names). AreNames n f.told.number) (sym more.names) was.names);
+    names = names_kept f g more.names more.told was.names;
     staged = subst (λ (t : CommitRecord). IsStaged d (path_of g) g.end t) (sym more.told)
         (subst (λ (x : End). IsStaged d (path_of g) x f.told) (sym more.end) (subst (λ (n : Names). IsStaged d (folder_of n) f.end f.told) (sym more.names) was.staged));
     keys =
@@ -127,7 +119,7 @@ committed_open d e f g was names told keys wait rest is =
     let path : path_of g ≡ path_of f = ap (λ (n : Names). folder_of n) names in
     let staged : IsStaged e (path_of f) g.end f.told = committed_staged e (path_of f) g.end f.told rest is in
     record {
-      names = subst (λ (t : CommitRecord). AreNames g.names t.number) (sym told) (subst (λ (n : Names). AreNames n f.told.number) (sym names) was.names);
+      names = names_kept f g names told was.names;
       staged = subst (λ (t : CommitRecord). IsStaged e (path_of g) g.end t) (sym told) (subst (λ (p : List ℕ). IsStaged e p g.end f.told) (sym path) staged);
       keys = keys ∙ was.keys ∙ (λ i. (sym told i).keys + length (sym wait i).keys.items);
     }

@@ -2,7 +2,7 @@
 use Rattle.std.proofs.Common.{◌≡◌, ◌≤◌, ◌<◌, ◌⊎◌, inl, inr, ℕ, List, length, Option, Result, Ok, Err, refl, sym, ap, subst, arith}
 use Rattle.std.specs.Prelude.{IfOk, OnOk, IsErrOf}
 use Rattle.disk_io.specs.Disk.{DiskState, Files, Honestly, IsIn}
-use Rattle.disk_io.specs.Runs.{ChangesNothing, LeavesOnly}
+use Rattle.disk_io.specs.Runs.{ChangesNothing}
 use Rattle.disk_io.proofs.Moments.{weaker_run}
 use Rattle.base_log.specs.Moments.{IsBeforeOrAfter, KeepsOutside, StandsAlone}
 use Rattle.base_log.specs.Standing.{BaseBytes, StandsFor}
@@ -12,6 +12,7 @@ use Rattle.base_store.specs.Store.{Commits, CommitsNothing, GoesOn, HasStoreCaus
 use Rattle.base_store.specs.declared.store_error.StoreError.{StoreError}
 use Rattle.base_store.specs.declared.store_error.StoreError.TheVariants as error
 use Rattle.base_folder_store.specs.Answers.{Answers, HasReadCause}
+use Rattle.base_folder_store.specs.Calls.{CommitsOnly, IsAcknowledged, StagesOnly, StaysOpen}
 use Rattle.base_folder_store.specs.Held.{HoldsBase, StandsForBase}
 use Rattle.base_folder_store.specs.Opened.{IsNamed, IsOpen, and_waiting, committed_by, held_by, path_of}
 use Rattle.base_folder_store.specs.State.{IsUsable, state_of}
@@ -44,25 +45,24 @@ pub beside : (d e : DiskState) (keyed : ℕ → ℕ → List ℕ → ℕ) (f g :
 beside d e keyed f g h k kept = record { seen = kept.seen; named = kept.named; flushed = kept.flushed; alone = kept.alone; honest = kept.honest }
 
 -- what was staged is not committed
-pub stages : (d e : DiskState) (keyed : ℕ → ℕ → List ℕ → ℕ) (f g : Folder) (h k : Option Base) → path_of g ≡ path_of f → Honestly e (LeavesOnly d e (StandsAlone (path_of f) d (committed_by d f)))
-    → KeepsOutside (path_of f) d e → CommitsNothing (state_of d keyed f h) (state_of e keyed g k)
-stages d e keyed f g h k path run kept = record {
+pub stages : (d e : DiskState) (keyed : ℕ → ℕ → List ℕ → ℕ) (f g : Folder) (h k : Option Base) → path_of g ≡ path_of f → StagesOnly (path_of f) (committed_by d f) d e → CommitsNothing (state_of d keyed f h) (state_of e keyed g k)
+stages d e keyed f g h k path run = record {
   any_moment = λ honest base is.
-      weaker_run d e (StandsAlone (path_of f) d (committed_by d f)) (LeavesCommitted (state_of d keyed f h) base) (run honest)
+      weaker_run d e (StandsAlone (path_of f) d (committed_by d f)) (LeavesCommitted (state_of d keyed f h) base) (run.any_moment honest)
       (λ c left. record { beside = left.outside; stands = record { bytes = committed_by d f; stands = left.stands; holds = is } });
-  beside = beside d e keyed f g h k kept;
+  beside = beside d e keyed f g h k run.outside;
   same = same_folder d e keyed f g h k path;
 }
 
 -- the store goes on where the folder is still open, and what was committed is so still
-pub went_on : {T : Type 0} (d e : DiskState) (keyed : ℕ → ℕ → List ℕ → ℕ) (f g : Folder) (h k : Option Base) (r : Result T StoreError) → IsNamed g → Honestly e (OnOk r (IsOpen e g))
-    → Honestly e (OnOk r (committed_by e g ≡ committed_by d f)) → KeepsOutside (path_of f) d e → OnOk r (GoesOn (state_of d keyed f h) (state_of e keyed g k))
-went_on d e keyed f g h k (Ok done) named opened same kept = record {
-  ready = record { named = named; opened = opened };
+pub went_on : {T : Type 0} (d e : DiskState) (keyed : ℕ → ℕ → List ℕ → ℕ) (f g : Folder) (h k : Option Base) (r : Result T StoreError) → StaysOpen f g e r → Honestly e (OnOk r (committed_by e g ≡ committed_by d f))
+    → KeepsOutside (path_of f) d e → OnOk r (GoesOn (state_of d keyed f h) (state_of e keyed g k))
+went_on d e keyed f g h k (Ok done) stays same kept = record {
+  ready = record { named = stays.named; opened = stays.opened };
   committed = λ honest base is. subst (λ (b : BaseBytes). HoldsBase keyed b base) (sym (same honest)) is;
   honest = kept.honest;
 }
-went_on d e keyed f g h k (Err failed) named opened same kept = tt
+went_on d e keyed f g h k (Err failed) stays same kept = tt
 
 -- calls may be made where the folder is still open
 pub usable_after : {T : Type 0} (e : DiskState) (g : Folder) (r : Result T StoreError) → IsNamed g → Honestly e (OnOk r (IsOpen e g)) → OnOk r (IsUsable e g)
@@ -70,15 +70,15 @@ usable_after e g (Ok done) named opened = record { named = named; opened = opene
 usable_after e g (Err failed) named opened = tt
 
 -- what was held is committed
-pub committed : {T : Type 0} (d e : DiskState) (keyed : ℕ → ℕ → List ℕ → ℕ) (f g : Folder) (h k : Option Base) (r : Result T StoreError) → IsNamed g → Honestly e (OnOk r (IsOpen e g))
-    → Honestly e (OnOk r (held_by e g ≡ held_by d f)) → Honestly e (OnOk r (committed_by e g ≡ held_by d f)) → KeepsOutside (path_of f) d e → OnOk r (Commits (state_of d keyed f h) (state_of e keyed g k))
-committed d e keyed f g h k (Ok done) named opened same now kept = record {
-  ready = record { named = named; opened = opened };
-  keeps = λ honest base is. subst (λ (b : BaseBytes). HoldsBase keyed b base) (sym (same honest)) is;
-  committed = λ honest base is. subst (λ (b : BaseBytes). HoldsBase keyed b base) (sym (now honest)) is;
+pub committed : {T : Type 0} (d e : DiskState) (keyed : ℕ → ℕ → List ℕ → ℕ) (f g : Folder) (h k : Option Base) (r : Result T StoreError) → StaysOpen f g e r → IsAcknowledged d e f g r → KeepsOutside (path_of f) d e
+    → OnOk r (Commits (state_of d keyed f h) (state_of e keyed g k))
+committed d e keyed f g h k (Ok ok) stays done kept = record {
+  ready = record { named = stays.named; opened = stays.opened };
+  keeps = λ honest base is. subst (λ (b : BaseBytes). HoldsBase keyed b base) (sym (done.same honest)) is;
+  committed = λ honest base is. subst (λ (b : BaseBytes). HoldsBase keyed b base) (sym (done.committed honest)) is;
   honest = kept.honest;
 }
-committed d e keyed f g h k (Err failed) named opened same now kept = tt
+committed d e keyed f g h k (Err failed) stays done kept = tt
 
 -- the base from before a commit, or the one that was held
 either_stands : (keyed : ℕ → ℕ → List ℕ → ℕ) (path : List ℕ) (first next : Base) (before now : BaseBytes) (c : Files) → HoldsBase keyed before first → HoldsBase keyed now next
@@ -86,13 +86,13 @@ either_stands : (keyed : ℕ → ℕ → List ℕ → ℕ) (path : List ℕ) (fi
 either_stands keyed path first next before now c was is (inl stands) = inl (record { bytes = before; stands = stands; holds = was })
 either_stands keyed path first next before now c was is (inr stands) = inr (record { bytes = now; stands = stands; holds = is })
 
-pub may_commit : (d e : DiskState) (keyed : ℕ → ℕ → List ℕ → ℕ) (f g : Folder) (h k : Option Base) → path_of g ≡ path_of f
-    → Honestly e (LeavesOnly d e (IsBeforeOrAfter (path_of f) d (committed_by d f) (held_by d f))) → KeepsOutside (path_of f) d e → MayCommit (state_of d keyed f h) (state_of e keyed g k)
-may_commit d e keyed f g h k path run kept = record {
+pub may_commit : (d e : DiskState) (keyed : ℕ → ℕ → List ℕ → ℕ) (f g : Folder) (h k : Option Base) → path_of g ≡ path_of f → CommitsOnly (path_of f) (committed_by d f) (held_by d f) d e
+    → MayCommit (state_of d keyed f h) (state_of e keyed g k)
+may_commit d e keyed f g h k path run = record {
   any_moment = λ honest first next was is.
-      weaker_run d e (IsBeforeOrAfter (path_of f) d (committed_by d f) (held_by d f)) (LeavesEither (state_of d keyed f h) first next) (run honest)
+      weaker_run d e (IsBeforeOrAfter (path_of f) d (committed_by d f) (held_by d f)) (LeavesEither (state_of d keyed f h) first next) (run.any_moment honest)
       (λ c left. record { beside = left.outside; stands = either_stands keyed (path_of f) first next (committed_by d f) (held_by d f) c was is left.stands });
-  beside = beside d e keyed f g h k kept;
+  beside = beside d e keyed f g h k run.outside;
   same = same_folder d e keyed f g h k path;
 }
 

@@ -1,12 +1,17 @@
 -- What a purge leaves of a base folder, message by message.
-use Rattle.std.specs.Prelude.{◌≡◌, ◌≢◌, ℕ, Bool, true, false, not, List, take, count_by, None}
-use Rattle.disk_io.specs.Disk.{DiskState}
+use Rattle.std.specs.Prelude.{◌≡◌, ◌≢◌, ◌≤◌, ℕ, ◌+◌, Bool, true, false, not, if◌then◌else◌, List, length, take, count_by, None, Result, IsErrOf}
+use Rattle.disk_io.specs.Device.{Failed}
+use Rattle.disk_io.specs.Disk.{DiskState, Honestly}
 use Rattle.base_file.specs.Base.{Base}
 use Rattle.echo_filed.specs.Filed.{Filed}
 use Rattle.echo_filed.specs.Stubs.{is_stub, stub_of}
 use Rattle.base_log.specs.Names.{keys_of, messages_of}
+use Rattle.base_log.specs.Standing.{BaseBytes}
 use Rattle.base_store.specs.Store.{purged}
-use Rattle.base_folder_store.specs.Opened.{IsLegible, IsWritten, path_of}
+use Rattle.base_store.specs.declared.store_error.StoreError.{StoreError}
+use Rattle.base_store.specs.declared.store_error.StoreError.TheVariants as error
+use Rattle.base_folder_store.specs.Held.{HoldsBase}
+use Rattle.base_folder_store.specs.Opened.{IsLegible, IsNamed, IsWritten, path_of}
 use Rattle.base_folder_store.specs.declared.folder.Folder.{Folder}
 
 -- A message that was scanned becomes its stub, another stays.
@@ -34,6 +39,28 @@ pub record IsReadable (disk : DiskState) (folder : Folder) : Type 0 where
   pub legible : IsLegible disk folder
   pub told : folder.end.told ≡ folder.told
   pub written : IsWritten folder
+
+-- One can be read, and the other one takes what a purge leaves of it.
+pub record ArePaired (disk : DiskState) (folder next : Folder) : Type 0 where
+  pub readable : Honestly disk (IsReadable disk folder)
+  pub beside : IsBesideIn folder next
+  pub named : IsNamed next
+
+-- What a purge leaves of one message more is held, and it says whether that changed it.
+pub record LeavesOneMore (keyed : ℕ → ℕ → List ℕ → ℕ) (base : Base) (place : ℕ) (old new : BaseBytes) (one : Bool) : Type 0 where
+  pub left : HoldsBase keyed old (first_left base place) → HoldsBase keyed new (first_left base (place + 1))
+  pub changed : changed_in base (place + 1) ≡ changed_in base place + (if one then 1 else 0)
+
+-- What a purge leaves of all messages is held, and so many changed.
+pub record LeavesAll (keyed : ℕ → ℕ → List ℕ → ℕ) (base : Base) (new : BaseBytes) (count : ℕ) : Type 0 where
+  pub left : HoldsBase keyed new (first_left base (length base.messages))
+  pub changed : count ≡ changed_in base (length base.messages)
+
+-- A failure of the device is answered only where its count of failures rose. On an honest disk, damage is answered only where these bytes hold no base.
+pub record HasPurgeCause {T : Type 0} (disk : DiskState) (bytes : BaseBytes) (before now : ℕ) (result : Result T StoreError) : Type 0 where
+  pub later : before ≤ now
+  pub failed : IsErrOf result error.Device → Failed before now
+  pub damaged : Honestly disk (IsErrOf result error.Damaged → (keyed : ℕ → ℕ → List ℕ → ℕ) (base : Base) → HoldsBase keyed bytes base → ⊥)
 
 -- The files of that number are there no more.
 pub record AreGone (disk : DiskState) (path : List ℕ) (number : ℕ) : Type 0 where

@@ -1,5 +1,6 @@
 pub mod Added
 pub mod Answers
+pub mod Calls
 pub mod Held
 pub mod Left
 pub mod Opened

@@ -1,9 +1,11 @@
 -- A base folder that is open.
-use Rattle.std.specs.Prelude.{◌≡◌, ◌≤◌, ◌+◌, ℕ, List, [], length, IsSome}
-use Rattle.disk_io.specs.Disk.{DiskState, bytes_in}
+use Rattle.std.specs.Prelude.{◌≡◌, ◌≤◌, ◌<◌, ◌+◌, ℕ, List, [], length, IsSome}
+use Rattle.disk_io.specs.Disk.{DiskState, Honestly, bytes_in}
 use Rattle.base_log.specs.Names.{AreNames, folder_of, keys_of, messages_of}
 use Rattle.base_log.specs.AtRest.{IsStaged}
-use Rattle.base_log.specs.Standing.{BaseBytes, and_keys, and_messages, base_at}
+use Rattle.base_log.specs.Reading.{IsLogIn, IsRead}
+use Rattle.base_log.specs.Standing.{BaseBytes, StandsFor, and_keys, and_messages, base_at}
+use Rattle.base_log.specs.declared.log.Log.{Log}
 use Rattle.base_folder_store.specs.declared.folder.Folder.{Folder}
 use Rattle.base_folder_store.specs.declared.waiting.Waiting.{Waiting}
 
@@ -46,3 +48,17 @@ pub record IsOpen (disk : DiskState) (folder : Folder) : Type 0 where
 -- The bytes that were committed last.
 abbrev pub committed_by : DiskState → Folder → BaseBytes
 committed_by disk folder = base_at disk (path_of folder) folder.end.told
+
+-- A log that was read of a folder which holds a base.
+pub record IsLogOfBase (disk : DiskState) (path : List ℕ) (log : Log) : Type 0 where
+  pub digit : log.end.told.number < 10
+  pub read : IsRead log
+  pub same : Honestly disk (IsLogIn path disk.seen log)
+  pub stands : Honestly disk (StandsFor path (base_at disk path log.end.told) disk.seen)
+
+-- It was opened at this path, and nothing was added since.
+pub record IsFresh (at : List ℕ) (folder : Folder) : Type 0 where
+  pub named : IsNamed folder
+  pub path : path_of folder ≡ at
+  pub settled : folder.told ≡ folder.end.told
+  pub written : IsWritten folder

@@ -3,13 +3,14 @@ ghost use Rattle.std.specs.Prelude.{◌≡◌, ◌≢◌, ◌≤◌, ◌<◌, �
 ghost use Rattle.disk_io.specs.Disk.{Honestly};
 ghost use Rattle.disk_io.specs.Runs.{HasCause, LeavesOnly};
 ghost use Rattle.base_log.specs.AtRest.{IsAtRest, IsStaged};
-ghost use Rattle.base_log.specs.Moments.{IsBeforeOrAfter, KeepsOutside, LeavesOutside, StandsAlone};
+ghost use Rattle.base_log.specs.Moments.{LeavesOutside, StandsAlone};
 ghost use Rattle.base_log.specs.Names.{AreNames, folder_of};
-ghost use Rattle.base_log.specs.Standing.{and_keys, and_messages, base_at};
+ghost use Rattle.base_log.specs.Standing.{base_at};
 ghost use Rattle.base_folder_store.specs.Added.{IsFull, LacksRoom, OneMoreWaits, SameBesideBoth, next_place, with_stored};
-ghost use Rattle.base_folder_store.specs.Answers.{HasReadCause};
+ghost use Rattle.base_folder_store.specs.Calls.{CommitsOnly, HasWriteCause, IsAcknowledged, IsWrittenOut, StagesBoth, StagesOnly, StaysInFiles, StaysOpen};
 ghost use Rattle.base_folder_store.specs.Left.{AreGone};
-ghost use Rattle.base_folder_store.specs.Opened.{IsNamed, IsOpen, IsWritten, committed_by, held_by, path_of};
+ghost use Rattle.base_folder_store.specs.Opened.{IsWritten, committed_by, held_by, path_of};
+ghost use Rattle.base_folder_store.specs.State.{IsUsable};
 
 use crate::folder::{ENTRY, Folder};
 use base_log::{CommitRecord, End, Names, commit, remove_files, stage_keys, stage_messages};
@@ -35,17 +36,9 @@ fn stage_both<D: Disk>(
     requires staged { Honestly (D.state disk.old) (IsStaged (D.state disk.old) (folder_of names.now) end told) }
     requires messages_room { told.messages + length bytes.now < 2 ^ 64 }
     requires keys_room { told.keys + length keys.now < 2 ^ 64 }
-    ensures staged { Honestly (D.state disk.new) (IfOk result (λ more. IsStaged (D.state disk.new) (folder_of names.now) end more)) }
-    ensures number { IfOk result (λ more. more.number ≡ told.number) }
-    ensures mark { IfOk result (λ more. more.mark ≡ told.mark) }
-    ensures added { Honestly (D.state disk.new) (IfOk result (λ more. base_at (D.state disk.new) (folder_of names.now) more
-        ≡ and_keys (and_messages (base_at (D.state disk.old) (folder_of names.now) told) bytes.now) keys.now)) }
-    ensures same { Honestly (D.state disk.new) (OnOk result (base_at (D.state disk.new) (folder_of names.now) end.told
-        ≡ base_at (D.state disk.old) (folder_of names.now) end.told)) }
+    ensures staged { IfOk result (λ more. StagesBoth (folder_of names.now) (D.state disk.old) (D.state disk.new) end told more bytes.now keys.now) }
     ensures beside { SameBesideBoth (folder_of names.now) told.number (D.state disk.old).seen (D.state disk.new).seen }
-    ensures any_moment { Honestly (D.state disk.new) (LeavesOnly (D.state disk.old) (D.state disk.new)
-        (StandsAlone (folder_of names.now) (D.state disk.old) (base_at (D.state disk.old) (folder_of names.now) end.told))) }
-    ensures outside { KeepsOutside (folder_of names.now) (D.state disk.old) (D.state disk.new) }
+    ensures run { StagesOnly (folder_of names.now) (base_at (D.state disk.old) (folder_of names.now) end.told) (D.state disk.old) (D.state disk.new) }
     ensures leaves { LeavesOutside (folder_of names.now) (D.state disk.old) (D.state disk.new) }
     ensures cause { HasCause (D.failures disk.old) (D.failures disk.new) result }
 {
@@ -91,24 +84,13 @@ impl Folder {
 
     // Writes the waiting messages.
     fn write_out<D: Disk>(&mut self, disk: &mut D) -> Result<(), StoreError>
-        requires named { IsNamed self.old }
-        requires opened { Honestly (D.state disk.old) (IsOpen (D.state disk.old) self.old) }
-        ensures named { IsNamed self.new }
-        ensures opened { Honestly (D.state disk.new) (OnOk result (IsOpen (D.state disk.new) self.new)) }
-        ensures written { OnOk result (IsWritten self.new) }
-        ensures path { path_of self.new ≡ path_of self.old }
-        ensures mark { self.new.told.mark ≡ self.old.told.mark }
-        ensures held { Honestly (D.state disk.new) (OnOk result (held_by (D.state disk.new) self.new ≡ held_by (D.state disk.old) self.old)) }
-        ensures same { Honestly (D.state disk.new) (OnOk result (committed_by (D.state disk.new) self.new ≡ committed_by (D.state disk.old) self.old)) }
-        ensures end { self.new.end ≡ self.old.end }
-        ensures number { self.new.told.number ≡ self.old.told.number }
-        ensures beside { SameBesideBoth (path_of self.old) self.old.told.number (D.state disk.old).seen (D.state disk.new).seen }
-        ensures any_moment { Honestly (D.state disk.new) (LeavesOnly (D.state disk.old) (D.state disk.new)
-            (StandsAlone (path_of self.old) (D.state disk.old) (committed_by (D.state disk.old) self.old))) }
-        ensures outside { KeepsOutside (path_of self.old) (D.state disk.old) (D.state disk.new) }
+        requires { IsUsable (D.state disk.old) self.old }
+        ensures stays { StaysOpen self.old self.new (D.state disk.new) result }
+        ensures out { IsWrittenOut (D.state disk.old) (D.state disk.new) self.old self.new result }
+        ensures files { StaysInFiles self.old self.new (D.state disk.old).seen (D.state disk.new).seen }
+        ensures run { StagesOnly (path_of self.old) (committed_by (D.state disk.old) self.old) (D.state disk.old) (D.state disk.new) }
         ensures leaves { LeavesOutside (path_of self.old) (D.state disk.old) (D.state disk.new) }
-        ensures whole { IsErrOf result StoreError.Damaged → ⊥ }
-        ensures cause { HasReadCause (D.failures disk.old) (D.failures disk.new) result }
+        ensures cause { HasWriteCause (D.failures disk.old) (D.failures disk.new) result }
         ensures many { IsErrOf result StoreError.TooMany → (2 ^ 64 ≤ next_place self.old) ⊎ (2 ^ 64 ≤ self.old.told.keys + length self.old.waiting.keys.items) }
     {
         let messages = &self.waiting.messages;
@@ -132,25 +114,14 @@ impl Folder {
         bytes: &[u8],
         digest: u64,
     ) -> Result<(), StoreError>
-        requires named { IsNamed self.old }
-        requires opened { Honestly (D.state disk.old) (IsOpen (D.state disk.old) self.old) }
-        ensures named { IsNamed self.new }
-        ensures opened { Honestly (D.state disk.new) (OnOk result (IsOpen (D.state disk.new) self.new)) }
-        ensures path { path_of self.new ≡ path_of self.old }
-        ensures mark { self.new.told.mark ≡ self.old.told.mark }
+        requires { IsUsable (D.state disk.old) self.old }
+        ensures stays { StaysOpen self.old self.new (D.state disk.new) result }
         ensures staged { Honestly (D.state disk.new) (OnOk result (held_by (D.state disk.new) self.new ≡ with_stored (held_by (D.state disk.old) self.old) bytes.now digest)) }
         ensures fits { Honestly (D.state disk.new) (OnOk result (length (held_by (D.state disk.new) self.new).messages < 2 ^ 64)) }
         ensures same { Honestly (D.state disk.new) (OnOk result (committed_by (D.state disk.new) self.new ≡ committed_by (D.state disk.old) self.old)) }
-        ensures end { self.new.end ≡ self.old.end }
-        ensures number { self.new.told.number ≡ self.old.told.number }
-        ensures beside { SameBesideBoth (path_of self.old) self.old.told.number (D.state disk.old).seen (D.state disk.new).seen }
-
-        // A crash at any time leaves the committed base, and nothing outside the folder has changed.
-        ensures any_moment { Honestly (D.state disk.new) (LeavesOnly (D.state disk.old) (D.state disk.new)
-            (StandsAlone (path_of self.old) (D.state disk.old) (committed_by (D.state disk.old) self.old))) }
-        ensures outside { KeepsOutside (path_of self.old) (D.state disk.old) (D.state disk.new) }
-        ensures whole { IsErrOf result StoreError.Damaged → ⊥ }
-        ensures cause { HasReadCause (D.failures disk.old) (D.failures disk.new) result }
+        ensures files { StaysInFiles self.old self.new (D.state disk.old).seen (D.state disk.new).seen }
+        ensures run { StagesOnly (path_of self.old) (committed_by (D.state disk.old) self.old) (D.state disk.old) (D.state disk.new) }
+        ensures cause { HasWriteCause (D.failures disk.old) (D.failures disk.new) result }
         ensures many { IsErrOf result StoreError.TooMany → LacksRoom self.old (length bytes.now) }
     {
         self.add(bytes, digest)?;
@@ -169,26 +140,13 @@ impl Folder {
 
     // Writes the record of its contents, all of which are written.
     fn tell<D: Disk>(&mut self, disk: &mut D) -> Result<(), StoreError>
-        requires named { IsNamed self.old }
-        requires opened { Honestly (D.state disk.old) (IsOpen (D.state disk.old) self.old) }
+        requires usable { IsUsable (D.state disk.old) self.old }
         requires written { IsWritten self.old }
-        ensures named { IsNamed self.new }
-        ensures written { IsWritten self.new }
-        ensures opened { Honestly (D.state disk.new) (OnOk result (IsOpen (D.state disk.new) self.new)) }
-        ensures path { path_of self.new ≡ path_of self.old }
-        ensures mark { self.new.told.mark ≡ self.old.told.mark }
-        ensures same { Honestly (D.state disk.new) (OnOk result (held_by (D.state disk.new) self.new ≡ held_by (D.state disk.old) self.old)) }
-        ensures committed { Honestly (D.state disk.new) (OnOk result (committed_by (D.state disk.new) self.new ≡ held_by (D.state disk.old) self.old)) }
-        ensures settled { Honestly (D.state disk.new) (OnOk result (IsAtRest (D.state disk.new) (path_of self.new) self.new.end)) }
-        ensures told { OnOk result (self.new.end.told ≡ self.new.told) }
-
-        // A crash at any time leaves the base that was committed before, or the one held.
-        ensures any_moment { Honestly (D.state disk.new) (LeavesOnly (D.state disk.old) (D.state disk.new)
-            (IsBeforeOrAfter (path_of self.old) (D.state disk.old) (committed_by (D.state disk.old) self.old) (held_by (D.state disk.old) self.old))) }
-        ensures outside { KeepsOutside (path_of self.old) (D.state disk.old) (D.state disk.new) }
+        ensures stays { StaysOpen self.old self.new (D.state disk.new) result }
+        ensures done { IsAcknowledged (D.state disk.old) (D.state disk.new) self.old self.new result }
+        ensures run { CommitsOnly (path_of self.old) (committed_by (D.state disk.old) self.old) (held_by (D.state disk.old) self.old) (D.state disk.old) (D.state disk.new) }
         ensures leaves { LeavesOutside (path_of self.old) (D.state disk.old) (D.state disk.new) }
-        ensures whole { IsErrOf result StoreError.Damaged → ⊥ }
-        ensures cause { HasReadCause (D.failures disk.old) (D.failures disk.new) result }
+        ensures cause { HasWriteCause (D.failures disk.old) (D.failures disk.new) result }
         ensures many { IsErrOf result StoreError.TooMany → 2 ^ 64 ≤ self.old.end.gate + 51 }
         ensures refused { IsErrOf result StoreError.TooMany → disk.new ≡ disk.old }
     {
@@ -202,25 +160,12 @@ impl Folder {
 
     // Writes the waiting messages, and the record of the contents.
     fn acknowledge<D: Disk>(&mut self, disk: &mut D) -> Result<(), StoreError>
-        requires named { IsNamed self.old }
-        requires opened { Honestly (D.state disk.old) (IsOpen (D.state disk.old) self.old) }
-        ensures named { IsNamed self.new }
-        ensures written { OnOk result (IsWritten self.new) }
-        ensures opened { Honestly (D.state disk.new) (OnOk result (IsOpen (D.state disk.new) self.new)) }
-        ensures path { path_of self.new ≡ path_of self.old }
-        ensures mark { self.new.told.mark ≡ self.old.told.mark }
-        ensures same { Honestly (D.state disk.new) (OnOk result (held_by (D.state disk.new) self.new ≡ held_by (D.state disk.old) self.old)) }
-        ensures committed { Honestly (D.state disk.new) (OnOk result (committed_by (D.state disk.new) self.new ≡ held_by (D.state disk.old) self.old)) }
-        ensures settled { Honestly (D.state disk.new) (OnOk result (IsAtRest (D.state disk.new) (path_of self.new) self.new.end)) }
-        ensures told { OnOk result (self.new.end.told ≡ self.new.told) }
-
-        // A crash at any time leaves the base that was committed before, or the one held.
-        ensures any_moment { Honestly (D.state disk.new) (LeavesOnly (D.state disk.old) (D.state disk.new)
-            (IsBeforeOrAfter (path_of self.old) (D.state disk.old) (committed_by (D.state disk.old) self.old) (held_by (D.state disk.old) self.old))) }
-        ensures outside { KeepsOutside (path_of self.old) (D.state disk.old) (D.state disk.new) }
+        requires { IsUsable (D.state disk.old) self.old }
+        ensures stays { StaysOpen self.old self.new (D.state disk.new) result }
+        ensures done { IsAcknowledged (D.state disk.old) (D.state disk.new) self.old self.new result }
+        ensures run { CommitsOnly (path_of self.old) (committed_by (D.state disk.old) self.old) (held_by (D.state disk.old) self.old) (D.state disk.old) (D.state disk.new) }
         ensures leaves { LeavesOutside (path_of self.old) (D.state disk.old) (D.state disk.new) }
-        ensures whole { IsErrOf result StoreError.Damaged → ⊥ }
-        ensures cause { HasReadCause (D.failures disk.old) (D.failures disk.new) result }
+        ensures cause { HasWriteCause (D.failures disk.old) (D.failures disk.new) result }
         ensures many { IsErrOf result StoreError.TooMany → IsFull self.old }
         ensures refused { Honestly (D.state disk.new) (IsErrOf result StoreError.TooMany → LeavesOnly (D.state disk.old) (D.state disk.new)
             (StandsAlone (path_of self.old) (D.state disk.old) (committed_by (D.state disk.old) self.old))) }
@@ -235,12 +180,9 @@ impl Folder {
         ensures settled { Honestly (D.state disk.new) (OnOk result (IsAtRest (D.state disk.new) (path_of self.now) self.now.end)) }
         ensures gone { Honestly (D.state disk.new) (OnOk result (former < 10 → former ≢ self.now.end.told.number → AreGone (D.state disk.new) (path_of self.now) former)) }
         ensures same { committed_by (D.state disk.new) self.now ≡ committed_by (D.state disk.old) self.now }
-        ensures any_moment { Honestly (D.state disk.new) (LeavesOnly (D.state disk.old) (D.state disk.new)
-            (StandsAlone (path_of self.now) (D.state disk.old) (committed_by (D.state disk.old) self.now))) }
-        ensures outside { KeepsOutside (path_of self.now) (D.state disk.old) (D.state disk.new) }
+        ensures run { StagesOnly (path_of self.now) (committed_by (D.state disk.old) self.now) (D.state disk.old) (D.state disk.new) }
         ensures leaves { LeavesOutside (path_of self.now) (D.state disk.old) (D.state disk.new) }
-        ensures whole { IsErrOf result StoreError.Damaged → ⊥ }
-        ensures cause { HasReadCause (D.failures disk.old) (D.failures disk.new) result }
+        ensures cause { HasWriteCause (D.failures disk.old) (D.failures disk.new) result }
         ensures few { IsErrOf result StoreError.TooMany → ⊥ }
     {
         if former == self.end.told.number || former > 9 {
@@ -255,29 +197,16 @@ impl Folder {
     /// Commits its contents, and removes the files that held them before, if those are others. At `Ok` each later
     /// crash leaves the contents; after an error open the folder again.
     pub fn commit<D: Disk>(&mut self, disk: &mut D) -> Result<(), StoreError>
-        requires named { IsNamed self.old }
-        requires opened { Honestly (D.state disk.old) (IsOpen (D.state disk.old) self.old) }
-        ensures named { IsNamed self.new }
-        ensures written { OnOk result (IsWritten self.new) }
-        ensures opened { Honestly (D.state disk.new) (OnOk result (IsOpen (D.state disk.new) self.new)) }
-        ensures path { path_of self.new ≡ path_of self.old }
-        ensures mark { self.new.told.mark ≡ self.old.told.mark }
-        ensures same { Honestly (D.state disk.new) (OnOk result (held_by (D.state disk.new) self.new ≡ held_by (D.state disk.old) self.old)) }
-        ensures committed { Honestly (D.state disk.new) (OnOk result (committed_by (D.state disk.new) self.new ≡ held_by (D.state disk.old) self.old)) }
-        ensures settled { Honestly (D.state disk.new) (OnOk result (IsAtRest (D.state disk.new) (path_of self.new) self.new.end)) }
-        ensures told { OnOk result (self.new.end.told ≡ self.new.told) }
+        requires { IsUsable (D.state disk.old) self.old }
+        ensures stays { StaysOpen self.old self.new (D.state disk.new) result }
+        ensures done { IsAcknowledged (D.state disk.old) (D.state disk.new) self.old self.new result }
 
         // The files that held it before are gone, if others hold it now.
         ensures gone { Honestly (D.state disk.new) (OnOk result (self.old.end.told.number < 10 → self.old.end.told.number ≢ self.new.end.told.number
             → AreGone (D.state disk.new) (path_of self.old) self.old.end.told.number)) }
-
-        // A crash at any time leaves the base that was committed before, or the one held.
-        ensures any_moment { Honestly (D.state disk.new) (LeavesOnly (D.state disk.old) (D.state disk.new)
-            (IsBeforeOrAfter (path_of self.old) (D.state disk.old) (committed_by (D.state disk.old) self.old) (held_by (D.state disk.old) self.old))) }
-        ensures outside { KeepsOutside (path_of self.old) (D.state disk.old) (D.state disk.new) }
+        ensures run { CommitsOnly (path_of self.old) (committed_by (D.state disk.old) self.old) (held_by (D.state disk.old) self.old) (D.state disk.old) (D.state disk.new) }
         ensures leaves { LeavesOutside (path_of self.old) (D.state disk.old) (D.state disk.new) }
-        ensures whole { IsErrOf result StoreError.Damaged → ⊥ }
-        ensures cause { HasReadCause (D.failures disk.old) (D.failures disk.new) result }
+        ensures cause { HasWriteCause (D.failures disk.old) (D.failures disk.new) result }
         ensures many { IsErrOf result StoreError.TooMany → IsFull self.old }
         ensures refused { Honestly (D.state disk.new) (IsErrOf result StoreError.TooMany → LeavesOnly (D.state disk.old) (D.state disk.new)
             (StandsAlone (path_of self.old) (D.state disk.old) (committed_by (D.state disk.old) self.old))) }

@@ -23,12 +23,12 @@ impl Folder {
     // Takes the entries of the messages from one number up to another into the index.
     fn take_in<D: Disk>(
         &self,
+        alloc: Global,
         disk: &mut D,
         index: &mut Index,
         digest: u64,
         from: usize,
         to: usize,
-        piece: &mut Vec<u8>,
     ) -> Result<(), StoreError>
         requires legible { Honestly (D.state disk.old) (IsLegible (D.state disk.old) self.now) }
         requires order { from ≤ to }
@@ -42,12 +42,12 @@ impl Folder {
         ensures cause { HasReadCause (D.failures disk.old) (D.failures disk.new) result }
         ensures few { IsErrOf result StoreError.TooMany → ⊥ }
     {
-        self.read_keys(disk, from, to, piece)?;
-        index.take_in(digest, from, piece)?;
+        let piece = self.read_keys(alloc, disk, from, to)?;
+        index.take_in(digest, from, &piece)?;
         Ok(())
     }
 
-    // Goes over the keys that the index lacks for a look-up of the digest, piece by piece in one buffer.
+    // Goes over the keys that the index lacks for a look-up of the digest, piece by piece.
     fn go_over<D: Disk>(
         &self,
         alloc: Global,
@@ -65,12 +65,11 @@ impl Folder {
         ensures few { IsErrOf result StoreError.TooMany → ⊥ }
     {
         let all = self.count();
-        let mut piece = Vec::new(alloc);
         index.begin(alloc, digest);
         let mut from = index.covered(digest);
         'pieces: while from < all {
             let to = from + (all - from).min(PIECE);
-            self.take_in(disk, index, digest, from, to, &mut piece)?;
+            self.take_in(alloc, disk, index, digest, from, to)?;
             from = to;
         }
         index.chain(alloc, digest);

@@ -1,12 +1,11 @@
 //! An open base folder: the facts known of its files.
-ghost use Rattle.std.specs.Prelude.{◌≡◌, ◌<◌, ◌/◌, IfOk};
+ghost use Rattle.std.specs.Prelude.{◌≡◌, ◌/◌, IfOk};
 ghost use Rattle.disk_io.specs.Disk.{Honestly};
 ghost use Rattle.disk_io.specs.Runs.{HasCause, LeavesOnly};
 ghost use Rattle.base_log.specs.Moments.{KeepsOutside};
 ghost use Rattle.base_log.specs.Opening.{AreAlone, StandsOrWasLeft};
-ghost use Rattle.base_log.specs.Reading.{IsLogIn, IsRead};
-ghost use Rattle.base_log.specs.Standing.{StandsFor, base_at};
-ghost use Rattle.base_folder_store.specs.Opened.{IsNamed, IsOpen, IsWritten, held_by, path_of};
+ghost use Rattle.base_log.specs.Standing.{base_at};
+ghost use Rattle.base_folder_store.specs.Opened.{IsFresh, IsLogOfBase, IsOpen, held_by};
 
 use crate::waiting::Waiting;
 use base_log::{CommitRecord, End, Log, Names, open};
@@ -37,15 +36,11 @@ impl Folder {
         path: &[u8],
         log: &Log,
     ) -> Result<Folder, DiskError>
-        requires digit { log.now.end.told.number < 10 }
         requires alone { Honestly (D.state disk.old) (AreAlone path.now (D.state disk.old)) }
-        requires log { Honestly (D.state disk.old) (IsLogIn path.now (D.state disk.old).seen log.now) }
-        requires read { IsRead log.now }
-        requires stands { Honestly (D.state disk.old) (StandsFor path.now (base_at (D.state disk.old) path.now log.now.end.told) (D.state disk.old).seen) }
+        requires log { IsLogOfBase (D.state disk.old) path.now log.now }
         ensures opened { Honestly (D.state disk.new) (IfOk result (IsOpen (D.state disk.new))) }
-        ensures names { IfOk result (λ folder. (path_of folder ≡ path.now) × IsNamed folder) }
-        ensures settled { IfOk result (λ folder. (folder.end ≡ log.now.end) × (folder.told ≡ log.now.end.told)) }
-        ensures written { IfOk result IsWritten }
+        ensures fresh { IfOk result (IsFresh path.now) }
+        ensures end { IfOk result (λ folder. folder.end ≡ log.now.end) }
         ensures found { Honestly (D.state disk.new) (IfOk result (λ folder. held_by (D.state disk.new) folder ≡ base_at (D.state disk.old) path.now log.now.end.told)) }
 
         // A crash at any time leaves the same base and all else as it was, or what a crash might have left before.

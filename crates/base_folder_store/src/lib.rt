@@ -4,10 +4,9 @@
 //! digests are. A crash leaves the base that was committed before, or the one held.
 //!
 //! Begin with `folder` (it is opened), `reading` (a message is read by its number) and `folder_store` (all of this as a
-//! store). `pieces` reads a part of a file into a buffer.
-//! `alone` reads and makes one message by itself, and `front` its first lines. `sought` and `finding` look messages up
-//! by digests. `waiting` holds messages not written yet, and `adding` adds and commits. `owning` has the folder's
-//! owner. `leaving` and `purging` replace a base by the rest that a purge leaves. `laws` has what holds of the
+//! store). `alone` reads and makes one message by itself, and `front` its first lines. `sought` and `finding` look
+//! messages up by digests. `waiting` holds messages not written yet, and `adding` adds and commits. `owning` has the
+//! folder's owner. `leaving` and `purging` replace a base by the rest that a purge leaves. `laws` has what holds of the
 //! definitions.
 #![tactic(auto)]
 
@@ -20,7 +19,6 @@ mod front;
 mod laws;
 mod leaving;
 mod owning;
-mod pieces;
 mod purging;
 mod reading;
 mod sought;

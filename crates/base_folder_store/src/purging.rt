@@ -1,16 +1,15 @@
 //! A purge: what it leaves of each message is staged in files of another number, which the next commit names.
-ghost use Rattle.std.specs.Prelude.{◌≡◌, ◌≢◌, ◌+◌, ◌<◌, ◌/◌, ℕ, List, [], not, length, take, count_by, IfOk, OnOk, IsErrOf, if◌then◌else◌};
+ghost use Rattle.std.specs.Prelude.{◌≡◌, ◌≢◌, ◌<◌, ◌/◌, ℕ, List, [], not, take, count_by, IfOk, OnOk, if◌then◌else◌};
 ghost use Rattle.disk_io.specs.Disk.{Honestly};
-ghost use Rattle.disk_io.specs.Runs.{LeavesOnly};
 ghost use Rattle.base_file.specs.Base.{Base};
 ghost use Rattle.echo_filed.specs.Stubs.{is_stub};
 ghost use Rattle.base_log.specs.AtRest.{IsAtRest};
-ghost use Rattle.base_log.specs.Moments.{IsBeforeOrAfter, KeepsOutside, StandsAlone};
 ghost use Rattle.base_store.specs.Store.{purged};
-ghost use Rattle.base_folder_store.specs.Answers.{HasReadCause};
+ghost use Rattle.base_folder_store.specs.Calls.{CommitsOnly, HasWriteCause, StagesOnly};
 ghost use Rattle.base_folder_store.specs.Held.{HoldsBase};
-ghost use Rattle.base_folder_store.specs.Left.{IsBesideIn, IsReadable, changed_in, first_left};
+ghost use Rattle.base_folder_store.specs.Left.{ArePaired, HasPurgeCause, IsReadable, LeavesAll, LeavesOneMore};
 ghost use Rattle.base_folder_store.specs.Opened.{IsNamed, IsOpen, committed_by, held_by, path_of};
+ghost use Rattle.base_folder_store.specs.State.{IsUsable};
 
 use crate::folder::Folder;
 use crate::leaving::{HEAD, left_of};
@@ -40,17 +39,12 @@ impl Folder {
     fn anew<D: Disk>(&self, alloc: Global, disk: &mut D) -> Result<Folder, StoreError>
         requires settled { Honestly (D.state disk.old) (IsAtRest (D.state disk.old) (path_of self.now) self.now.end) }
         requires readable { Honestly (D.state disk.old) (IsReadable (D.state disk.old) self.now) }
-        ensures named { IfOk result IsNamed }
+        ensures paired { IfOk result (ArePaired (D.state disk.new) self.now) }
         ensures opened { Honestly (D.state disk.new) (IfOk result (IsOpen (D.state disk.new))) }
-        ensures beside { IfOk result (IsBesideIn self.now) }
         ensures empty { IfOk result (λ next. held_by (D.state disk.new) next ≡ record { messages = []; keys = []; cursor = 0; mark = self.now.end.told.mark }) }
         ensures committed { Honestly (D.state disk.new) (IfOk result (λ next. committed_by (D.state disk.new) next ≡ committed_by (D.state disk.old) self.now)) }
-        ensures readable { Honestly (D.state disk.new) (OnOk result (IsReadable (D.state disk.new) self.now)) }
-        ensures any_moment { Honestly (D.state disk.new) (LeavesOnly (D.state disk.old) (D.state disk.new)
-            (StandsAlone (path_of self.now) (D.state disk.old) (committed_by (D.state disk.old) self.now))) }
-        ensures outside { KeepsOutside (path_of self.now) (D.state disk.old) (D.state disk.new) }
-        ensures whole { IsErrOf result StoreError.Damaged → ⊥ }
-        ensures cause { HasReadCause (D.failures disk.old) (D.failures disk.new) result }
+        ensures run { StagesOnly (path_of self.now) (committed_by (D.state disk.old) self.now) (D.state disk.old) (D.state disk.new) }
+        ensures cause { HasWriteCause (D.failures disk.old) (D.failures disk.new) result }
     {
         let number = other_number(self.end.told.number);
         let names = Names::new(alloc, &self.names.folder, number)?;
@@ -74,26 +68,15 @@ impl Folder {
         place: usize,
     ) -> Result<bool, StoreError>
         requires within { place < self.now.keys / 16 }
-        requires readable { Honestly (D.state disk.old) (IsReadable (D.state disk.old) self.now) }
-        requires beside { IsBesideIn self.now next.old }
-        requires named { IsNamed next.old }
+        requires paired { ArePaired (D.state disk.old) self.now next.old }
         requires opened { Honestly (D.state disk.old) (IsOpen (D.state disk.old) next.old) }
-        ensures readable { Honestly (D.state disk.new) (IsReadable (D.state disk.new) self.now) }
-        ensures beside { IsBesideIn self.now next.new }
-        ensures named { IsNamed next.new }
+        ensures paired { ArePaired (D.state disk.new) self.now next.new }
         ensures opened { Honestly (D.state disk.new) (OnOk result (IsOpen (D.state disk.new) next.new)) }
         ensures left { Honestly (D.state disk.new) ((keyed : ℕ → ℕ → List ℕ → ℕ) (base : Base) → HoldsBase keyed (committed_by (D.state disk.old) next.old) base
-            → HoldsBase keyed (held_by (D.state disk.old) next.old) (first_left base place)
-            → OnOk result (HoldsBase keyed (held_by (D.state disk.new) next.new) (first_left base (place + 1)))) }
-        ensures changed { Honestly (D.state disk.new) ((keyed : ℕ → ℕ → List ℕ → ℕ) (base : Base) → HoldsBase keyed (committed_by (D.state disk.old) next.old) base
-            → IfOk result (λ changed. changed_in base (place + 1) ≡ changed_in base place + (if changed then 1 else 0))) }
+            → IfOk result (LeavesOneMore keyed base place (held_by (D.state disk.old) next.old) (held_by (D.state disk.new) next.new))) }
         ensures same { Honestly (D.state disk.new) (OnOk result (committed_by (D.state disk.new) next.new ≡ committed_by (D.state disk.old) next.old)) }
-        ensures any_moment { Honestly (D.state disk.new) (LeavesOnly (D.state disk.old) (D.state disk.new)
-            (StandsAlone (path_of next.old) (D.state disk.old) (committed_by (D.state disk.old) next.old))) }
-        ensures outside { KeepsOutside (path_of next.old) (D.state disk.old) (D.state disk.new) }
-        ensures damaged { Honestly (D.state disk.new) (IsErrOf result StoreError.Damaged
-            → (keyed : ℕ → ℕ → List ℕ → ℕ) (base : Base) → HoldsBase keyed (committed_by (D.state disk.old) next.old) base → ⊥) }
-        ensures cause { HasReadCause (D.failures disk.old) (D.failures disk.new) result }
+        ensures run { StagesOnly (path_of next.old) (committed_by (D.state disk.old) next.old) (D.state disk.old) (D.state disk.new) }
+        ensures cause { HasPurgeCause (D.state disk.new) (committed_by (D.state disk.old) next.old) (D.failures disk.old) (D.failures disk.new) result }
     {
         let read = self.read_told(alloc, disk, place)?;
         let digest = read.digest;
@@ -109,25 +92,16 @@ impl Folder {
         disk: &mut D,
         next: &mut Folder,
     ) -> Result<u64, StoreError>
-        requires readable { Honestly (D.state disk.old) (IsReadable (D.state disk.old) self.now) }
-        requires beside { IsBesideIn self.now next.old }
-        requires named { IsNamed next.old }
+        requires paired { ArePaired (D.state disk.old) self.now next.old }
         requires opened { Honestly (D.state disk.old) (IsOpen (D.state disk.old) next.old) }
         requires empty { held_by (D.state disk.old) next.old ≡ record { messages = []; keys = []; cursor = 0; mark = self.now.end.told.mark } }
-        ensures beside { IsBesideIn self.now next.new }
-        ensures named { IsNamed next.new }
+        ensures paired { ArePaired (D.state disk.new) self.now next.new }
         ensures opened { Honestly (D.state disk.new) (OnOk result (IsOpen (D.state disk.new) next.new)) }
         ensures left { Honestly (D.state disk.new) ((keyed : ℕ → ℕ → List ℕ → ℕ) (base : Base) → HoldsBase keyed (committed_by (D.state disk.old) next.old) base
-            → OnOk result (HoldsBase keyed (held_by (D.state disk.new) next.new) (first_left base (length base.messages)))) }
-        ensures changed { Honestly (D.state disk.new) ((keyed : ℕ → ℕ → List ℕ → ℕ) (base : Base) → HoldsBase keyed (committed_by (D.state disk.old) next.old) base
-            → IfOk result (λ changed. changed ≡ changed_in base (length base.messages))) }
+            → IfOk result (LeavesAll keyed base (held_by (D.state disk.new) next.new))) }
         ensures same { Honestly (D.state disk.new) (OnOk result (committed_by (D.state disk.new) next.new ≡ committed_by (D.state disk.old) next.old)) }
-        ensures any_moment { Honestly (D.state disk.new) (LeavesOnly (D.state disk.old) (D.state disk.new)
-            (StandsAlone (path_of next.old) (D.state disk.old) (committed_by (D.state disk.old) next.old))) }
-        ensures outside { KeepsOutside (path_of next.old) (D.state disk.old) (D.state disk.new) }
-        ensures damaged { Honestly (D.state disk.new) (IsErrOf result StoreError.Damaged
-            → (keyed : ℕ → ℕ → List ℕ → ℕ) (base : Base) → HoldsBase keyed (committed_by (D.state disk.old) next.old) base → ⊥) }
-        ensures cause { HasReadCause (D.failures disk.old) (D.failures disk.new) result }
+        ensures run { StagesOnly (path_of next.old) (committed_by (D.state disk.old) next.old) (D.state disk.old) (D.state disk.new) }
+        ensures cause { HasPurgeCause (D.state disk.new) (committed_by (D.state disk.old) next.old) (D.failures disk.old) (D.failures disk.new) result }
     {
         let mut changed = 0u64;
         'messages: for place in 0..self.count() {
@@ -141,8 +115,7 @@ impl Folder {
     /// many messages changed. The purge itself stays once it is committed. After an error only the effects of a crash
     /// are known: open the folder again.
     pub fn purge<D: Disk>(&mut self, alloc: Global, disk: &mut D) -> Result<u64, StoreError>
-        requires named { IsNamed self.old }
-        requires opened { Honestly (D.state disk.old) (IsOpen (D.state disk.old) self.old) }
+        requires { IsUsable (D.state disk.old) self.old }
         ensures named { IsNamed self.new }
         ensures opened { Honestly (D.state disk.new) (OnOk result (IsOpen (D.state disk.new) self.new)) }
         ensures path { path_of self.new ≡ path_of self.old }
@@ -151,14 +124,8 @@ impl Folder {
         ensures count { Honestly (D.state disk.new) ((keyed : ℕ → ℕ → List ℕ → ℕ) (base : Base) → HoldsBase keyed (held_by (D.state disk.old) self.old) base
             → IfOk result (λ count. count ≡ count_by (λ m. not (is_stub m)) (take base.cursor base.messages))) }
         ensures committed { Honestly (D.state disk.new) (OnOk result (committed_by (D.state disk.new) self.new ≡ held_by (D.state disk.old) self.old)) }
-
-        // A crash at any time leaves the base that was committed before, or the one held.
-        ensures any_moment { Honestly (D.state disk.new) (LeavesOnly (D.state disk.old) (D.state disk.new)
-            (IsBeforeOrAfter (path_of self.old) (D.state disk.old) (committed_by (D.state disk.old) self.old) (held_by (D.state disk.old) self.old))) }
-        ensures outside { KeepsOutside (path_of self.old) (D.state disk.old) (D.state disk.new) }
-        ensures damaged { Honestly (D.state disk.new) (IsErrOf result StoreError.Damaged
-            → (keyed : ℕ → ℕ → List ℕ → ℕ) (base : Base) → HoldsBase keyed (held_by (D.state disk.old) self.old) base → ⊥) }
-        ensures cause { HasReadCause (D.failures disk.old) (D.failures disk.new) result }
+        ensures run { CommitsOnly (path_of self.old) (committed_by (D.state disk.old) self.old) (held_by (D.state disk.old) self.old) (D.state disk.old) (D.state disk.new) }
+        ensures cause { HasPurgeCause (D.state disk.new) (held_by (D.state disk.old) self.old) (D.failures disk.old) (D.failures disk.new) result }
     {
         self.commit(disk)?;
         let mut next = self.anew(alloc, disk)?;

@@ -1,5 +1,5 @@
 //! Messages and keys of an open base folder, read from its files and from what waits to be written.
-ghost use Rattle.std.specs.Prelude.{◌≡◌, ◌≤◌, ◌<◌, ◌+◌, ◌-◌, ◌*◌, ◌^◌, ◌/◌, ◌++◌, List, length, min, IfOk, IsErrOf, IsSome, OnOk, drop, take};
+ghost use Rattle.std.specs.Prelude.{◌≡◌, ◌≤◌, ◌<◌, ◌+◌, ◌-◌, ◌*◌, ◌^◌, ◌/◌, ◌++◌, List, length, min, IfOk, IsErrOf, IsSome, drop, take};
 ghost use Rattle.disk_io.specs.Disk.{Honestly, bytes_in};
 ghost use Rattle.disk_io.specs.Runs.{ChangesNothing, HasCause};
 ghost use Rattle.echo_filed.specs.Filed.{Filed};
@@ -12,36 +12,34 @@ ghost use Rattle.base_folder_store.specs.Opened.{IsLegible, held_by};
 
 use crate::alone::{Alone, read_alone};
 use crate::folder::{ENTRY, Folder};
-use crate::pieces::read_into;
 use base_store::{StoreError, digest_of, end_of, place_of};
-use disk_io::{Disk, DiskError};
+use disk_io::{Disk, DiskError, read_part};
 use std::alloc::Global;
 
-// Reads the bytes between two places of a file, of which the last ones wait to be written.
+// The bytes between two places of a file, of which the last ones wait to be written.
 fn read_across<D: Disk>(
+    alloc: Global,
     disk: &mut D,
     path: &[u8],
     written: usize,
     waiting: &[u8],
     begins: usize,
     ends: usize,
-    part: &mut Vec<u8>,
-) -> Result<(), DiskError>
+) -> Result<Vec<u8>, DiskError>
     requires there { Honestly (D.state disk.old) (IsSome ((D.state disk.old).seen path.now)) }
     requires long { Honestly (D.state disk.old) (written ≤ length (bytes_in ((D.state disk.old).seen path.now))) }
     requires order { begins ≤ ends }
     requires within { ends ≤ written + length waiting.now }
-    ensures long { OnOk result (length part.new.items ≡ ends - begins) }
-    ensures bytes { Honestly (D.state disk.new) (OnOk result (part.new.items
+    ensures bytes { Honestly (D.state disk.new) (IfOk result (λ part. part.items
         ≡ drop begins (take ends (take written (bytes_in ((D.state disk.old).seen path.now)) ++ waiting.now)))) }
     ensures quiet { ChangesNothing (D.state disk.old) (D.state disk.new) }
     ensures cause { HasCause (D.failures disk.old) (D.failures disk.new) result }
 {
     let from = begins.saturating_sub(written);
     let to = ends.saturating_sub(written);
-    read_into(disk, path, begins.min(written), ends.min(written), part)?;
+    let mut part = read_part(alloc, disk, path, begins.min(written), ends.min(written))?;
     part.extend_from_slice(&waiting[from..to])?;
-    Ok(())
+    Ok(part)
 }
 
 // The bytes of the message with this entry, before the next one's entry. Some messages wait to be written.
@@ -70,8 +68,7 @@ fn stored_at<D: Disk>(
     if begins > ends || ends > all {
         return Err(StoreError::Damaged);
     }
-    let mut bytes = Vec::new(alloc);
-    read_across(disk, messages, written, waiting, begins, ends, &mut bytes)?;
+    let bytes = read_across(alloc, disk, messages, written, waiting, begins, ends)?;
     Ok(bytes)
 }
 
@@ -90,19 +87,19 @@ pub(crate) struct ReadMessage {
 }
 
 impl Folder {
-    // Reads the entries of the messages from one number up to another.
+    // The entries of the messages from one number up to another.
     pub(crate) fn read_keys<D: Disk>(
         &self,
+        alloc: Global,
         disk: &mut D,
         from: usize,
         to: usize,
-        piece: &mut Vec<u8>,
-    ) -> Result<(), StoreError>
+    ) -> Result<Vec<u8>, StoreError>
         requires legible { Honestly (D.state disk.old) (IsLegible (D.state disk.old) self.now) }
         requires order { from ≤ to }
         requires within { to ≤ self.now.keys / 16 }
-        ensures long { OnOk result (length piece.new.items ≡ 16 * to - 16 * from) }
-        ensures piece { Honestly (D.state disk.new) (OnOk result (IsPieceOf (held_by (D.state disk.old) self.now).keys from piece.new.items)) }
+        ensures long { IfOk result (λ piece. length piece.items ≡ 16 * to - 16 * from) }
+        ensures piece { Honestly (D.state disk.new) (IfOk result (λ piece. IsPieceOf (held_by (D.state disk.old) self.now).keys from piece.items)) }
         ensures whole { Honestly (D.state disk.new) (IsErrOf result StoreError.Damaged → ⊥) }
         ensures quiet { ChangesNothing (D.state disk.old) (D.state disk.new) }
         ensures cause { HasReadCause (D.failures disk.old) (D.failures disk.new) result }
@@ -114,16 +111,13 @@ impl Folder {
         if ends.saturating_sub(written) > waiting.len() {
             return Err(StoreError::Damaged);
         }
-        read_across(
-            disk,
-            &self.names.keys,
-            written,
-            waiting,
-            begins,
-            ends,
-            piece,
-        )?;
-        Ok(())
+        let path = &self.names.keys;
+        let piece = read_across(alloc, disk, path, written, waiting, begins, ends)?;
+        // Only a file that others cut ends before that.
+        if piece.len() != ends - begins {
+            return Err(StoreError::Damaged);
+        }
+        Ok(piece)
     }
 
     // The entry of the message of this number, and the next one if there is one.
@@ -142,10 +136,8 @@ impl Folder {
         ensures cause { HasReadCause (D.failures disk.old) (D.failures disk.new) result }
         ensures few { IsErrOf result StoreError.TooMany → ⊥ }
     {
-        let mut entry = Vec::new(alloc);
         let next = place + (self.count() - place).min(2);
-        self.read_keys(disk, place, next, &mut entry)?;
-        Ok(entry)
+        self.read_keys(alloc, disk, place, next)
     }
 
     // The bytes of the message with this entry.

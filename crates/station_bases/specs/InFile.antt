@@ -1,8 +1,7 @@
 -- A base in a file.
-use Rattle.std.specs.Prelude.{◌≡◌, ◌≢◌, ◌≤◌, ◌<◌, ◌^◌, ◌⊎◌, ℕ, ◌+◌, false, true, List, Result, All, IsErrOf, length, slice_get}
+use Rattle.std.specs.Prelude.{◌≡◌, ◌≢◌, ◌<◌, ◌^◌, ◌⊎◌, ℕ, ◌+◌, false, true, List, All, length, slice_get}
 use Rattle.base_file.specs.Base.{Base}
 use Rattle.base_file.specs.BaseFile.{is_countable}
-use Rattle.disk_io.specs.Device.{Failed}
 use Rattle.disk_io.specs.Disk.{DiskState, Files}
 use Rattle.echo_filed.specs.Filed.{Filed}
 use Rattle.echo_filed.specs.Stored.{is_short_enough, stored_as}
@@ -60,9 +59,3 @@ IsUnsaved why = (why ≡ error.Memory) ⊎ (why ≡ error.TooMany)
 pub record PutsBase (path own : List ℕ) (base : Base) (before after : Files) : Type 0 where
   pub others : DifferAt (IsOfFile path own) before after
   pub either : (after path ≡ before path) ⊎ StandsInFile path base after
-
--- a failure of the device is answered only where its count of failures rose, and damage never
-pub record HasWriteCause {T : Type 0} (before now : ℕ) (result : Result T StoreError) : Type 0 where
-  pub later : before ≤ now
-  pub failed : IsErrOf result error.Device → Failed before now
-  pub whole : IsErrOf result error.Damaged → ⊥

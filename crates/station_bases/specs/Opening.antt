@@ -6,10 +6,12 @@ use Rattle.base_folder.specs.Ours.{IsLeftAlone, IsNotOurs, IsOfOther}
 use Rattle.base_folder.specs.OpenError.{IsToldAs}
 use Rattle.base_folder.specs.declared.open_error.OpenError.{OpenError}
 use Rattle.base_folder.specs.declared.open_error.OpenError.TheVariants as unread
-use Rattle.disk_io.specs.Disk.{DiskState, Files, IsIn}
+use Rattle.base_folder.specs.Unopened.{HasOpened, HaveRoom, IsOpenedFor}
+use Rattle.disk_io.specs.Disk.{DiskState, Files, Honestly, IsIn}
 use Rattle.disk_io.specs.Runs.{ChangesNothing, LeavesOnly}
 use Rattle.base_log.specs.Moments.{KeepsOutside}
 use Rattle.base_folder_store.specs.Held.{StandsForBase, StandsForBaseOrWasLeft}
+use Rattle.base_folder_store.specs.declared.folder.Folder.{Folder}
 use Rattle.echo_links.specs.Links.{LinkFile}
 use Rattle.station.specs.Faults.{FailsAt}
 use Rattle.station.specs.Links.{AreLinks, NoLinks}
@@ -43,8 +45,16 @@ pub record IsBegun (keyed : ℕ → ℕ → List ℕ → ℕ) (links path : List
   pub committed : (base : Base) → StandsForBase keyed path base old.seen → s.committed base
   pub run : (base : Base) → StandsForBase keyed path base old.seen → LeavesOnly old s.disk (StandsForBaseOrWasLeft keyed path old base)
 
--- it is that of this folder, and nothing outside has changed
+-- The link file is read, and the folder is open for its system. It is no other system's, and holds the base that its files held.
+pub record IsOpenStation (links path : List ℕ) (strange : Bool) (first second : ℕ) (old new : DiskState) (file : LinkFile) (folder : Folder) : Type 0 where
+  pub of_links : Honestly new (AreLinks old links file)
+  pub own : IsOpenedFor path file.system first second new folder
+  pub other : Honestly new ((address : Address) → IsOfOther file.system strange path old.seen address → ⊥)
+  pub same : Honestly new ((keyed : ℕ → ℕ → List ℕ → ℕ) (base : Base) → HaveRoom keyed → StandsForBase keyed path base old.seen → HasOpened keyed new base folder)
+
+-- it is that of this folder, calls are allowed, and nothing outside has changed
 pub record IsOfFolder (keyed : ℕ → ℕ → List ℕ → ℕ) (path : List ℕ) (old : DiskState) (s : StoreState) : Type 0 where
+  pub ready : s.is_ready
   pub own : (m : List ℕ) → s.is_own m ↔ IsIn path m
   pub stands : (base : Base) (c : Files) → s.stands base c ↔ StandsForBase keyed path base c
   pub outside : KeepsOutside path old s.disk

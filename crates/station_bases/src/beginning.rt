@@ -1,13 +1,11 @@
 //! A base folder of a station opened as a store.
-ghost use Rattle.std.specs.Prelude.{◌≡◌, ◌≤◌, ◌⊎◌, IfErr, IfOk, OnOk, None, Some};
-ghost use Rattle.base_file.specs.Base.{Base};
+ghost use Rattle.std.specs.Prelude.{◌≡◌, ◌≤◌, ◌⊎◌, IfErr, IfOk, OnOk, Some};
 ghost use Rattle.base_folder.specs.Ours.{number_of};
+ghost use Rattle.base_folder.specs.Unopened.{OpensOnly};
 ghost use Rattle.disk_io.specs.Disk.{Honestly};
-ghost use Rattle.disk_io.specs.Runs.{ChangesNothing, LeavesOnly};
-ghost use Rattle.base_log.specs.Moments.{KeepsOutside};
+ghost use Rattle.disk_io.specs.Runs.{ChangesNothing};
 ghost use Rattle.base_log.specs.Opening.{AreAlone};
-ghost use Rattle.base_folder_store.specs.Held.{StandsForBase, StandsForBaseOrWasLeft};
-ghost use Rattle.station.specs.Opening.{HaveFailed};
+ghost use Rattle.station.specs.Opening.{AreFree, HaveFailed};
 ghost use Rattle.station_bases.specs.Opening.{IsBegun, IsLockedOut, IsOfFolder, IsShut};
 
 use crate::opening::{Station, open_station};
@@ -43,20 +41,15 @@ pub(crate) fn open_store<'a, D: Disk + Drop, H: Digest, L: FileLock, K: FileLock
     at: FolderPlace<'a>,
     found: FolderProbe,
 ) -> Result<Begun<D, H>, NotBegun<'a, D>>
-    requires free { L.held lock.old ≡ None }
-    requires folder_free { K.held held.old ≡ None }
+    requires free { AreFree (L.held lock.old) (K.held held.old) }
     requires alone { Honestly (D.state disk) (AreAlone at.path.now (D.state disk)) }
     ensures both { OnOk result ((L.held lock.new ≡ Some at.entry.links.now) × (K.held held.new ≡ Some at.entry.base.now)) }
     ensures locked { IfErr result (λ stopped. ((L.held lock.new ≡ Some at.entry.links.now) × (K.held held.new ≡ Some at.entry.base.now)) ⊎ ChangesNothing (D.state disk) (D.state stopped.disk)) }
     ensures begun { IfOk result (λ begun. Honestly (D.state begun.store.disk)
         (IsBegun H.keyed at.entry.links.now at.entry.path.now found.strange (D.state disk) (⟦<FolderStore<D, H> as Store>⟧.state begun.store) begun.links)) }
-    ensures ready { IfOk result (λ begun. (⟦<FolderStore<D, H> as Store>⟧.state begun.store).is_ready) }
-    ensures of_folder { IfOk result (λ begun. IsOfFolder H.keyed at.entry.path.now (D.state disk) (⟦<FolderStore<D, H> as Store>⟧.state begun.store)) }
-    ensures ours { IfOk result (λ begun. begun.store.folder.told.mark.owner ≡ number_of begun.links.system) }
+    ensures of_folder { IfOk result (λ begun. IsOfFolder H.keyed at.entry.path.now (D.state disk) (⟦<FolderStore<D, H> as Store>⟧.state begun.store) × (begun.store.folder.told.mark.owner ≡ number_of begun.links.system)) }
     ensures later { IfOk result (λ begun. D.failures disk ≤ D.failures begun.store.disk) }
-    ensures outside { IfErr result (λ stopped. KeepsOutside at.entry.path.now (D.state disk) (D.state stopped.disk)) }
-    ensures any_moment { IfErr result (λ stopped. Honestly (D.state stopped.disk) ((base : Base) → StandsForBase H.keyed at.entry.path.now base (D.state disk).seen
-        → LeavesOnly (D.state disk) (D.state stopped.disk) (StandsForBaseOrWasLeft H.keyed at.entry.path.now (D.state disk) base))) }
+    ensures run { IfErr result (λ stopped. OpensOnly at.entry.path.now (D.state disk) (D.state stopped.disk)) }
     ensures err { IfErr result (λ stopped. Honestly (D.state stopped.disk) (
         IsLockedOut at.entry.links.now at.entry.base.now (HaveFailed (D.failures disk) (D.failures stopped.disk) (L.failures lock.old) (L.failures lock.new) (K.failures held.old) (K.failures held.new)) (D.state disk) (D.state stopped.disk) stopped.fault
         ⊎ IsShut at.entry.links.now at.entry.base.now at.entry.path.now found.strange (HaveFailed (D.failures disk) (D.failures stopped.disk) (L.failures lock.old) (L.failures lock.new) (K.failures held.old) (K.failures held.new)) (D.state disk) (D.state stopped.disk) stopped.fault)) }

@@ -11,23 +11,20 @@ use echo_filed::{Filed, Key};
 use std::alloc::Global;
 use std::hash::BuildHasher;
 
-/// A base in memory, and the path of the file that a commit replaces. `own` is the name of the system in the staging
-/// path.
+/// A base in memory with its file, and the disk that has the file.
 #[derive(Drop)]
 pub struct FileStore<'a, D: Disk, S: BuildHasher> {
     alloc: Global,
     disk: D,
-    base: Base<S>,
-    // The place of the current message.
-    place: usize,
-    path: &'a str,
-    own: Items<u8>,
+    rest: FileRest<'a, S>,
 }
 
-/// The parts of a base file as a store, without the disk.
+/// A base in memory, and the path of the file that a commit replaces. `own` is the name of the system in the staging
+/// path.
 #[derive(Drop)]
 pub struct FileRest<'a, S: BuildHasher> {
     base: Base<S>,
+    // The place of the current message.
     place: usize,
     path: &'a str,
     own: Items<u8>,
@@ -44,18 +41,17 @@ impl<'a, D: Disk, S: BuildHasher> FileStore<'a, D, S> {
     ) -> FileStore<'a, D, S>
         requires { All (λ b. b ≢ 47) own }
         ensures disk { result.disk ≡ disk }
-        ensures base { result.base ≡ base }
-        ensures path { result.path.now ≡ path.now }
-        ensures own { result.own ≡ own }
+        ensures base { result.rest.base ≡ base }
+        ensures path { result.rest.path.now ≡ path.now }
+        ensures own { result.rest.own ≡ own }
     {
-        FileStore {
-            alloc,
-            disk,
+        let rest = FileRest {
             base,
             place: 0,
             path,
             own,
-        }
+        };
+        FileStore { alloc, disk, rest }
     }
 
     /// The disk.
@@ -70,90 +66,61 @@ impl<'a, D: Disk, S: BuildHasher> FileStore<'a, D, S> {
     /// The disk and the rest, taken out.
     pub(crate) fn into_parts(self) -> (D, FileRest<'a, S>)
         ensures disk { result.0 ≡ self.entry.disk }
-        ensures rest { result.1 ≡ record { base = self.entry.base; place = self.entry.place; path = self.entry.path; own = self.entry.own } }
+        ensures rest { result.1 ≡ self.entry.rest }
     {
-        let FileStore {
-            disk,
-            base,
-            place,
-            path,
-            own,
-            ..
-        } = self;
-        let rest = FileRest {
-            base,
-            place,
-            path,
-            own,
-        };
-        (disk, rest)
+        (self.disk, self.rest)
     }
 
     /// The store of these parts.
     pub(crate) fn of_parts(alloc: Global, disk: D, rest: FileRest<'a, S>) -> FileStore<'a, D, S>
         ensures disk { result.disk ≡ disk }
-        ensures base { result.base ≡ rest.entry.base }
-        ensures path { result.path ≡ rest.entry.path }
-        ensures own { result.own ≡ rest.entry.own }
+        ensures rest { result.rest ≡ rest.entry }
     {
-        let FileRest {
-            base,
-            place,
-            path,
-            own,
-        } = rest;
-        FileStore {
-            alloc,
-            disk,
-            base,
-            place,
-            path,
-            own,
-        }
+        FileStore { alloc, disk, rest }
     }
 }
 
 impl<'a, D: Disk, S: BuildHasher> Store for FileStore<'a, D, S> {
-    ghost state = { λ store. file_state (D.state store.disk) store.path.now store.own store.base store.place };
+    ghost state = { λ store. file_state (D.state store.disk) store.rest.path.now store.rest.own store.rest.base store.rest.place };
 
     ghost failures = { λ store. D.failures store.disk };
 
     fn len(&self) -> usize {
-        self.base.len()
+        self.rest.base.len()
     }
 
     fn cursor(&self) -> usize {
-        self.base.cursor()
+        self.rest.base.cursor()
     }
 
     fn knows(&mut self, key: &Key) -> Result<bool, StoreError> {
-        Ok(self.base.knows(key))
+        Ok(self.rest.base.knows(key))
     }
 
     fn has_id(&mut self, msgid: &[u8]) -> Result<bool, StoreError> {
-        Ok(self.base.has_id(msgid)?)
+        Ok(self.rest.base.has_id(msgid)?)
     }
 
     fn fetch(&mut self, place: usize) -> Result<(), StoreError> {
-        self.place = place;
+        self.rest.place = place;
         Ok(())
     }
 
     fn at_hand(&self) -> Option<&Filed> {
-        self.base.message(self.place)
+        self.rest.base.message(self.rest.place)
     }
 
     fn file(&mut self, key: Key, message: Filed) -> Result<(), StoreError> {
         // On a disk that is not honest a caller need not know it.
-        if self.base.knows(&key) {
+        if self.rest.base.knows(&key) {
             return Err(StoreError::Damaged);
         }
-        check_room(self.alloc, &self.base, &message)?;
-        Ok(self.base.file(key, message)?)
+        check_room(self.alloc, &self.rest.base, &message)?;
+        Ok(self.rest.base.file(key, message)?)
     }
 
     fn move_to_end(&mut self) -> Result<(), StoreError> {
-        self.base.move_to_end();
+        self.rest.base.move_to_end();
         Ok(())
     }
 
@@ -161,15 +128,15 @@ impl<'a, D: Disk, S: BuildHasher> Store for FileStore<'a, D, S> {
         write_file(
             self.alloc,
             &mut self.disk,
-            &self.base,
-            self.path,
-            self.own.as_slice(),
+            &self.rest.base,
+            self.rest.path,
+            self.rest.own.as_slice(),
         )
     }
 }
 
 impl<'a, D: Disk, S: BuildHasher> PurgedStore for FileStore<'a, D, S> {
     fn purge(&mut self) -> Result<u64, StoreError> {
-        Ok(self.base.purge()?)
+        Ok(self.rest.base.purge()?)
     }
 }

@@ -141,9 +141,8 @@ pub(crate) fn read_station<
     requires { AreFree (L.held locks.old.links) (K.held locks.old.base) }
     ensures locked { OnOk result ((L.held locks.new.links ≡ Some at.entry.links.now) × (K.held locks.new.base ≡ Some at.entry.base.now)) }
     ensures order { K.held locks.new.base ≡ Some at.entry.base.now → L.held locks.new.links ≡ Some at.entry.links.now }
-    ensures read { Honestly (D.state disk.new) (IfOk result (λ read. AreLinks (D.state disk.old) at.entry.links.now read.links)) }
+    ensures read { Honestly (D.state disk.new) (IfOk result (λ read. AreLinks (D.state disk.old) at.entry.links.now read.links × ((base : TheBase) → StandsInFile at.entry.base.now base (D.state disk.old).seen → base ≡ read.base))) }
     ensures plain { IfOk result (λ read. All (λ b. b ≢ 47) read.own) }
-    ensures same { Honestly (D.state disk.new) ((base : TheBase) → StandsInFile at.entry.base.now base (D.state disk.old).seen → IfOk result (λ read. base ≡ read.base)) }
     ensures settled { Honestly (D.state disk.new) (OnOk result (IsSettled (D.state disk.new) at.entry.base.now)) }
     ensures quiet { ChangesNothing (D.state disk.old) (D.state disk.new) }
     ensures later { D.failures disk.old ≤ D.failures disk.new }

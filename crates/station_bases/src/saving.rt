@@ -6,7 +6,8 @@ ghost use Rattle.disk_atomic.specs.Changes.{ChangesOnly, HasOnDisk};
 ghost use Rattle.disk_atomic.specs.Replacing.{Replaces};
 ghost use Rattle.station.specs.Paths.{staging_path};
 ghost use Rattle.cmd_status.specs.Inputs.{IsBaseGiven};
-ghost use Rattle.station_bases.specs.InFile.{HasRoomFor, HasWriteCause, IsInFile, IsOfFile, IsUncounted, IsUnsaved, PutsBase};
+ghost use Rattle.base_folder_store.specs.Calls.{HasWriteCause};
+ghost use Rattle.station_bases.specs.InFile.{HasRoomFor, IsInFile, IsOfFile, IsUncounted, IsUnsaved, PutsBase};
 
 use base_file::{Base, BaseFault, saved_base_law};
 use base_store::StoreError;

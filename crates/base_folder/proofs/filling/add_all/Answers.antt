@@ -2,7 +2,8 @@ use Rattle.std.proofs.Common.{◌≡◌, ℕ, ◌∙◌, sym, subst}
 use Rattle.std.proofs.lemmas.Result.{on_ok_weaker}
 use Rattle.base_folder_store.specs.Opened.{committed_by, held_by, path_of}
 use Rattle.base_folder.specs.Filled.{HoldsFront}
-use Rattle.base_folder.proofs.Fillings.{adds_outside, adds_run, front_all}
+use Rattle.base_folder_store.proofs.Runs.{run_twice, stays_twice}
+use Rattle.base_folder.proofs.Fillings.{front_all}
 use Rattle.base_folder.proofs.filling.add_all.Goals as goal
 
 pub returns-clause-added : goal.returns-clause-added
@@ -11,26 +12,23 @@ returns-clause-added g c = λ honest front.
     let base = c.args.base.now in
     let now = held_by (g.D.Disk.state c.add_from.new.disk) c.add_from.new.folder in
     let was = held_by (g.D.Disk.state c.add_scanned.new.disk) c.add_scanned.new.folder in
-    let scanned = c.in_ok-add_scanned.ensures.added (c.add_from.ensures.outside.honest honest) front in
+    let scanned = c.in_ok-add_scanned.ensures.added (c.add_from.ensures.run.outside.honest honest) front in
     let first = subst (λ (n : ℕ). HoldsFront keyed was base.messages n base.cursor) (sym c.cursor.ensures.cursor) scanned in
     on_ok_weaker {P = HoldsFront keyed now base.messages c.len.result base.cursor} c.add_from.result (λ all. front_all keyed now base c.len.result c.len.ensures.count all) (c.add_from.ensures.added honest base.cursor first)
 
 pub returns-clause-same : goal.returns-clause-same
 returns-clause-same g c = λ honest.
-    let before = c.add_from.ensures.outside.honest honest in
+    let before = c.add_from.ensures.run.outside.honest honest in
     let a = committed_by (g.D.Disk.state c.add_from.new.disk) c.add_from.new.folder in
     let b = committed_by (g.D.Disk.state c.add_scanned.new.disk) c.add_scanned.new.folder in
     on_ok_weaker {P = a ≡ b} c.add_from.result (λ same. same ∙ c.in_ok-add_scanned.ensures.same before) (c.add_from.ensures.same honest)
 
-pub returns-clause-any_moment : goal.returns-clause-any_moment
-returns-clause-any_moment g c = λ honest.
+pub returns-clause-run : goal.returns-clause-run
+returns-clause-run g c =
     let d = g.D.Disk.state c.args.disk.now in
     let e = g.D.Disk.state c.add_scanned.new.disk in
     let first = c.in_ok-add_scanned.ensures in
-    let before = c.add_from.ensures.outside.honest honest in
-    adds_run (path_of c.args.folder.now) (path_of c.add_scanned.new.folder) d e (g.D.Disk.state c.add_from.new.disk) (committed_by d c.args.folder.now) (committed_by e c.add_scanned.new.folder) first.path
-    (first.any_moment before) (c.add_from.ensures.any_moment honest) first.outside (first.same before)
+    run_twice (path_of c.args.folder.now) (path_of c.add_scanned.new.folder) d e (g.D.Disk.state c.add_from.new.disk) (committed_by d c.args.folder.now) (committed_by e c.add_scanned.new.folder) first.stays.path first.run c.add_from.ensures.run first.same
 
-pub returns-clause-outside : goal.returns-clause-outside
-returns-clause-outside g c =
-    adds_outside (path_of c.args.folder.now) (path_of c.add_scanned.new.folder) (g.D.Disk.state c.args.disk.now) (g.D.Disk.state c.add_scanned.new.disk) (g.D.Disk.state c.add_from.new.disk) c.in_ok-add_scanned.ensures.path c.in_ok-add_scanned.ensures.outside c.add_from.ensures.outside
+pub returns-clause-stays : goal.returns-clause-stays
+returns-clause-stays g c = stays_twice c.add_from.result c.in_ok-add_scanned.ensures.stays c.add_from.ensures.stays

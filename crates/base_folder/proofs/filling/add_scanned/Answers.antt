@@ -6,19 +6,16 @@ use Rattle.base_folder.specs.Filled.{HoldsFront}
 use Rattle.base_folder.proofs.Fillings.{front_scanned}
 use Rattle.base_folder.proofs.filling.add_scanned.Goals as goal
 
-pub returns-clause-named : goal.returns-clause-named
-returns-clause-named g c = subst (λ (f : Folder). IsNamed f) (sym c.move_to_end.ensures) c.in_ok-add_from.ensures.named
-
-pub returns-clause-opened : goal.returns-clause-opened
-returns-clause-opened g c = λ honest.
+pub returns-clause-stays : goal.returns-clause-stays
+returns-clause-stays g c =
     let d = g.D.Disk.state c.add_from.new.disk in
-    subst (λ (f : Folder). IsOpen d f) (sym c.move_to_end.ensures) (end_open d c.add_from.new.folder (c.in_ok-add_from.ensures.opened honest))
-
-pub returns-clause-path : goal.returns-clause-path
-returns-clause-path g c = ap path_of c.move_to_end.ensures ∙ c.in_ok-add_from.ensures.path
-
-pub returns-clause-mark : goal.returns-clause-mark
-returns-clause-mark g c = ap (λ (f : Folder). f.told.mark) c.move_to_end.ensures ∙ c.in_ok-add_from.ensures.mark
+    let was = c.in_ok-add_from.ensures.stays in
+    record {
+      named = subst (λ (f : Folder). IsNamed f) (sym c.move_to_end.ensures) was.named;
+      opened = λ honest. subst (λ (f : Folder). IsOpen d f) (sym c.move_to_end.ensures) (end_open d c.add_from.new.folder (was.opened honest));
+      path = ap path_of c.move_to_end.ensures ∙ was.path;
+      mark = ap (λ (f : Folder). f.told.mark) c.move_to_end.ensures ∙ was.mark;
+    }
 
 pub returns-clause-same : goal.returns-clause-same
 returns-clause-same g c = λ honest. ap (λ (f : Folder). committed_by (g.D.Disk.state c.add_from.new.disk) f) c.move_to_end.ensures ∙ c.in_ok-add_from.ensures.same honest
@@ -32,4 +29,4 @@ returns-clause-added g c = λ honest front.
     let scanned : HoldsFront keyed (held_by d c.add_from.new.folder) base.messages base.cursor 0 =
     subst (λ n. HoldsFront keyed (held_by d c.add_from.new.folder) base.messages n 0) cursor (c.in_ok-add_from.ensures.added honest 0 front) in
     subst (λ (f : Folder). HoldsFront keyed (held_by d f) base.messages base.cursor base.cursor) (sym c.move_to_end.ensures)
-    (front_scanned keyed d c.add_from.new.folder base (c.in_ok-add_from.ensures.opened honest) c.cursor.ensures.base scanned)
+    (front_scanned keyed d c.add_from.new.folder base (c.in_ok-add_from.ensures.stays.opened honest) c.cursor.ensures.base scanned)

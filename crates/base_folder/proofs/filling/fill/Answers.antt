@@ -6,11 +6,14 @@ use Rattle.base_folder.proofs.Lookings.{err_is}
 use Rattle.base_folder.proofs.Openings.{claimed_committed, claimed_named, claimed_opened, claimed_same}
 use Rattle.base_folder.proofs.filling.fill.Goals as goal
 
-pub fill_opened-requires-clause-named : goal.fill_opened-requires-clause-named
-fill_opened-requires-clause-named g c = claimed_named c.in_ok-folder.folder c.give_key.new.folder c.give_key.ensures.only c.in_ok-folder.ensures.named
-
-pub fill_opened-requires-clause-opened : goal.fill_opened-requires-clause-opened
-fill_opened-requires-clause-opened g c = λ honest. claimed_opened (g.D.Disk.state c.open_base.new.disk) c.in_ok-folder.folder c.give_key.new.folder c.give_key.ensures.only (c.in_ok-folder.ensures.opened honest)
+pub fill_opened-requires : goal.fill_opened-requires
+fill_opened-requires g c =
+    let f = c.in_ok-folder.folder in
+    let only = c.give_key.ensures.only in
+    record {
+      named = claimed_named f c.give_key.new.folder only c.in_ok-folder.ensures.fresh.named;
+      opened = λ honest. claimed_opened (g.D.Disk.state c.open_base.new.disk) f c.give_key.new.folder only (c.in_ok-folder.ensures.opened honest);
+    }
 
 pub returns-in-Ok-clause-filled : goal.returns-in-Ok-clause-filled
 returns-in-Ok-clause-filled g c = λ honest stands.
@@ -20,13 +23,13 @@ returns-in-Ok-clause-filled g c = λ honest stands.
     let d1 = g.D.Disk.state c.open_base.new.disk in
     let only = c.give_key.ensures.only in
     let h1 = c.fill_opened.ensures.outside.honest honest in
-    let at : path_of n ≡ c.args.path.now = ap path_of only ∙ c.in_ok-folder.ensures.path in
+    let at : path_of n ≡ c.args.path.now = ap path_of only ∙ c.in_ok-folder.ensures.fresh.path in
     let front = claimed_same keyed g.met.H.Digest.fits d1 f n no_messages (c.in_ok-folder.ensures.opened h1) only c.give_key.ensures.key c.give_key.ensures.kept (c.in_ok-folder.ensures.same h1 keyed no_messages stands) in
     filled_is_kept keyed c.args.path.now (g.D.Disk.state c.fill_opened.new.disk) c.fill_opened.new.folder c.args.base.now (c.fill_opened.ensures.path ∙ at) (c.in-Ok.ensures.settled honest) (c.in-Ok.ensures.committed honest front)
 
 pub returns-in_err-folder-clause-any_moment : goal.returns-in_err-folder-clause-any_moment
 returns-in_err-folder-clause-any_moment g c = λ honest stands.
-    opened_run g.H.Digest.keyed c.args.path.now (g.D.Disk.state c.args.disk.now) (g.D.Disk.state c.open_base.new.disk) no_messages c.args.base.now (c.open_base.ensures.any_moment honest g.H.Digest.keyed no_messages stands)
+    opened_run g.H.Digest.keyed c.args.path.now (g.D.Disk.state c.args.disk.now) (g.D.Disk.state c.open_base.new.disk) no_messages c.args.base.now (c.open_base.ensures.run.any_moment honest g.H.Digest.keyed no_messages stands)
 
 pub returns-in-Ok-clause-any_moment : goal.returns-in-Ok-clause-any_moment
 returns-in-Ok-clause-any_moment g c = λ honest stands.
@@ -38,11 +41,11 @@ returns-in-Ok-clause-any_moment g c = λ honest stands.
     let d2 = g.D.Disk.state c.fill_opened.new.disk in
     let only = c.give_key.ensures.only in
     let h1 = c.fill_opened.ensures.outside.honest honest in
-    let at : path_of n ≡ c.args.path.now = ap path_of only ∙ c.in_ok-folder.ensures.path in
+    let at : path_of n ≡ c.args.path.now = ap path_of only ∙ c.in_ok-folder.ensures.fresh.path in
     let holds = c.in_ok-folder.ensures.same h1 keyed no_messages stands in
     let front = claimed_same keyed g.met.H.Digest.fits d1 f n no_messages (c.in_ok-folder.ensures.opened h1) only c.give_key.ensures.key c.give_key.ensures.kept holds in
-    let first = claimed_committed keyed d1 f n no_messages only c.in_ok-folder.ensures.settled c.in_ok-folder.ensures.written holds in
-    fill_run keyed c.args.path.now (path_of n) d0 d1 d2 no_messages c.args.base.now at (c.open_base.ensures.any_moment h1 keyed no_messages stands) c.open_base.ensures.outside (c.fill_opened.ensures.any_moment honest no_messages first front)
+    let first = claimed_committed keyed d1 f n no_messages only c.in_ok-folder.ensures.fresh.settled c.in_ok-folder.ensures.fresh.written holds in
+    fill_run keyed c.args.path.now (path_of n) d0 d1 d2 no_messages c.args.base.now at (c.open_base.ensures.run.any_moment h1 keyed no_messages stands) c.open_base.ensures.run.outside (c.fill_opened.ensures.any_moment honest no_messages first front)
 
 pub returns-clause-any_moment : goal.returns-clause-any_moment
 returns-clause-any_moment g c = λ honest stands.
@@ -54,17 +57,17 @@ returns-clause-any_moment g c = λ honest stands.
     let d2 = g.D.Disk.state c.fill_opened.new.disk in
     let only = c.give_key.ensures.only in
     let h1 = c.fill_opened.ensures.outside.honest honest in
-    let at : path_of n ≡ c.args.path.now = ap path_of only ∙ c.in_ok-folder.ensures.path in
+    let at : path_of n ≡ c.args.path.now = ap path_of only ∙ c.in_ok-folder.ensures.fresh.path in
     let holds = c.in_ok-folder.ensures.same h1 keyed no_messages stands in
     let front = claimed_same keyed g.met.H.Digest.fits d1 f n no_messages (c.in_ok-folder.ensures.opened h1) only c.give_key.ensures.key c.give_key.ensures.kept holds in
-    let first = claimed_committed keyed d1 f n no_messages only c.in_ok-folder.ensures.settled c.in_ok-folder.ensures.written holds in
-    fill_run keyed c.args.path.now (path_of n) d0 d1 d2 no_messages c.args.base.now at (c.open_base.ensures.any_moment h1 keyed no_messages stands) c.open_base.ensures.outside (c.fill_opened.ensures.any_moment honest no_messages first front)
+    let first = claimed_committed keyed d1 f n no_messages only c.in_ok-folder.ensures.fresh.settled c.in_ok-folder.ensures.fresh.written holds in
+    fill_run keyed c.args.path.now (path_of n) d0 d1 d2 no_messages c.args.base.now at (c.open_base.ensures.run.any_moment h1 keyed no_messages stands) c.open_base.ensures.run.outside (c.fill_opened.ensures.any_moment honest no_messages first front)
 
 pub returns-in-Ok-clause-outside : goal.returns-in-Ok-clause-outside
 returns-in-Ok-clause-outside g c =
     let n = c.give_key.new.folder in
-    adds_outside c.args.path.now (path_of n) (g.D.Disk.state c.args.disk.now) (g.D.Disk.state c.open_base.new.disk) (g.D.Disk.state c.fill_opened.new.disk) (ap path_of c.give_key.ensures.only ∙ c.in_ok-folder.ensures.path)
-    c.open_base.ensures.outside c.fill_opened.ensures.outside
+    adds_outside c.args.path.now (path_of n) (g.D.Disk.state c.args.disk.now) (g.D.Disk.state c.open_base.new.disk) (g.D.Disk.state c.fill_opened.new.disk) (ap path_of c.give_key.ensures.only ∙ c.in_ok-folder.ensures.fresh.path)
+    c.open_base.ensures.run.outside c.fill_opened.ensures.outside
 
 pub returns-in_err-folder-clause-wrong : goal.returns-in_err-folder-clause-wrong
 returns-in_err-folder-clause-wrong g c = λ honest.

@@ -11,13 +11,13 @@ returns-clause-committed g c = λ honest front.
     let keyed = g.H.Digest.keyed in
     let now = committed_by (g.D.Disk.state c.commit.new.disk) c.commit.new.self in
     let was = held_by (g.D.Disk.state c.add_all.new.disk) c.add_all.new.folder in
-    let holds = c.in_ok-add_all.ensures.added (c.commit.ensures.outside.honest honest) front in
-    on_ok_weaker {P = now ≡ was} c.commit.result (λ same. subst (λ (b : BaseBytes). HoldsBase keyed b c.args.base.now) (sym same) holds) (c.commit.ensures.committed honest)
+    let holds = c.in_ok-add_all.ensures.added (c.commit.ensures.run.outside.honest honest) front in
+    on_ok_weaker {P = now ≡ was} c.commit.result (λ same. subst (λ (b : BaseBytes). HoldsBase keyed b c.args.base.now) (sym same) holds) (c.commit.ensures.done.committed honest)
 
 pub returns-in_err-add_all-clause-any_moment : goal.returns-in_err-add_all-clause-any_moment
 returns-in_err-add_all-clause-any_moment g c = λ honest first was front.
     let d = g.D.Disk.state c.args.disk.now in
-    fills_before g.H.Digest.keyed (path_of c.args.folder.now) d (g.D.Disk.state c.add_all.new.disk) (committed_by d c.args.folder.now) first c.args.base.now was (c.add_all.ensures.any_moment honest)
+    fills_before g.H.Digest.keyed (path_of c.args.folder.now) d (g.D.Disk.state c.add_all.new.disk) (committed_by d c.args.folder.now) first c.args.base.now was (c.add_all.ensures.run.any_moment honest)
 
 pub returns-clause-any_moment : goal.returns-clause-any_moment
 returns-clause-any_moment g c = λ honest first was front.
@@ -25,14 +25,14 @@ returns-clause-any_moment g c = λ honest first was front.
     let e = g.D.Disk.state c.add_all.new.disk in
     let f = g.D.Disk.state c.commit.new.disk in
     let says = c.in_ok-add_all.ensures in
-    let before = c.commit.ensures.outside.honest honest in
+    let before = c.commit.ensures.run.outside.honest honest in
     let bytes = committed_by d c.args.folder.now in
     let now = committed_by e c.add_all.new.folder in
     let held = held_by e c.add_all.new.folder in
     let path = path_of c.args.folder.now in
-    fills_run g.H.Digest.keyed path d e f bytes now held first c.args.base.now was (says.added before front) (says.same before) (says.any_moment before) says.outside
-    (commits_run path (path_of c.add_all.new.folder) e f now held says.path (c.commit.ensures.any_moment honest))
+    fills_run g.H.Digest.keyed path d e f bytes now held first c.args.base.now was (says.added before front) (says.same before) (says.run.any_moment before) says.run.outside
+    (commits_run path (path_of c.add_all.new.folder) e f now held says.stays.path (c.commit.ensures.run.any_moment honest))
 
 pub returns-clause-outside : goal.returns-clause-outside
 returns-clause-outside g c =
-    adds_outside (path_of c.args.folder.now) (path_of c.add_all.new.folder) (g.D.Disk.state c.args.disk.now) (g.D.Disk.state c.add_all.new.disk) (g.D.Disk.state c.commit.new.disk) c.in_ok-add_all.ensures.path c.in_ok-add_all.ensures.outside c.commit.ensures.outside
+    adds_outside (path_of c.args.folder.now) (path_of c.add_all.new.folder) (g.D.Disk.state c.args.disk.now) (g.D.Disk.state c.add_all.new.disk) (g.D.Disk.state c.commit.new.disk) c.in_ok-add_all.ensures.stays.path c.in_ok-add_all.ensures.run.outside c.commit.ensures.run.outside

@@ -1,11 +1,15 @@
-use Rattle.std.proofs.Common.{◌≡◌, ◌+◌, ◌<◌, ◌^◌, ℕ, length, sym, ap, subst, ◌∙◌}
-use Rattle.std.proofs.lemmas.Result.{IfOk-weaker, on_ok_weaker}
+use Rattle.std.proofs.Common.{◌≡◌, ◌+◌, ◌<◌, ◌^◌, ℕ, List, length, Result, Ok, Err, refl, sym, ap, subst, ◌∙◌}
+use Rattle.std.specs.Prelude.{IfOk, OnOk}
+use Rattle.disk_io.specs.Disk.{DiskState, Honestly}
+use Rattle.disk_io.specs.declared.disk_error.DiskError.{DiskError}
+use Rattle.base_log.specs.AtRest.{IsStaged}
 use Rattle.base_log.specs.Names.{AreNames, folder_of, keys_of}
 use Rattle.base_log.specs.Standing.{BaseBytes, and_keys, and_messages, base_at}
 use Rattle.base_log.specs.declared.log.CommitRecord.{CommitRecord}
-use Rattle.base_log.proofs.Gates.{outside_twice}
+use Rattle.base_log.specs.declared.log.End.{End}
 use Rattle.base_log.proofs.LeftOutside.{left_twice}
-use Rattle.base_folder_store.proofs.Staged.{both_runs}
+use Rattle.base_folder_store.specs.Calls.{StagesBoth}
+use Rattle.base_folder_store.proofs.Runs.{run_twice}
 use Rattle.base_folder_store.proofs.adding.stage_both.Goals as goal
 
 pub stage_keys-requires-clause-names : goal.stage_keys-requires-clause-names
@@ -14,55 +18,35 @@ stage_keys-requires-clause-names g c = subst (λ (n : ℕ). AreNames c.args.name
 pub stage_keys-requires-clause-room : goal.stage_keys-requires-clause-room
 stage_keys-requires-clause-room g c = subst (λ (n : ℕ). n + length c.args.keys.now < 2 ^ 64) (sym (ap (λ (t : CommitRecord). t.keys) c.in_ok-more.ensures.told)) c.requires.keys_room
 
-pub returns-clause-number : goal.returns-clause-number
-returns-clause-number g c =
-    let told = c.args.told in
-    let more = c.in_ok-more.more in
-    IfOk-weaker c.stage_keys.result (λ (m : CommitRecord). m ≡ record more { keys = more.keys + length c.args.keys.now }) (λ (m : CommitRecord). m.number ≡ told.number)
-    (λ m is. ap (λ (t : CommitRecord). t.number) is ∙ ap (λ (t : CommitRecord). t.number) c.in_ok-more.ensures.told) c.stage_keys.ensures.told
+-- what the second call added to what the first one did
+both : (path : List ℕ) (d e f : DiskState) (end : End) (told more : CommitRecord) (bytes keys : List ℕ) (r : Result CommitRecord DiskError) → (f.is_honest → e.is_honest) → more ≡ record told { messages = told.messages + length bytes }
+    → Honestly e (base_at e path more ≡ and_messages (base_at d path told) bytes) → Honestly e (base_at e path end.told ≡ base_at d path end.told) → IfOk r (λ m. m ≡ record more { keys = more.keys + length keys })
+    → Honestly f (IfOk r (λ m. IsStaged f path end m)) → Honestly f (IfOk r (λ m. base_at f path m ≡ and_keys (base_at e path more) keys)) → Honestly f (OnOk r (base_at f path end.told ≡ base_at e path end.told))
+    → IfOk r (λ m. StagesBoth path d f end told m bytes keys)
+both path d e f end told more bytes keys (Ok m) since is first_added first_same next staged added same = record {
+  staged = staged;
+  added = λ honest. added honest ∙ ap (λ (b : BaseBytes). and_keys b keys) (first_added (since honest));
+  same = λ honest. same honest ∙ first_same (since honest);
+  number = ap (λ (t : CommitRecord). t.number) next ∙ ap (λ (t : CommitRecord). t.number) is;
+  mark = ap (λ (t : CommitRecord). t.mark) next ∙ ap (λ (t : CommitRecord). t.mark) is;
+}
+both path d e f end told more bytes keys (Err failed) since is first_added first_same next staged added same = tt
 
-pub returns-clause-mark : goal.returns-clause-mark
-returns-clause-mark g c =
-    let told = c.args.told in
-    let more = c.in_ok-more.more in
-    IfOk-weaker c.stage_keys.result (λ (m : CommitRecord). m ≡ record more { keys = more.keys + length c.args.keys.now }) (λ (m : CommitRecord). m.mark ≡ told.mark)
-    (λ m is. ap (λ (t : CommitRecord). t.mark) is ∙ ap (λ (t : CommitRecord). t.mark) c.in_ok-more.ensures.told) c.stage_keys.ensures.told
+pub returns-clause-staged : goal.returns-clause-staged
+returns-clause-staged g c =
+    let one = c.in_ok-more.ensures in
+    let two = c.stage_keys.ensures in
+    both (folder_of c.args.names.now) (g.D.Disk.state c.args.disk.now) (g.D.Disk.state c.stage_messages.new.disk) (g.D.Disk.state c.stage_keys.new.disk) c.args.end c.args.told c.in_ok-more.more c.args.bytes.now c.args.keys.now c.stage_keys.result
+    two.outside.honest one.told one.added one.same two.told two.staged two.added two.same
 
-pub returns-clause-added : goal.returns-clause-added
-returns-clause-added g c honest =
-    let h2 = honest in
-    let h1 = c.stage_keys.ensures.outside.honest h2 in
+pub returns-clause-run : goal.returns-clause-run
+returns-clause-run g c =
     let path = folder_of c.args.names.now in
-    let d0 = g.D.Disk.state c.args.disk.now in
-    let d1 = g.D.Disk.state c.stage_messages.new.disk in
-    let d2 = g.D.Disk.state c.stage_keys.new.disk in
-    IfOk-weaker c.stage_keys.result (λ (m : CommitRecord). base_at d2 path m ≡ and_keys (base_at d1 path c.in_ok-more.more) c.args.keys.now)
-    (λ (m : CommitRecord). base_at d2 path m ≡ and_keys (and_messages (base_at d0 path c.args.told) c.args.bytes.now) c.args.keys.now)
-    (λ m is. is ∙ ap (λ (b : BaseBytes). and_keys b c.args.keys.now) (c.in_ok-more.ensures.added h1)) (c.stage_keys.ensures.added h2)
-
-pub returns-clause-same : goal.returns-clause-same
-returns-clause-same g c honest =
-    let h2 = honest in
-    let h1 = c.stage_keys.ensures.outside.honest h2 in
-    let path = folder_of c.args.names.now in
-    let d0 = g.D.Disk.state c.args.disk.now in
-    let d1 = g.D.Disk.state c.stage_messages.new.disk in
-    let d2 = g.D.Disk.state c.stage_keys.new.disk in
-    on_ok_weaker {P = base_at d2 path c.args.end.told ≡ base_at d1 path c.args.end.told} {Q = base_at d2 path c.args.end.told ≡ base_at d0 path c.args.end.told} c.stage_keys.result (λ is. is ∙ (c.in_ok-more.ensures.same h1)) (c.stage_keys.ensures.same h2)
-
-pub returns-clause-any_moment : goal.returns-clause-any_moment
-returns-clause-any_moment g c honest =
-    let h2 = honest in
-    let h1 = c.stage_keys.ensures.outside.honest h2 in
-    let path = folder_of c.args.names.now in
-    let d0 = g.D.Disk.state c.args.disk.now in
-    let d1 = g.D.Disk.state c.stage_messages.new.disk in
-    both_runs path d0 d1 (g.D.Disk.state c.stage_keys.new.disk) (base_at d0 path c.args.end.told) (base_at d1 path c.args.end.told)
-    (c.stage_messages.ensures.any_moment h1) (c.stage_keys.ensures.any_moment h2) c.stage_messages.ensures.outside (c.in_ok-more.ensures.same h1)
-
-pub returns-clause-outside : goal.returns-clause-outside
-returns-clause-outside g c =
-    outside_twice (folder_of c.args.names.now) (g.D.Disk.state c.args.disk.now) (g.D.Disk.state c.stage_messages.new.disk) (g.D.Disk.state c.stage_keys.new.disk) c.stage_messages.ensures.outside c.stage_keys.ensures.outside
+    let d = g.D.Disk.state c.args.disk.now in
+    let e = g.D.Disk.state c.stage_messages.new.disk in
+    run_twice path path d e (g.D.Disk.state c.stage_keys.new.disk) (base_at d path c.args.end.told) (base_at e path c.args.end.told) refl
+    (record { any_moment = c.stage_messages.ensures.any_moment; outside = c.stage_messages.ensures.outside }) (record { any_moment = c.stage_keys.ensures.any_moment; outside = c.stage_keys.ensures.outside })
+    c.in_ok-more.ensures.same
 
 pub returns-in_err-more-clause-beside : goal.returns-in_err-more-clause-beside
 returns-in_err-more-clause-beside g c = λ m messages keys. c.stage_messages.ensures.beside m messages

@@ -30,4 +30,4 @@ returns-clause-stored g c honest = λ s has.
     let here = subst (λ (l : List ℕ). HasBytesOf l c.args.entry.now 0 s) (sym (take_all all file few)) has in
     let room : all ≤ length file = omega arith in
     let behind = c.end_of-ends.ensures (take all file) (length-take-le all file room) in
-    c.in_ok-read_across.ensures.bytes honest ∙ piece_is file c.args.entry.now all 0 c.place_of-begins.result c.end_of-ends.result s room here c.place_of-begins.ensures behind
+    c.in_ok-bytes.ensures.bytes honest ∙ piece_is file c.args.entry.now all 0 c.place_of-begins.result c.end_of-ends.result s room here c.place_of-begins.ensures behind

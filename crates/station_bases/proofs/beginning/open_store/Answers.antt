@@ -11,12 +11,9 @@ returns-in-Ok-clause-begun g c honest =
     let same = c.new.ensures.disk in
     let h = subst (λ d. (g.D.Disk.state d).is_honest) same honest in
     record {
-      of_links = c.in-Ok.ensures.read h;
-      ours = c.in-Ok.ensures.other h;
-      keeps = λ base stands. c.new.ensures.keeps base (c.in-Ok.ensures.same h keyed base g.met.H.Digest.fits stands).held;
-      committed = λ base stands. c.new.ensures.committed base (c.in-Ok.ensures.same h keyed base g.met.H.Digest.fits stands).committed;
-      run = λ base stands. subst (λ d. LeavesOnly d0 (g.D.Disk.state d) (StandsForBaseOrWasLeft keyed path d0 base)) (sym same) (c.open_station.ensures.any_moment h keyed base stands);
+      of_links = c.in-Ok.ensures.opened.of_links h;
+      ours = c.in-Ok.ensures.opened.other h;
+      keeps = λ base stands. c.new.ensures.keeps base (c.in-Ok.ensures.opened.same h keyed base g.met.H.Digest.fits stands).held;
+      committed = λ base stands. c.new.ensures.committed base (c.in-Ok.ensures.opened.same h keyed base g.met.H.Digest.fits stands).committed;
+      run = λ base stands. subst (λ d. LeavesOnly d0 (g.D.Disk.state d) (StandsForBaseOrWasLeft keyed path d0 base)) (sym same) (c.open_station.ensures.run.any_moment h keyed base stands);
     }
-
-pub returns-in-Err-clause-any_moment : goal.returns-in-Err-clause-any_moment
-returns-in-Err-clause-any_moment g c honest base stands = c.open_station.ensures.any_moment honest g.H.Digest.keyed base stands

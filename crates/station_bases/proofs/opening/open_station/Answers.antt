@@ -1,21 +1,18 @@
 use Rattle.std.proofs.Common.{arith, inl, inr, subst, sym}
 use Rattle.std.proofs.lemmas.Result.{err_from_is_err_and}
 use Rattle.echo_addr.specs.declared.address.Address.{Address}
-use Rattle.base_folder.specs.Ours.{HasGivenKey, IsOfOther}
+use Rattle.base_folder.specs.Ours.{IsOfOther}
+use Rattle.base_folder.specs.Unopened.{IsOpenedFor}
 use Rattle.disk_io.specs.Device.{Failed}
 use Rattle.disk_io.specs.Disk.{Files}
 use Rattle.station.specs.Opening.{HaveFailed}
 use Rattle.station.proofs.Failures.{failed_wider}
-use Rattle.station_bases.proofs.FolderOpened.{not_opened, quiet_stands, quiet_then, seen_same}
+use Rattle.station_bases.proofs.FolderOpened.{not_opened, opens_since, quiet_stands, seen_same}
 use Rattle.station_bases.proofs.opening.open_station.Goals as goal
 
-pub returns-in_err-folder-clause-any_moment : goal.returns-in_err-folder-clause-any_moment
-returns-in_err-folder-clause-any_moment g c honest keyed base stands =
-    let path = c.args.at.path.now in
-    let d0 = g.D.Disk.state c.args.disk.now in
-    let d1 = g.D.Disk.state c.links_at.new.disk in
-    let quiet = c.links_at.ensures.quiet in
-    quiet_then keyed path base d0 d1 (g.D.Disk.state c.folder_at.new.disk) quiet (c.folder_at.ensures.any_moment honest keyed base (quiet_stands keyed path base d0 d1 quiet stands))
+pub returns-in_err-folder-clause-run : goal.returns-in_err-folder-clause-run
+returns-in_err-folder-clause-run g c =
+    opens_since c.args.at.path.now (g.D.Disk.state c.args.disk.now) (g.D.Disk.state c.links_at.new.disk) (g.D.Disk.state c.folder_at.new.disk) c.links_at.ensures.quiet c.folder_at.ensures.run
 
 pub returns-in_err-folder-clause-err : goal.returns-in_err-folder-clause-err
 returns-in_err-folder-clause-err g c honest =
@@ -29,7 +26,7 @@ returns-in_err-folder-clause-err g c honest =
     let l1 = g.L.FileLock.failures c.links_at.new.lock in
     let k0 = g.K.FileLock.failures c.args.held.now in
     let k1 = g.K.FileLock.failures c.lock_at.new.lock in
-    let h1 = c.folder_at.ensures.outside.honest honest in
+    let h1 = c.folder_at.ensures.run.outside.honest honest in
     let own = c.in_ok-links.links.system in
     let p = err_from_is_err_and c.from_residual-in_err-folder.result c.from_residual-in_err-folder.ensures.1 in
     rw (p.1, p.2)
@@ -40,32 +37,25 @@ returns-in_err-folder-clause-err g c honest =
           (λ failed. inl (failed_wider f0 f1 f2 f2 c.links_at.ensures.later (omega arith) failed)) c.links_at.ensures.quiet (c.in_err-folder.ensures.err honest);
     }))
 
-pub returns-clause-other : goal.returns-clause-other
-returns-clause-other g c honest address of =
+pub returns-clause-run : goal.returns-clause-run
+returns-clause-run g c =
+    opens_since c.args.at.path.now (g.D.Disk.state c.args.disk.now) (g.D.Disk.state c.links_at.new.disk) (g.D.Disk.state c.folder_at.new.disk) c.links_at.ensures.quiet c.folder_at.ensures.run
+
+pub returns-clause-opened : goal.returns-clause-opened
+returns-clause-opened g c =
     let d0 = g.D.Disk.state c.args.disk.now in
     let d1 = g.D.Disk.state c.links_at.new.disk in
+    let d2 = g.D.Disk.state c.folder_at.new.disk in
     let strange = c.args.found.strange in
     let path = c.args.at.path.now in
     let own = c.in_ok-links.links.system in
-    let seen = subst (λ (files : Files). IsOfOther own strange path files address) (sym (seen_same d0 d1 c.links_at.ensures.quiet)) of in
-    c.in_ok-folder.ensures.other honest address (subst (λ (a : Address). IsOfOther a strange path d1.seen address) (sym c.system.ensures.own) seen)
-
-pub returns-clause-same : goal.returns-clause-same
-returns-clause-same g c honest keyed base room stands =
-    let path = c.args.at.path.now in
-    let d0 = g.D.Disk.state c.args.disk.now in
-    let d1 = g.D.Disk.state c.links_at.new.disk in
-    c.in_ok-folder.ensures.same honest keyed base room (quiet_stands keyed path base d0 d1 c.links_at.ensures.quiet stands)
-
-pub returns-clause-any_moment : goal.returns-clause-any_moment
-returns-clause-any_moment g c honest keyed base stands =
-    let path = c.args.at.path.now in
-    let d0 = g.D.Disk.state c.args.disk.now in
-    let d1 = g.D.Disk.state c.links_at.new.disk in
     let quiet = c.links_at.ensures.quiet in
-    quiet_then keyed path base d0 d1 (g.D.Disk.state c.folder_at.new.disk) quiet (c.folder_at.ensures.any_moment honest keyed base (quiet_stands keyed path base d0 d1 quiet stands))
-
-pub returns-clause-drawn : goal.returns-clause-drawn
-returns-clause-drawn g c =
-    let key = c.args.found.key in
-    subst (λ (a : Address). HasGivenKey a key.0 key.1 c.in_ok-folder.folder) c.system.ensures.own c.in_ok-folder.ensures.drawn
+    let says = c.in_ok-folder.ensures in
+    record {
+      of_links = λ honest. c.in_ok-links.ensures.read (says.run.outside.honest honest);
+      own = subst (λ (a : Address). IsOpenedFor path a c.args.found.key.0 c.args.found.key.1 d2 c.in_ok-folder.folder) c.system.ensures.own says.own;
+      other = λ honest address of.
+          let seen = subst (λ (files : Files). IsOfOther own strange path files address) (sym (seen_same d0 d1 quiet)) of in
+          says.other honest address (subst (λ (a : Address). IsOfOther a strange path d1.seen address) (sym c.system.ensures.own) seen);
+      same = λ honest keyed base fits stands. says.same honest keyed base fits (quiet_stands keyed path base d0 d1 quiet stands);
+    }

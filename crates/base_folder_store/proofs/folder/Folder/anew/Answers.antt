@@ -1,28 +1,28 @@
 use Rattle.std.proofs.Common.{◌≡◌, ℕ, List, length, refl, sym, ap, subst, ◌∙◌, arith}
-use Rattle.disk_io.specs.Runs.{LeavesOnly}
 use Rattle.base_log.specs.AtRest.{IsAtRest}
-use Rattle.base_log.specs.Moments.{KeepsOutside, StandsAlone}
 use Rattle.base_log.specs.Names.{AreNames, folder_of, keys_of, messages_of}
-use Rattle.base_log.specs.Standing.{BaseBytes, base_at}
+use Rattle.base_log.specs.Standing.{base_at}
 use Rattle.base_log.specs.declared.log.CommitRecord.{CommitRecord}
 use Rattle.base_log.proofs.Renewed.{alone_first, alone_run}
+use Rattle.base_folder_store.specs.Calls.{StagesOnly}
 use Rattle.base_folder_store.specs.Left.{IsBesideIn}
 use Rattle.base_folder_store.specs.Opened.{IsWritten, path_of}
 use Rattle.base_folder_store.specs.declared.folder.Folder.{Folder}
 use Rattle.base_folder_store.proofs.Beside.{readable_beside}
 use Rattle.base_folder_store.proofs.Staged.{outside_same}
 use Rattle.base_folder_store.proofs.Waits.{written_held}
+use Rattle.base_folder_store.proofs.folder.Folder.anew.Given as given
+use Rattle.base_folder_store.proofs.folder.Folder.anew.Goals.{After-stage_anew}
 use Rattle.base_folder_store.proofs.folder.Folder.anew.Goals as goal
 
-pub returns-in_err-names-clause-any_moment : goal.returns-in_err-names-clause-any_moment
-returns-in_err-names-clause-any_moment g c honest =
+pub returns-in_err-names-clause-run : goal.returns-in_err-names-clause-run
+returns-in_err-names-clause-run g c =
     let f = c.args.self.now in
     let d = g.D.Disk.state c.args.disk.now in
-    alone_run d (path_of f) f.end (c.requires.settled honest) d (alone_first d (path_of f) f.end (c.requires.settled honest))
-
-pub returns-in_err-names-clause-outside : goal.returns-in_err-names-clause-outside
-returns-in_err-names-clause-outside g c =
-    outside_same (path_of c.args.self.now) (g.D.Disk.state c.args.disk.now)
+    record {
+      any_moment = λ honest. alone_run d (path_of f) f.end (c.requires.settled honest) d (alone_first d (path_of f) f.end (c.requires.settled honest));
+      outside = outside_same (path_of f) d;
+    }
 
 pub stage_anew-requires-clause-settled : goal.stage_anew-requires-clause-settled
 stage_anew-requires-clause-settled g c honest =
@@ -30,41 +30,26 @@ stage_anew-requires-clause-settled g c honest =
     let folder : folder_of c.in_ok-names.names ≡ path_of f = c.in_ok-names.ensures.folder ∙ c.deref.ensures.value in
     subst (λ (p : List ℕ). IsAtRest (g.D.Disk.state c.args.disk.now) p f.end) (sym folder) (c.requires.settled honest)
 
-pub returns-in_err-told-clause-any_moment : goal.returns-in_err-told-clause-any_moment
-returns-in_err-told-clause-any_moment g c honest =
-    let f = c.args.self.now in
-    let d0 = g.D.Disk.state c.args.disk.now in
-    let d1 = g.D.Disk.state c.stage_anew.new.disk in
-    let folder : folder_of c.in_ok-names.names ≡ path_of f = c.in_ok-names.ensures.folder ∙ c.deref.ensures.value in
-    subst (λ (p : List ℕ). LeavesOnly d0 d1 (StandsAlone p d0 (base_at d0 p f.end.told))) folder (c.stage_anew.ensures.any_moment honest)
+-- the run, once new files were to be made
+record Made (g : given.Over) (c : After-stage_anew g) : Type 0 where
+  folder : folder_of c.in_ok-names.names ≡ path_of c.args.self.now
+  run : StagesOnly (path_of c.args.self.now) (base_at (g.D.Disk.state c.args.disk.now) (path_of c.args.self.now) c.args.self.now.end.told) (g.D.Disk.state c.args.disk.now) (g.D.Disk.state c.stage_anew.new.disk)
 
-pub returns-in_err-told-clause-outside : goal.returns-in_err-told-clause-outside
-returns-in_err-told-clause-outside g c =
-    let f = c.args.self.now in
-    let d0 = g.D.Disk.state c.args.disk.now in
-    let d1 = g.D.Disk.state c.stage_anew.new.disk in
-    let folder : folder_of c.in_ok-names.names ≡ path_of f = c.in_ok-names.ensures.folder ∙ c.deref.ensures.value in
-    subst (λ (p : List ℕ). KeepsOutside p d0 d1) folder c.stage_anew.ensures.outside
+made : (g : given.Over) (c : After-stage_anew g) → Made g c
+made g c =
+    let d = g.D.Disk.state c.args.disk.now in
+    let e = g.D.Disk.state c.stage_anew.new.disk in
+    let folder : folder_of c.in_ok-names.names ≡ path_of c.args.self.now = c.in_ok-names.ensures.folder ∙ c.deref.ensures.value in
+    record {
+      folder = folder;
+      run = subst (λ (p : List ℕ). StagesOnly p (base_at d p c.args.self.now.end.told) d e) folder (record { any_moment = c.stage_anew.ensures.any_moment; outside = c.stage_anew.ensures.outside });
+    }
 
-pub returns-clause-any_moment : goal.returns-clause-any_moment
-returns-clause-any_moment g c honest =
-    let f = c.args.self.now in
-    let d0 = g.D.Disk.state c.args.disk.now in
-    let d1 = g.D.Disk.state c.stage_anew.new.disk in
-    let folder : folder_of c.in_ok-names.names ≡ path_of f = c.in_ok-names.ensures.folder ∙ c.deref.ensures.value in
-    subst (λ (p : List ℕ). LeavesOnly d0 d1 (StandsAlone p d0 (base_at d0 p f.end.told))) folder (c.stage_anew.ensures.any_moment honest)
+pub returns-in_err-told-clause-run : goal.returns-in_err-told-clause-run
+returns-in_err-told-clause-run g c = (made g (goal.at.returns-in_err-told-clause-run g c).After-stage_anew).run
 
-pub returns-clause-outside : goal.returns-clause-outside
-returns-clause-outside g c =
-    let f = c.args.self.now in
-    let d0 = g.D.Disk.state c.args.disk.now in
-    let d1 = g.D.Disk.state c.stage_anew.new.disk in
-    let folder : folder_of c.in_ok-names.names ≡ path_of f = c.in_ok-names.ensures.folder ∙ c.deref.ensures.value in
-    subst (λ (p : List ℕ). KeepsOutside p d0 d1) folder c.stage_anew.ensures.outside
-
-pub returns-clause-named : goal.returns-clause-named
-returns-clause-named g c =
-    subst (λ (t : CommitRecord). AreNames c.in_ok-names.names t.number) (sym c.in_ok-told.ensures.told) c.in_ok-names.ensures.names
+pub returns-clause-run : goal.returns-clause-run
+returns-clause-run g c = (made g (goal.at.returns-clause-run g c).After-stage_anew).run
 
 pub returns-clause-opened : goal.returns-clause-opened
 returns-clause-opened g c honest =
@@ -80,20 +65,6 @@ returns-clause-opened g c honest =
       keys = let count = ap (λ (t : CommitRecord). t.keys) told in let wait = ap (λ (l : List ℕ). length l) none.keys in omega (arith, count, wait);
     }
 
-pub returns-clause-beside : goal.returns-clause-beside
-returns-clause-beside g c =
-    let f = c.args.self.now in
-    let folder : folder_of c.in_ok-names.names ≡ path_of f = c.in_ok-names.ensures.folder ∙ c.deref.ensures.value in
-    let next : Folder = record { names = c.in_ok-names.names; end = f.end; told = c.in_ok-told.told; keys = 0; waiting = c.new-waiting.result } in
-    let told = c.in_ok-told.ensures.told in
-    let beside : IsBesideIn f next = record {
-      path = folder;
-      end = refl;
-      number = λ is. c.other_number-number.ensures.other (sym (ap (λ (t : CommitRecord). t.number) told) ∙ is);
-      mark = ap (λ (t : CommitRecord). t.mark) told;
-    } in
-    beside
-
 pub returns-clause-empty : goal.returns-clause-empty
 returns-clause-empty g c =
     let d0 = g.D.Disk.state c.args.disk.now in
@@ -104,28 +75,25 @@ returns-clause-empty g c =
 
 pub returns-clause-committed : goal.returns-clause-committed
 returns-clause-committed g c honest =
-    let f = c.args.self.now in
-    let d0 = g.D.Disk.state c.args.disk.now in
-    let d1 = g.D.Disk.state c.stage_anew.new.disk in
-    let folder : folder_of c.in_ok-names.names ≡ path_of f = c.in_ok-names.ensures.folder ∙ c.deref.ensures.value in
-    c.in_ok-told.ensures.same honest ∙ ap (λ (p : List ℕ). base_at d0 p f.end.told) folder
+    c.in_ok-told.ensures.same honest ∙ ap (λ (p : List ℕ). base_at (g.D.Disk.state c.args.disk.now) p c.args.self.now.end.told) (made g (goal.at.returns-clause-committed g c).After-stage_anew).folder
 
-pub returns-clause-readable : goal.returns-clause-readable
-returns-clause-readable g c honest =
+pub returns-clause-paired : goal.returns-clause-paired
+returns-clause-paired g c =
     let f = c.args.self.now in
-    let d0 = g.D.Disk.state c.args.disk.now in
-    let d1 = g.D.Disk.state c.stage_anew.new.disk in
-    let folder : folder_of c.in_ok-names.names ≡ path_of f = c.in_ok-names.ensures.folder ∙ c.deref.ensures.value in
+    let path = folder_of c.in_ok-names.names in
     let next : Folder = record { names = c.in_ok-names.names; end = f.end; told = c.in_ok-told.told; keys = 0; waiting = c.new-waiting.result } in
     let told = c.in_ok-told.ensures.told in
     let beside : IsBesideIn f next = record {
-      path = folder;
+      path = (made g (goal.at.returns-clause-paired g c).After-stage_anew).folder;
       end = refl;
       number = λ is. c.other_number-number.ensures.other (sym (ap (λ (t : CommitRecord). t.number) told) ∙ is);
       mark = ap (λ (t : CommitRecord). t.mark) told;
     } in
-    let number = c.other_number-number.result in
-    let path = folder_of c.in_ok-names.names in
-    readable_beside d0 d1 f next beside
-    (λ m messages keys. c.stage_anew.ensures.beside m (λ is. messages (is ∙ ap (λ (t : CommitRecord). messages_of path t.number) (sym told))) (λ is. keys (is ∙ ap (λ (t : CommitRecord). keys_of path t.number) (sym told))))
-    (c.requires.readable (c.stage_anew.ensures.outside.honest honest))
+    record {
+      readable = λ honest.
+          readable_beside (g.D.Disk.state c.args.disk.now) (g.D.Disk.state c.stage_anew.new.disk) f next beside
+          (λ m messages keys. c.stage_anew.ensures.beside m (λ is. messages (is ∙ ap (λ (t : CommitRecord). messages_of path t.number) (sym told))) (λ is. keys (is ∙ ap (λ (t : CommitRecord). keys_of path t.number) (sym told))))
+          (c.requires.readable (c.stage_anew.ensures.outside.honest honest));
+      beside = beside;
+      named = subst (λ (t : CommitRecord). AreNames c.in_ok-names.names t.number) (sym told) c.in_ok-names.ensures.names;
+    }

@@ -1,6 +1,5 @@
-use Rattle.std.proofs.Common.{◌≡◌, ◌≤◌, sym, ◌∙◌, arith}
+use Rattle.std.proofs.Common.{sym, arith}
 use Rattle.disk_io.proofs.Moments.{nothing_twice}
-use Rattle.base_store.specs.Index.{covered}
 use Rattle.base_store.proofs.Runs.{quiet_disk}
 use Rattle.base_folder_store.specs.Opened.{held_by}
 use Rattle.base_folder_store.proofs.Indexed.{indexed_held}

@@ -14,12 +14,12 @@ pub open-requires-clause-alone : goal.open-requires-clause-alone
 open-requires-clause-alone g c honest = subst (λ (p : List ℕ). AreAlone p (g.D.Disk.state c.args.disk.now)) (sym c.in_ok-names.ensures.folder) (c.requires.alone honest)
 
 pub open-requires-clause-log : goal.open-requires-clause-log
-open-requires-clause-log g c honest = subst (λ (p : List ℕ). IsLogIn p (g.D.Disk.state c.args.disk.now).seen c.args.log.now) (sym c.in_ok-names.ensures.folder) (c.requires.log honest)
+open-requires-clause-log g c honest = subst (λ (p : List ℕ). IsLogIn p (g.D.Disk.state c.args.disk.now).seen c.args.log.now) (sym c.in_ok-names.ensures.folder) (c.requires.log.same honest)
 
 pub open-requires-clause-stands : goal.open-requires-clause-stands
 open-requires-clause-stands g c honest =
     let d = g.D.Disk.state c.args.disk.now in
-    subst (λ (p : List ℕ). StandsFor p (base_at d p c.args.log.now.end.told) d.seen) (sym c.in_ok-names.ensures.folder) (c.requires.stands honest)
+    subst (λ (p : List ℕ). StandsFor p (base_at d p c.args.log.now.end.told) d.seen) (sym c.in_ok-names.ensures.folder) (c.requires.log.stands honest)
 
 pub returns-in_err-open-clause-any_moment : goal.returns-in_err-open-clause-any_moment
 returns-in_err-open-clause-any_moment g c honest =
@@ -57,3 +57,11 @@ returns-clause-any_moment g c honest =
 pub returns-clause-outside : goal.returns-clause-outside
 returns-clause-outside g c =
     subst (λ (p : List ℕ). KeepsOutside p (g.D.Disk.state c.args.disk.now) (g.D.Disk.state c.open.new.disk)) c.in_ok-names.ensures.folder c.open.ensures.outside
+
+pub returns-clause-fresh : goal.returns-clause-fresh
+returns-clause-fresh g c = record {
+  named = c.in_ok-names.ensures.names;
+  path = c.in_ok-names.ensures.folder;
+  settled = refl;
+  written = record { messages = c.new-waiting.ensures.messages; keys = c.new-waiting.ensures.keys };
+}

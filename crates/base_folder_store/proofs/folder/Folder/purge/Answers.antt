@@ -1,110 +1,98 @@
-use Rattle.std.proofs.Common.{◌≡◌, ℕ, List, refl, sym, subst, ◌∙◌}
+use Rattle.std.proofs.Common.{◌≡◌, ◌≤◌, refl, sym, subst, ◌∙◌, arith}
 use Rattle.disk_io.specs.Disk.{Honestly}
-use Rattle.disk_io.specs.Runs.{LeavesOnly}
-use Rattle.base_log.specs.Moments.{IsBeforeOrAfter, KeepsOutside, StandsAlone}
 use Rattle.base_log.specs.Standing.{BaseBytes}
-use Rattle.base_log.proofs.Gates.{outside_twice}
+use Rattle.base_folder_store.specs.Calls.{CommitsOnly}
 use Rattle.base_folder_store.specs.Held.{HoldsBase}
 use Rattle.base_folder_store.specs.Opened.{committed_by, held_by, path_of}
 use Rattle.base_folder_store.specs.declared.folder.Folder.{Folder}
-use Rattle.base_folder_store.proofs.Beside.{after_commit, cursor_open, rest_readable}
-use Rattle.base_folder_store.proofs.Causes.{handed_on}
+use Rattle.base_folder_store.proofs.Beside.{cursor_open, rest_readable}
+use Rattle.base_folder_store.proofs.Causes.{failed_since, handed_on}
+use Rattle.base_folder_store.proofs.Runs.{run_from_commit}
 use Rattle.base_folder_store.proofs.Stubbed.{changed_whole, left_whole}
 use Rattle.base_folder_store.proofs.folder.Folder.purge.Given as given
-use Rattle.base_folder_store.proofs.folder.Folder.purge.Goals.{After-anew, After-leave_all}
+use Rattle.base_folder_store.proofs.folder.Folder.purge.Goals.{After-leave_all}
 use Rattle.base_folder_store.proofs.folder.Folder.purge.Goals as goal
 
 pub anew-requires-clause-readable : goal.anew-requires-clause-readable
 anew-requires-clause-readable g c honest =
-    rest_readable (g.D.Disk.state c.commit.new.disk) c.commit.new.self (c.in_ok-commit.ensures.opened honest) c.in_ok-commit.ensures.told c.in_ok-commit.ensures.written
+    let done = c.in_ok-commit.ensures.done in
+    rest_readable (g.D.Disk.state c.commit.new.disk) c.commit.new.self (c.in_ok-commit.ensures.stays.opened honest) done.told done.written
 
--- the run so far, once the new files are there
-record Begun (g : given.Over) (c : After-anew g) : Type 0 where
-  run : Honestly (g.D.Disk.state c.anew.new.disk) (LeavesOnly (g.D.Disk.state c.args.disk.now) (g.D.Disk.state c.anew.new.disk)
-      (IsBeforeOrAfter (path_of c.args.self.now) (g.D.Disk.state c.args.disk.now) (committed_by (g.D.Disk.state c.args.disk.now) c.args.self.now) (held_by (g.D.Disk.state c.args.disk.now) c.args.self.now)))
-  outside : KeepsOutside (path_of c.args.self.now) (g.D.Disk.state c.args.disk.now) (g.D.Disk.state c.anew.new.disk)
-
-begun : (g : given.Over) (c : After-anew g) → Begun g c
-begun g c =
-    let f0 = c.args.self.now in
-    let f1 = c.commit.new.self in
-    let d0 = g.D.Disk.state c.args.disk.now in
-    let d1 = g.D.Disk.state c.commit.new.disk in
-    let d2 = g.D.Disk.state c.anew.new.disk in
-    record {
-      run = λ honest.
-          let h1 = c.anew.ensures.outside.honest honest in
-          after_commit (path_of f0) d0 d1 d2 (committed_by d0 f0) (held_by d0 f0) (committed_by d1 f1) (c.commit.ensures.any_moment h1)
-          (subst (λ (p : List ℕ). LeavesOnly d1 d2 (StandsAlone p d1 (committed_by d1 f1))) c.commit.ensures.path (c.anew.ensures.any_moment honest)) c.commit.ensures.outside (c.in_ok-commit.ensures.committed h1);
-      outside = outside_twice (path_of f0) d0 d1 d2 c.commit.ensures.outside (subst (λ (p : List ℕ). KeepsOutside p d1 d2) c.commit.ensures.path c.anew.ensures.outside);
-    }
-
--- and once what is left is staged in them
+-- the run so far, once what is left was to be staged
 record Left (g : given.Over) (c : After-leave_all g) : Type 0 where
   same : Honestly (g.D.Disk.state c.leave_all.new.disk) (committed_by (g.D.Disk.state c.anew.new.disk) c.in_ok-next.next ≡ held_by (g.D.Disk.state c.args.disk.now) c.args.self.now)
-  run : Honestly (g.D.Disk.state c.leave_all.new.disk) (LeavesOnly (g.D.Disk.state c.args.disk.now) (g.D.Disk.state c.leave_all.new.disk)
-      (IsBeforeOrAfter (path_of c.args.self.now) (g.D.Disk.state c.args.disk.now) (committed_by (g.D.Disk.state c.args.disk.now) c.args.self.now) (held_by (g.D.Disk.state c.args.disk.now) c.args.self.now)))
-  outside : KeepsOutside (path_of c.args.self.now) (g.D.Disk.state c.args.disk.now) (g.D.Disk.state c.leave_all.new.disk)
+  run : CommitsOnly (path_of c.args.self.now) (committed_by (g.D.Disk.state c.args.disk.now) c.args.self.now) (held_by (g.D.Disk.state c.args.disk.now) c.args.self.now) (g.D.Disk.state c.args.disk.now) (g.D.Disk.state c.leave_all.new.disk)
 
 left : (g : given.Over) (c : After-leave_all g) → Left g c
 left g c =
-    let f0 = c.args.self.now in
-    let f1 = c.commit.new.self in
-    let n2 = c.in_ok-next.next in
-    let d0 = g.D.Disk.state c.args.disk.now in
-    let d1 = g.D.Disk.state c.commit.new.disk in
-    let d2 = g.D.Disk.state c.anew.new.disk in
-    let d3 = g.D.Disk.state c.leave_all.new.disk in
-    let path : path_of n2 ≡ path_of f0 = c.in_ok-next.ensures.beside.path ∙ c.commit.ensures.path in
-    let out = outside_twice (path_of f0) d0 d1 d2 c.commit.ensures.outside (subst (λ (p : List ℕ). KeepsOutside p d1 d2) c.commit.ensures.path c.anew.ensures.outside) in
+    let f = c.args.self.now in
+    let now = c.commit.new.self in
+    let next = c.in_ok-next.next in
+    let d = g.D.Disk.state c.args.disk.now in
+    let b = g.D.Disk.state c.commit.new.disk in
+    let e = g.D.Disk.state c.anew.new.disk in
+    let begun = run_from_commit (path_of f) (path_of now) d b e (committed_by d f) (held_by d f) (committed_by b now) c.commit.ensures.stays.path c.commit.ensures.run c.anew.ensures.run c.in_ok-commit.ensures.done.committed in
+    let path : path_of next ≡ path_of f = c.in_ok-next.ensures.paired.beside.path ∙ c.commit.ensures.stays.path in
+    let same = λ (honest : e.is_honest). c.in_ok-next.ensures.committed honest ∙ c.in_ok-commit.ensures.done.committed (c.anew.ensures.run.outside.honest honest) in
     record {
-      same = λ honest.
-          let h2 = c.leave_all.ensures.outside.honest honest in
-          c.in_ok-next.ensures.committed h2 ∙ c.in_ok-commit.ensures.committed (c.anew.ensures.outside.honest h2);
-      run = λ honest.
-          let h2 = c.leave_all.ensures.outside.honest honest in
-          let h1 = c.anew.ensures.outside.honest h2 in
-          let first = after_commit (path_of f0) d0 d1 d2 (committed_by d0 f0) (held_by d0 f0) (committed_by d1 f1) (c.commit.ensures.any_moment h1)
-          (subst (λ (p : List ℕ). LeavesOnly d1 d2 (StandsAlone p d1 (committed_by d1 f1))) c.commit.ensures.path (c.anew.ensures.any_moment h2)) c.commit.ensures.outside (c.in_ok-commit.ensures.committed h1) in
-          after_commit (path_of f0) d0 d2 d3 (committed_by d0 f0) (held_by d0 f0) (committed_by d2 n2) first
-          (subst (λ (p : List ℕ). LeavesOnly d2 d3 (StandsAlone p d2 (committed_by d2 n2))) path (c.leave_all.ensures.any_moment honest)) out (c.in_ok-next.ensures.committed h2 ∙ c.in_ok-commit.ensures.committed h1);
-      outside = outside_twice (path_of f0) d0 d2 d3 out (subst (λ (p : List ℕ). KeepsOutside p d2 d3) path c.leave_all.ensures.outside);
+      same = λ honest. same (c.leave_all.ensures.run.outside.honest honest);
+      run = run_from_commit (path_of f) (path_of next) d e (g.D.Disk.state c.leave_all.new.disk) (committed_by d f) (held_by d f) (committed_by e next) path begun c.leave_all.ensures.run same;
     }
 
-pub returns-in_err-next-clause-any_moment : goal.returns-in_err-next-clause-any_moment
-returns-in_err-next-clause-any_moment g c = (begun g (goal.at.returns-in_err-next-clause-any_moment g c).After-anew).run
+pub returns-in_err-next-clause-run : goal.returns-in_err-next-clause-run
+returns-in_err-next-clause-run g c =
+    let f = c.args.self.now in
+    let now = c.commit.new.self in
+    let d = g.D.Disk.state c.args.disk.now in
+    let b = g.D.Disk.state c.commit.new.disk in
+    run_from_commit (path_of f) (path_of now) d b (g.D.Disk.state c.anew.new.disk) (committed_by d f) (held_by d f) (committed_by b now) c.commit.ensures.stays.path c.commit.ensures.run c.anew.ensures.run c.in_ok-commit.ensures.done.committed
 
-pub returns-in_err-next-clause-outside : goal.returns-in_err-next-clause-outside
-returns-in_err-next-clause-outside g c = (begun g (goal.at.returns-in_err-next-clause-outside g c).After-anew).outside
+pub returns-in_err-changed-clause-run : goal.returns-in_err-changed-clause-run
+returns-in_err-changed-clause-run g c = (left g (goal.at.returns-in_err-changed-clause-run g c).After-leave_all).run
 
-pub returns-in_err-changed-clause-any_moment : goal.returns-in_err-changed-clause-any_moment
-returns-in_err-changed-clause-any_moment g c = (left g (goal.at.returns-in_err-changed-clause-any_moment g c).After-leave_all).run
+pub returns-clause-run : goal.returns-clause-run
+returns-clause-run g c = (left g (goal.at.returns-clause-run g c).After-leave_all).run
 
-pub returns-in_err-changed-clause-outside : goal.returns-in_err-changed-clause-outside
-returns-in_err-changed-clause-outside g c = (left g (goal.at.returns-in_err-changed-clause-outside g c).After-leave_all).outside
+pub returns-in_err-commit-clause-cause : goal.returns-in_err-commit-clause-cause
+returns-in_err-commit-clause-cause g c =
+    let cause = c.in_err-commit.ensures.cause in
+    record {
+      later = cause.later;
+      failed = λ is. cause.failed (handed_on _ _ c.from_residual.result c.from_residual.ensures.1 is);
+      damaged = λ honest is keyed base holds. absurd (cause.whole (handed_on _ _ c.from_residual.result c.from_residual.ensures.1 is));
+    }
 
-pub returns-clause-any_moment : goal.returns-clause-any_moment
-returns-clause-any_moment g c = (left g (goal.at.returns-clause-any_moment g c).After-leave_all).run
+pub returns-in_err-next-clause-cause : goal.returns-in_err-next-clause-cause
+returns-in_err-next-clause-cause g c =
+    let cause = c.in_err-next.ensures.cause in
+    let one = c.commit.ensures.cause.later in
+    let two = cause.later in
+    record {
+      later = omega (arith, one, two);
+      failed = λ is.
+          failed_since (g.D.Disk.failures c.args.disk.now) (g.D.Disk.failures c.commit.new.disk) (g.D.Disk.failures c.anew.new.disk) one (cause.failed (handed_on _ _ c.from_residual-in_err-next.result c.from_residual-in_err-next.ensures.1 is));
+      damaged = λ honest is keyed base holds. absurd (cause.whole (handed_on _ _ c.from_residual-in_err-next.result c.from_residual-in_err-next.ensures.1 is));
+    }
 
-pub returns-clause-outside : goal.returns-clause-outside
-returns-clause-outside g c = (left g (goal.at.returns-clause-outside g c).After-leave_all).outside
-
-pub returns-in_err-next-clause-damaged : goal.returns-in_err-next-clause-damaged
-returns-in_err-next-clause-damaged g c honest is keyed base holds =
-    absurd (c.in_err-next.ensures.whole (handed_on _ _ c.from_residual-in_err-next.result c.from_residual-in_err-next.ensures.1 is))
-
-pub returns-in_err-commit-clause-damaged : goal.returns-in_err-commit-clause-damaged
-returns-in_err-commit-clause-damaged g c honest is keyed base holds =
-    absurd (c.in_err-commit.ensures.whole (handed_on _ _ c.from_residual.result c.from_residual.ensures.1 is))
-
-pub returns-in_err-changed-clause-damaged : goal.returns-in_err-changed-clause-damaged
-returns-in_err-changed-clause-damaged g c honest is keyed base holds =
-    let same = (left g (goal.at.returns-in_err-changed-clause-damaged g c).After-leave_all).same honest in
-    c.in_err-changed.ensures.damaged honest (handed_on _ _ c.from_residual-in_err-changed.result c.from_residual-in_err-changed.ensures.1 is) keyed base (subst (λ (b : BaseBytes). HoldsBase keyed b base) (sym same) holds)
+pub returns-in_err-changed-clause-cause : goal.returns-in_err-changed-clause-cause
+returns-in_err-changed-clause-cause g c =
+    let cause = c.in_err-changed.ensures.cause in
+    let one = c.commit.ensures.cause.later in
+    let two = c.anew.ensures.cause.later in
+    let three = cause.later in
+    let before : g.D.Disk.failures c.args.disk.now ≤ g.D.Disk.failures c.anew.new.disk = omega (arith, one, two) in
+    record {
+      later = omega (arith, before, three);
+      failed = λ is.
+          failed_since (g.D.Disk.failures c.args.disk.now) (g.D.Disk.failures c.anew.new.disk) (g.D.Disk.failures c.leave_all.new.disk) before
+          (cause.failed (handed_on _ _ c.from_residual-in_err-changed.result c.from_residual-in_err-changed.ensures.1 is));
+      damaged = λ honest is keyed base holds.
+          let same = (left g (goal.at.returns-in_err-changed-clause-cause g c).After-leave_all).same honest in
+          cause.damaged honest (handed_on _ _ c.from_residual-in_err-changed.result c.from_residual-in_err-changed.ensures.1 is) keyed base (subst (λ (b : BaseBytes). HoldsBase keyed b base) (sym same) holds);
+    }
 
 pub returns-clause-path : goal.returns-clause-path
-returns-clause-path g c =
-    c.leave_all.ensures.beside.path ∙ c.commit.ensures.path
+returns-clause-path g c = c.leave_all.ensures.paired.beside.path ∙ c.commit.ensures.stays.path
 
 pub returns-clause-opened : goal.returns-clause-opened
 returns-clause-opened g c honest =
@@ -115,7 +103,7 @@ returns-clause-committed g c honest = c.in_ok-changed.ensures.same honest ∙ (l
 
 pub returns-clause-purged : goal.returns-clause-purged
 returns-clause-purged g c honest =
-    let h1 = c.anew.ensures.outside.honest (c.leave_all.ensures.outside.honest honest) in
+    let h1 = c.anew.ensures.run.outside.honest (c.leave_all.ensures.run.outside.honest honest) in
     let f1 = c.commit.new.self in
     let n3 = c.leave_all.new.next in
     let d3 = g.D.Disk.state c.leave_all.new.disk in
@@ -123,10 +111,10 @@ returns-clause-purged g c honest =
     λ keyed base holds.
     let here = subst (λ (b : BaseBytes). HoldsBase keyed b base) (sym same) holds in
     let now : Folder = record n3 { told = record n3.told { cursor = f1.end.told.cursor } } in
-    left_whole keyed (committed_by (g.D.Disk.state c.commit.new.disk) f1) (held_by d3 n3) (held_by d3 now) base (subst (λ (b : BaseBytes). HoldsBase keyed b base) (sym (c.in_ok-commit.ensures.committed h1)) holds)
-    (c.in_ok-changed.ensures.left honest keyed base here) refl
+    left_whole keyed (committed_by (g.D.Disk.state c.commit.new.disk) f1) (held_by d3 n3) (held_by d3 now) base (subst (λ (b : BaseBytes). HoldsBase keyed b base) (sym (c.in_ok-commit.ensures.done.committed h1)) holds)
+    (c.in_ok-changed.ensures.left honest keyed base here).left refl
 
 pub returns-clause-count : goal.returns-clause-count
 returns-clause-count g c honest =
     let same = (left g (goal.at.returns-clause-count g c).After-leave_all).same honest in
-    λ keyed base holds. c.in_ok-changed.ensures.changed honest keyed base (subst (λ (b : BaseBytes). HoldsBase keyed b base) (sym same) holds) ∙ changed_whole base
+    λ keyed base holds. (c.in_ok-changed.ensures.left honest keyed base (subst (λ (b : BaseBytes). HoldsBase keyed b base) (sym same) holds)).changed ∙ changed_whole base

@@ -1,21 +1,24 @@
-use Rattle.std.proofs.Common.{◌≡◌, ◌≤◌, ◌*◌, ℕ, List, ◌++◌, length, take, drop, sym, ap, ◌∙◌, arith}
-use Rattle.disk_io.specs.Disk.{bytes_in}
-use Rattle.base_folder_store.specs.Opened.{held_by}
+use Rattle.std.proofs.Common.{◌≡◌, ◌*◌, ℕ, List, ◌++◌, take, drop, ◌∙◌, arith}
+use Rattle.disk_io.specs.Disk.{DiskState, bytes_in}
+use Rattle.base_folder_store.specs.Opened.{IsLegible, held_by}
+use Rattle.base_folder_store.specs.declared.folder.Folder.{Folder}
 use Rattle.base_folder_store.proofs.Legible.{keys_all}
 use Rattle.base_folder_store.proofs.Numbered.{piece_of}
 use Rattle.base_folder_store.proofs.folder.Folder.read_keys.Goals as goal
 
+-- what was read is a part of the keys
+part_of : (d : DiskState) (f : Folder) (path waits piece : List ℕ) (from to : ℕ) → IsLegible d f → path ≡ f.names.keys.items → waits ≡ f.waiting.keys.items
+    → piece ≡ drop (16 * from) (take (16 * to) (take f.told.keys (bytes_in (d.seen path)) ++ waits)) → piece ≡ drop (16 * from) (take (16 * to) (held_by d f).keys)
+part_of d f path waits piece from to legible same all read =
+    let file = same ∙ legible.names.keys in
+    read ∙ (λ i. drop (16 * from) (take (16 * to) (take f.told.keys (bytes_in (d.seen (file i))) ++ all i)))
+
 pub returns-clause-piece : goal.returns-clause-piece
 returns-clause-piece g c honest =
-    let h0 = c.read_across.ensures.quiet.honest honest in
     let d = g.D.Disk.state c.args.disk.now in
     let f = c.args.self.now in
-    let legible = c.requires.legible h0 in
-    let file = c.deref.ensures.value ∙ legible.names.keys in
-    let waits = c.deref-2.ensures.value in
+    let legible = c.requires.legible (c.read_across.ensures.quiet.honest honest) in
     let all = keys_all d f legible in
     let within = c.requires.within in
-    let read : c.read_across.new.part.items ≡ drop (16 * c.args.from) (take (16 * c.args.to) (held_by d f).keys) =
-    c.in_ok-read_across.ensures.bytes honest
-    ∙ (λ i. drop (16 * c.args.from) (take (16 * c.args.to) (take f.told.keys (bytes_in (d.seen (file i))) ++ waits i))) in
-    piece_of (held_by d f).keys c.read_across.new.part.items c.args.from c.args.to c.requires.order (omega (arith, all, within)) read
+    piece_of (held_by d f).keys c.in_ok-piece.piece.items c.args.from c.args.to c.requires.order (omega (arith, all, within))
+    (part_of d f c.deref.result.now c.deref-2.result.now c.in_ok-piece.piece.items c.args.from c.args.to legible c.deref.ensures.value c.deref-2.ensures.value (c.in_ok-piece.ensures.bytes honest))

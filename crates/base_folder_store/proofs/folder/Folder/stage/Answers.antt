@@ -1,32 +1,50 @@
-use Rattle.std.proofs.Common.{◌≡◌, ◌<◌, ◌^◌, ℕ, List, length, sym, ap, subst, ◌∙◌}
+use Rattle.std.proofs.Common.{◌≡◌, ◌<◌, ◌^◌, length, sym, ap, subst, ◌∙◌}
 use Rattle.std.proofs.lemmas.Result.{on_ok_weaker}
-use Rattle.disk_io.specs.Runs.{LeavesOnly}
-use Rattle.base_log.specs.Moments.{KeepsOutside, StandsAlone}
-use Rattle.base_log.specs.Names.{AreNames, folder_of, keys_of, messages_of}
-use Rattle.base_log.specs.Standing.{BaseBytes}
-use Rattle.base_log.specs.declared.names.Names.{Names}
+use Rattle.base_log.specs.Names.{folder_of, keys_of, messages_of}
+use Rattle.base_log.specs.Standing.{BaseBytes, base_at}
 use Rattle.base_log.specs.declared.log.CommitRecord.{CommitRecord}
-use Rattle.base_folder_store.specs.Opened.{committed_by, held_by, path_of}
-use Rattle.base_folder_store.proofs.Staged.{added_committed, added_fits, added_open, added_stored, nothing_left, outside_same}
+use Rattle.base_folder_store.specs.Opened.{IsNamed, committed_by, held_by, path_of}
+use Rattle.base_folder_store.proofs.Causes.{on_ok_none}
+use Rattle.base_folder_store.proofs.Runs.{run_none, run_twice}
+use Rattle.base_folder_store.proofs.Staged.{added_fits, added_open, added_stored, names_kept}
+use Rattle.base_folder_store.proofs.folder.Folder.stage.Given as given
+use Rattle.base_folder_store.proofs.folder.Folder.stage.Goals.{After-add}
 use Rattle.base_folder_store.proofs.folder.Folder.stage.Goals as goal
 
-pub returns-in_err-add-clause-named : goal.returns-in_err-add-clause-named
-returns-in_err-add-clause-named g c =
-    subst (λ (t : CommitRecord). AreNames c.add.new.self.names t.number) (sym c.add.ensures.told) (subst (λ (n : Names). AreNames n c.args.self.now.told.number) (sym c.add.ensures.names) c.requires.named)
+-- the folder once the message waits
+record Added (g : given.Over) (c : After-add g) : Type 0 where
+  named : IsNamed c.add.new.self
+  path : path_of c.add.new.self ≡ path_of c.args.self.now
+  number : c.add.new.self.told.number ≡ c.args.self.now.told.number
+  mark : c.add.new.self.told.mark ≡ c.args.self.now.told.mark
+  same : committed_by (g.D.Disk.state c.args.disk.now) c.add.new.self ≡ committed_by (g.D.Disk.state c.args.disk.now) c.args.self.now
 
-pub returns-in_err-add-clause-any_moment : goal.returns-in_err-add-clause-any_moment
-returns-in_err-add-clause-any_moment g c honest = nothing_left (g.D.Disk.state c.args.disk.now) c.args.self.now (c.requires.opened honest)
+added : (g : given.Over) (c : After-add g) → Added g c
+added g c = record {
+  named = names_kept c.args.self.now c.add.new.self c.add.ensures.names c.add.ensures.told c.requires.named;
+  path = ap folder_of c.add.ensures.names;
+  number = ap (λ (t : CommitRecord). t.number) c.add.ensures.told;
+  mark = ap (λ (t : CommitRecord). t.mark) c.add.ensures.told;
+  same = λ i. base_at (g.D.Disk.state c.args.disk.now) (folder_of (c.add.ensures.names i)) (c.add.ensures.end i).told;
+}
 
-pub returns-in_err-add-clause-outside : goal.returns-in_err-add-clause-outside
-returns-in_err-add-clause-outside g c = outside_same (path_of c.args.self.now) (g.D.Disk.state c.args.disk.now)
+pub returns-in_err-add-clause-stays : goal.returns-in_err-add-clause-stays
+returns-in_err-add-clause-stays g c =
+    let at = added g (goal.at.returns-in_err-add-clause-stays g c).After-add in
+    record { named = at.named; opened = λ honest. on_ok_none _ _ c.from_residual.result c.from_residual.ensures.1; path = at.path; mark = at.mark }
 
-pub returns-then-len-lt-PIECE-clause-named : goal.returns-then-len-lt-PIECE-clause-named
-returns-then-len-lt-PIECE-clause-named g c =
-    subst (λ (t : CommitRecord). AreNames c.add.new.self.names t.number) (sym c.add.ensures.told) (subst (λ (n : Names). AreNames n c.args.self.now.told.number) (sym c.add.ensures.names) c.requires.named)
+pub returns-in_err-add-clause-run : goal.returns-in_err-add-clause-run
+returns-in_err-add-clause-run g c = run_none (g.D.Disk.state c.args.disk.now) c.args.self.now c.requires.opened
 
-pub returns-then-len-lt-PIECE-clause-opened : goal.returns-then-len-lt-PIECE-clause-opened
-returns-then-len-lt-PIECE-clause-opened g c honest =
-    added_open (g.D.Disk.state c.args.disk.now) c.args.self.now c.add.new.self c.args.bytes.now c.args.digest (c.requires.opened honest) c.in_ok-add.ensures.waits
+pub returns-then-len-lt-PIECE-clause-stays : goal.returns-then-len-lt-PIECE-clause-stays
+returns-then-len-lt-PIECE-clause-stays g c =
+    let at = added g (goal.at.returns-then-len-lt-PIECE-clause-stays g c).After-add in
+    record {
+      named = at.named;
+      opened = λ honest. added_open (g.D.Disk.state c.args.disk.now) c.args.self.now c.add.new.self c.args.bytes.now c.args.digest (c.requires.opened honest) c.in_ok-add.ensures.waits;
+      path = at.path;
+      mark = at.mark;
+    }
 
 pub returns-then-len-lt-PIECE-clause-staged : goal.returns-then-len-lt-PIECE-clause-staged
 returns-then-len-lt-PIECE-clause-staged g c honest =
@@ -37,79 +55,59 @@ returns-then-len-lt-PIECE-clause-fits g c honest =
     added_fits (g.D.Disk.state c.args.disk.now) c.args.self.now c.add.new.self c.args.bytes.now c.args.digest (c.requires.opened honest) c.in_ok-add.ensures.waits
 
 pub returns-then-len-lt-PIECE-clause-same : goal.returns-then-len-lt-PIECE-clause-same
-returns-then-len-lt-PIECE-clause-same g c honest =
-    added_committed (g.D.Disk.state c.args.disk.now) c.args.self.now c.add.new.self c.args.bytes.now c.args.digest (c.requires.opened honest) c.in_ok-add.ensures.waits
+returns-then-len-lt-PIECE-clause-same g c honest = (added g (goal.at.returns-then-len-lt-PIECE-clause-same g c).After-add).same
 
-pub returns-then-len-lt-PIECE-clause-any_moment : goal.returns-then-len-lt-PIECE-clause-any_moment
-returns-then-len-lt-PIECE-clause-any_moment g c honest = nothing_left (g.D.Disk.state c.args.disk.now) c.args.self.now (c.requires.opened honest)
+pub returns-then-len-lt-PIECE-clause-run : goal.returns-then-len-lt-PIECE-clause-run
+returns-then-len-lt-PIECE-clause-run g c = run_none (g.D.Disk.state c.args.disk.now) c.args.self.now c.requires.opened
 
-pub returns-then-len-lt-PIECE-clause-outside : goal.returns-then-len-lt-PIECE-clause-outside
-returns-then-len-lt-PIECE-clause-outside g c = outside_same (path_of c.args.self.now) (g.D.Disk.state c.args.disk.now)
+pub write_out-requires : goal.write_out-requires
+write_out-requires g c = record {
+  named = (added g (goal.at.write_out-requires g c).After-add).named;
+  opened = λ honest. added_open (g.D.Disk.state c.args.disk.now) c.args.self.now c.add.new.self c.args.bytes.now c.args.digest (c.requires.opened honest) c.in_ok-add.ensures.waits;
+}
 
-pub write_out-requires-clause-named : goal.write_out-requires-clause-named
-write_out-requires-clause-named g c =
-    subst (λ (t : CommitRecord). AreNames c.add.new.self.names t.number) (sym c.add.ensures.told) (subst (λ (n : Names). AreNames n c.args.self.now.told.number) (sym c.add.ensures.names) c.requires.named)
+pub returns-clause-stays : goal.returns-clause-stays
+returns-clause-stays g c =
+    let at = added g (goal.at.returns-clause-stays g c).After-add in
+    let stays = c.write_out.ensures.stays in
+    record { named = stays.named; opened = stays.opened; path = stays.path ∙ at.path; mark = stays.mark ∙ at.mark }
 
-pub write_out-requires-clause-opened : goal.write_out-requires-clause-opened
-write_out-requires-clause-opened g c honest =
-    added_open (g.D.Disk.state c.args.disk.now) c.args.self.now c.add.new.self c.args.bytes.now c.args.digest (c.requires.opened honest) c.in_ok-add.ensures.waits
-
-pub returns-clause-path : goal.returns-clause-path
-returns-clause-path g c = c.write_out.ensures.path ∙ ap folder_of c.add.ensures.names
-
-pub returns-clause-mark : goal.returns-clause-mark
-returns-clause-mark g c = c.write_out.ensures.mark ∙ ap (λ (t : CommitRecord). t.mark) c.add.ensures.told
-
-pub returns-clause-end : goal.returns-clause-end
-returns-clause-end g c = c.write_out.ensures.end ∙ c.add.ensures.end
-
-pub returns-clause-number : goal.returns-clause-number
-returns-clause-number g c = c.write_out.ensures.number ∙ ap (λ (t : CommitRecord). t.number) c.add.ensures.told
+pub returns-clause-files : goal.returns-clause-files
+returns-clause-files g c =
+    let files = c.write_out.ensures.files in
+    record {
+      end = files.end ∙ c.add.ensures.end;
+      number = files.number ∙ (added g (goal.at.returns-clause-files g c).After-add).number;
+      beside = λ m messages keys.
+          files.beside m (λ is. messages (is ∙ (λ i. messages_of (folder_of (c.add.ensures.names i)) (c.add.ensures.told i).number)))
+          (λ is. keys (is ∙ (λ i. keys_of (folder_of (c.add.ensures.names i)) (c.add.ensures.told i).number)));
+    }
 
 pub returns-clause-staged : goal.returns-clause-staged
 returns-clause-staged g c honest =
-    let h0 = c.write_out.ensures.outside.honest honest in
+    let h0 = c.write_out.ensures.run.outside.honest honest in
     let d = g.D.Disk.state c.args.disk.now in
-    let e = g.D.Disk.state c.write_out.new.disk in
     let f = c.add.new.self in
-    on_ok_weaker {P = held_by e c.write_out.new.self ≡ held_by d f} c.write_out.result
-    (λ held. held ∙ added_stored d c.args.self.now f c.args.bytes.now c.args.digest (c.requires.opened h0) c.in_ok-add.ensures.waits) (c.write_out.ensures.held honest)
+    on_ok_weaker {P = held_by (g.D.Disk.state c.write_out.new.disk) c.write_out.new.self ≡ held_by d f} c.write_out.result
+    (λ held. held ∙ added_stored d c.args.self.now f c.args.bytes.now c.args.digest (c.requires.opened h0) c.in_ok-add.ensures.waits) (c.write_out.ensures.out.held honest)
 
 pub returns-clause-fits : goal.returns-clause-fits
 returns-clause-fits g c honest =
-    let h0 = c.write_out.ensures.outside.honest honest in
+    let h0 = c.write_out.ensures.run.outside.honest honest in
     let d = g.D.Disk.state c.args.disk.now in
-    let e = g.D.Disk.state c.write_out.new.disk in
     let f = c.add.new.self in
     let fits = added_fits d c.args.self.now f c.args.bytes.now c.args.digest (c.requires.opened h0) c.in_ok-add.ensures.waits in
-    on_ok_weaker {P = held_by e c.write_out.new.self ≡ held_by d f} c.write_out.result
-    (λ held. subst (λ (b : BaseBytes). length b.messages < 2 ^ 64) (sym held) fits) (c.write_out.ensures.held honest)
+    on_ok_weaker {P = held_by (g.D.Disk.state c.write_out.new.disk) c.write_out.new.self ≡ held_by d f} c.write_out.result
+    (λ held. subst (λ (b : BaseBytes). length b.messages < 2 ^ 64) (sym held) fits) (c.write_out.ensures.out.held honest)
 
 pub returns-clause-same : goal.returns-clause-same
 returns-clause-same g c honest =
-    let h0 = c.write_out.ensures.outside.honest honest in
+    let at = added g (goal.at.returns-clause-same g c).After-add in
+    on_ok_weaker {P = committed_by (g.D.Disk.state c.write_out.new.disk) c.write_out.new.self ≡ committed_by (g.D.Disk.state c.args.disk.now) c.add.new.self} c.write_out.result (λ same. same ∙ at.same) (c.write_out.ensures.out.same honest)
+
+pub returns-clause-run : goal.returns-clause-run
+returns-clause-run g c =
     let d = g.D.Disk.state c.args.disk.now in
-    let e = g.D.Disk.state c.write_out.new.disk in
-    let f = c.add.new.self in
-    on_ok_weaker {P = committed_by e c.write_out.new.self ≡ committed_by d f} c.write_out.result
-    (λ same. same ∙ added_committed d c.args.self.now f c.args.bytes.now c.args.digest (c.requires.opened h0) c.in_ok-add.ensures.waits) (c.write_out.ensures.same honest)
-
-pub returns-clause-beside : goal.returns-clause-beside
-returns-clause-beside g c = λ m messages keys.
-    c.write_out.ensures.beside m (λ is. messages (is ∙ (λ i. messages_of (folder_of (c.add.ensures.names i)) (c.add.ensures.told i).number)))
-    (λ is. keys (is ∙ (λ i. keys_of (folder_of (c.add.ensures.names i)) (c.add.ensures.told i).number)))
-
-pub returns-clause-any_moment : goal.returns-clause-any_moment
-returns-clause-any_moment g c honest =
-    let h0 = c.write_out.ensures.outside.honest honest in
-    let d = g.D.Disk.state c.args.disk.now in
-    let e = g.D.Disk.state c.write_out.new.disk in
-    let f0 = c.args.self.now in
-    let f1 = c.add.new.self in
-    let same = added_committed d f0 f1 c.args.bytes.now c.args.digest (c.requires.opened h0) c.in_ok-add.ensures.waits in
-    subst (λ (b : BaseBytes). LeavesOnly d e (StandsAlone (path_of f0) d b)) same
-    (subst (λ (p : List ℕ). LeavesOnly d e (StandsAlone p d (committed_by d f1))) (ap folder_of c.add.ensures.names) (c.write_out.ensures.any_moment honest))
-
-pub returns-clause-outside : goal.returns-clause-outside
-returns-clause-outside g c =
-    subst (λ (p : List ℕ). KeepsOutside p (g.D.Disk.state c.args.disk.now) (g.D.Disk.state c.write_out.new.disk)) (ap folder_of c.add.ensures.names) c.write_out.ensures.outside
+    let f = c.args.self.now in
+    let at = added g (goal.at.returns-clause-run g c).After-add in
+    run_twice (path_of f) (path_of c.add.new.self) d d (g.D.Disk.state c.write_out.new.disk) (committed_by d f) (committed_by d c.add.new.self) at.path (run_none d f c.requires.opened) c.write_out.ensures.run (λ honest. at.same)

@@ -1,47 +1,49 @@
 use Rattle.std.proofs.Common.{refl, sym, subst, ◌∙◌}
-use Rattle.base_log.specs.Standing.{BaseBytes}
-use Rattle.base_log.specs.Moments.{IsBeforeOrAfter}
+use Rattle.disk_io.specs.Disk.{DiskState, Honestly}
 use Rattle.disk_io.specs.Runs.{LeavesOnly}
-use Rattle.base_folder_store.specs.Opened.{IsWritten, committed_by, path_of}
+use Rattle.base_log.specs.Moments.{IsBeforeOrAfter, KeepsOutside}
+use Rattle.base_log.specs.Standing.{BaseBytes, base_at}
+use Rattle.base_folder_store.specs.Calls.{CommitsOnly}
+use Rattle.base_folder_store.specs.Opened.{IsWritten, committed_by, held_by, path_of}
 use Rattle.base_folder_store.specs.declared.folder.Folder.{Folder}
 use Rattle.base_folder_store.proofs.Staged.{committed_held, committed_open, committed_told}
 use Rattle.base_folder_store.proofs.Waits.{written_held}
 use Rattle.base_folder_store.proofs.folder.Folder.tell.Goals as goal
 
-pub returns-clause-opened : goal.returns-clause-opened
-returns-clause-opened g c honest =
-    let h1 = honest in
-    let h0 = c.commit.ensures.outside.honest h1 in
+pub returns-clause-stays : goal.returns-clause-stays
+returns-clause-stays g c =
     let f = c.args.self.now in
     let now : Folder = record { names = f.names; end = c.in_ok-end.end; told = f.told; keys = f.keys; waiting = f.waiting } in
-    committed_open (g.D.Disk.state c.args.disk.now) (g.D.Disk.state c.commit.new.disk) f now (c.requires.opened h0) refl refl refl refl (c.in_ok-end.ensures.settled h1) c.in_ok-end.ensures.told
+    record {
+      named = c.requires.usable.named;
+      opened = λ honest.
+          committed_open (g.D.Disk.state c.args.disk.now) (g.D.Disk.state c.commit.new.disk) f now (c.requires.usable.opened (c.commit.ensures.outside.honest honest)) refl refl refl refl (c.in_ok-end.ensures.settled honest) c.in_ok-end.ensures.told;
+      path = refl;
+      mark = refl;
+    }
 
-pub returns-clause-same : goal.returns-clause-same
-returns-clause-same g c honest =
-    let h1 = honest in
-    let f = c.args.self.now in
-    let d = g.D.Disk.state c.args.disk.now in
-    let none : IsWritten f = c.requires.written in
-    let held = c.in_ok-end.ensures.acknowledged h1 ∙ sym (written_held d f none) in
-    let now : Folder = record { names = f.names; end = c.in_ok-end.end; told = f.told; keys = f.keys; waiting = f.waiting } in
-    committed_held (g.D.Disk.state c.args.disk.now) (g.D.Disk.state c.commit.new.disk) f now refl refl c.in_ok-end.ensures.told held (record { messages = none.messages; keys = none.keys })
-
-pub returns-clause-committed : goal.returns-clause-committed
-returns-clause-committed g c honest =
-    let h1 = honest in
-    let f = c.args.self.now in
-    let d = g.D.Disk.state c.args.disk.now in
-    let none : IsWritten f = c.requires.written in
-    let held = c.in_ok-end.ensures.acknowledged h1 ∙ sym (written_held d f none) in
-    let now : Folder = record { names = f.names; end = c.in_ok-end.end; told = f.told; keys = f.keys; waiting = f.waiting } in
-    committed_told (g.D.Disk.state c.args.disk.now) (g.D.Disk.state c.commit.new.disk) f now refl held
-
-pub returns-clause-settled : goal.returns-clause-settled
-returns-clause-settled g c honest = c.in_ok-end.ensures.settled honest
-
-pub returns-clause-any_moment : goal.returns-clause-any_moment
-returns-clause-any_moment g c honest =
+pub returns-clause-done : goal.returns-clause-done
+returns-clause-done g c =
     let f = c.args.self.now in
     let d = g.D.Disk.state c.args.disk.now in
     let e = g.D.Disk.state c.commit.new.disk in
-    subst (λ (b : BaseBytes). LeavesOnly d e (IsBeforeOrAfter (path_of f) d (committed_by d f) b)) (sym (written_held d f c.requires.written)) (c.commit.ensures.any_moment honest)
+    let none : IsWritten f = c.requires.written in
+    let now : Folder = record { names = f.names; end = c.in_ok-end.end; told = f.told; keys = f.keys; waiting = f.waiting } in
+    record {
+      written = record { messages = none.messages; keys = none.keys };
+      told = c.in_ok-end.ensures.told;
+      same = λ honest. committed_held d e f now refl refl c.in_ok-end.ensures.told (c.in_ok-end.ensures.acknowledged honest ∙ sym (written_held d f none)) (record { messages = none.messages; keys = none.keys });
+      committed = λ honest. committed_told d e f now refl (c.in_ok-end.ensures.acknowledged honest ∙ sym (written_held d f none));
+      settled = c.in_ok-end.ensures.settled;
+    }
+
+-- what a commit leaves, of a folder of which nothing waits
+run_of : (d e : DiskState) (f : Folder) → IsWritten f → Honestly e (LeavesOnly d e (IsBeforeOrAfter (path_of f) d (committed_by d f) (base_at d (path_of f) f.told))) → KeepsOutside (path_of f) d e
+    → CommitsOnly (path_of f) (committed_by d f) (held_by d f) d e
+run_of d e f none run kept = subst (λ (b : BaseBytes). CommitsOnly (path_of f) (committed_by d f) b d e) (sym (written_held d f none)) (record { any_moment = run; outside = kept })
+
+pub returns-in_err-end-clause-run : goal.returns-in_err-end-clause-run
+returns-in_err-end-clause-run g c = run_of (g.D.Disk.state c.args.disk.now) (g.D.Disk.state c.commit.new.disk) c.args.self.now c.requires.written c.commit.ensures.any_moment c.commit.ensures.outside
+
+pub returns-clause-run : goal.returns-clause-run
+returns-clause-run g c = run_of (g.D.Disk.state c.args.disk.now) (g.D.Disk.state c.commit.new.disk) c.args.self.now c.requires.written c.commit.ensures.any_moment c.commit.ensures.outside

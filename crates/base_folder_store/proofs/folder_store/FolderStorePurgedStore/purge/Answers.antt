@@ -40,11 +40,11 @@ returns-clause-either g c =
     let keyed = g.H.Digest.keyed in
     let now = c.purge.new.self in
     may_commit_where (state_of d keyed s.folder s.alone) (state_of e keyed now s.alone) (IsIndexed d s.folder s.index) (IsIndexed e now c.new-index.result)
-    (may_commit d e keyed s.folder now s.alone s.alone c.purge.ensures.path c.purge.ensures.any_moment c.purge.ensures.outside)
+    (may_commit d e keyed s.folder now s.alone s.alone c.purge.ensures.path c.purge.ensures.run)
 
 pub returns-clause-cause : goal.returns-clause-cause
 returns-clause-cause g c = record {
   later = c.purge.ensures.cause.later;
   failed = c.purge.ensures.cause.failed;
-  damaged = λ honest is base holds. c.purge.ensures.damaged honest is g.H.Digest.keyed base holds;
+  damaged = λ honest is base holds. c.purge.ensures.cause.damaged honest is g.H.Digest.keyed base holds;
 }

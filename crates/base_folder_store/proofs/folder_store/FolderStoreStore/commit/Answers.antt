@@ -13,8 +13,8 @@ returns-clause-committed g c =
     let now = c.commit.new.self in
     let says = c.commit.ensures in
     commits_where (state_of d keyed s.folder s.alone) (state_of e keyed now s.alone) (IsIndexed d s.folder s.index) (IsIndexed e now s.index) c.commit.result
-    (committed d e keyed s.folder now s.alone s.alone c.commit.result says.named says.opened says.same says.committed says.outside)
-    (indexed_same d e s.folder now s.index c.commit.result says.same says.outside.honest c.requires.1)
+    (committed d e keyed s.folder now s.alone s.alone c.commit.result says.stays says.done says.run.outside)
+    (indexed_same d e s.folder now s.index c.commit.result says.done.same says.run.outside.honest c.requires.1)
 
 pub returns-clause-either : goal.returns-clause-either
 returns-clause-either g c =
@@ -24,7 +24,7 @@ returns-clause-either g c =
     let keyed = g.H.Digest.keyed in
     let now = c.commit.new.self in
     may_commit_where (state_of d keyed s.folder s.alone) (state_of e keyed now s.alone) (IsIndexed d s.folder s.index) (IsIndexed e now s.index)
-    (may_commit d e keyed s.folder now s.alone s.alone c.commit.ensures.path c.commit.ensures.any_moment c.commit.ensures.outside)
+    (may_commit d e keyed s.folder now s.alone s.alone c.commit.ensures.stays.path c.commit.ensures.run)
 
 pub returns-clause-refused : goal.returns-clause-refused
 returns-clause-refused g c is =
@@ -34,4 +34,4 @@ returns-clause-refused g c is =
     let keyed = g.H.Digest.keyed in
     let now = c.commit.new.self in
     nothing_where (state_of d keyed s.folder s.alone) (state_of e keyed now s.alone) (IsIndexed d s.folder s.index) (IsIndexed e now s.index)
-    (stages d e keyed s.folder now s.alone s.alone c.commit.ensures.path (λ honest. c.commit.ensures.refused honest is) c.commit.ensures.outside)
+    (stages d e keyed s.folder now s.alone s.alone c.commit.ensures.stays.path (record { any_moment = λ honest. c.commit.ensures.refused honest is; outside = c.commit.ensures.run.outside }))

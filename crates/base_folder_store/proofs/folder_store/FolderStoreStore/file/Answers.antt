@@ -29,7 +29,7 @@ returns-clause-filed g c = λ honest base holds.
     let before = held_by (g.D.Disk.state s.disk) s.folder in
     let stored = subst (λ (l : List ℕ). IsStoredAlone c.args.message l) (sym c.deref-2.ensures.value) c.in_ok-bytes.ensures.stored in
     let after = held_by (g.D.Disk.state c.stage.new.disk) c.stage.new.self in
-    done_both (λ staged fits. filed_more keyed after before base c.args.message c.args.key c.deref-2.result.now c.deref.result.now c.digest-digest.result staged fits holds stored c.in_ok-bytes.ensures.filed c.requires.own (c.requires.new (c.stage.ensures.outside.honest honest) base holds) (c.deref.ensures.value ∙ c.in_ok-digested.ensures) c.digest-digest.ensures)
+    done_both (λ staged fits. filed_more keyed after before base c.args.message c.args.key c.deref-2.result.now c.deref.result.now c.digest-digest.result staged fits holds stored c.in_ok-bytes.ensures.filed c.requires.own (c.requires.new (c.stage.ensures.run.outside.honest honest) base holds) (c.deref.ensures.value ∙ c.in_ok-digested.ensures) c.digest-digest.ensures)
     c.stage.result (c.stage.ensures.staged honest) (c.stage.ensures.fits honest)
 
 pub returns-clause-goes_on : goal.returns-clause-goes_on
@@ -41,8 +41,8 @@ returns-clause-goes_on g c =
     let now = c.stage.new.self in
     let says = c.stage.ensures in
     goes_on_where (state_of d keyed s.folder s.alone) (state_of e keyed now s.alone) (IsIndexed d s.folder s.index) (IsIndexed e now s.index) c.stage.result
-    (went_on d e keyed s.folder now s.alone s.alone c.stage.result says.named says.opened says.same says.outside)
-    (indexed_more d e s.folder now s.index c.stage.result c.deref-2.result.now c.digest-digest.result says.staged says.outside.honest c.requires.ready.1)
+    (went_on d e keyed s.folder now s.alone s.alone c.stage.result says.stays says.same says.run.outside)
+    (indexed_more d e s.folder now s.index c.stage.result c.deref-2.result.now c.digest-digest.result says.staged says.run.outside.honest c.requires.ready.1)
 
 pub returns-clause-undone : goal.returns-clause-undone
 returns-clause-undone g c = at_error c.stage.result (λ honest undoes base holds. absurd undoes)
@@ -55,7 +55,7 @@ returns-clause-commits g c =
     let keyed = g.H.Digest.keyed in
     let now = c.stage.new.self in
     nothing_where (state_of d keyed s.folder s.alone) (state_of e keyed now s.alone) (IsIndexed d s.folder s.index) (IsIndexed e now s.index)
-    (stages d e keyed s.folder now s.alone s.alone c.stage.ensures.path c.stage.ensures.any_moment c.stage.ensures.outside)
+    (stages d e keyed s.folder now s.alone s.alone c.stage.ensures.stays.path c.stage.ensures.run)
 
 pub returns-in_err-bytes-clause-many : goal.returns-in_err-bytes-clause-many
 returns-in_err-bytes-clause-many g c is room =

@@ -10,10 +10,10 @@ returns-in-Ok-clause-opened g c =
     let disk = g.D.Disk.state store.disk in
     let s = where_so (state_of disk g.H.Digest.keyed store.folder store.alone) (IsIndexed disk store.folder store.index) in
     is_opened g.H.Digest.keyed at.path.now (g.D.Disk.state c.args.disk) s at.links.now c.args.self.found.strange begun.links _ _
-    c.in-Ok.ensures.ready c.in-Ok.ensures.begun c.in-Ok.ensures.of_folder c.in-Ok.ensures.later
+    c.in-Ok.ensures.of_folder.0.ready c.in-Ok.ensures.begun c.in-Ok.ensures.of_folder.0 c.in-Ok.ensures.later
 
 pub returns-in-Err-clause-stopped : goal.returns-in-Err-clause-stopped
 returns-in-Err-clause-stopped g c =
     let at = c.args.self.at in
     is_not_opened g.H.Digest.keyed at.path.now (g.D.Disk.state c.args.disk) (g.D.Disk.state c.in-Err.stopped.disk) at.links.now at.base.now c.args.self.found.strange _ c.in-Err.stopped.fault
-    c.in-Err.ensures.err c.in-Err.ensures.any_moment c.in-Err.ensures.outside
+    c.in-Err.ensures.err (λ honest. c.in-Err.ensures.run.any_moment honest g.H.Digest.keyed) c.in-Err.ensures.run.outside

@@ -1,0 +1,84 @@
+-- Runs of calls on an open base folder, one after another.
+use Rattle.std.proofs.Common.{◌≡◌, inl, inr, ⊎_elim, List, ℕ, Result, ◌∙◌, subst}
+use Rattle.disk_io.specs.Disk.{DiskState, Honestly}
+use Rattle.disk_io.specs.Runs.{ChangesNothing}
+use Rattle.disk_io.proofs.Moments.{then_nothing, then_run, weaker_run}
+use Rattle.base_log.specs.Moments.{IsBeforeOrAfter, StandsAlone}
+use Rattle.base_log.specs.Standing.{BaseBytes, StandsFor}
+use Rattle.base_log.proofs.Gates.{outside_quiet, outside_twice}
+use Rattle.base_store.specs.declared.store_error.StoreError.{StoreError}
+use Rattle.base_folder_store.specs.Calls.{CommitsOnly, StagesOnly, StaysOpen}
+use Rattle.base_folder_store.specs.Opened.{IsOpen, committed_by, path_of}
+use Rattle.base_folder_store.specs.declared.folder.Folder.{Folder}
+use Rattle.base_folder_store.proofs.Staged.{nothing_left, outside_same}
+
+-- nothing was called
+pub run_none : (d : DiskState) (f : Folder) → Honestly d (IsOpen d f) → StagesOnly (path_of f) (committed_by d f) d d
+run_none d f opened = record { any_moment = λ honest. nothing_left d f (opened honest); outside = outside_same (path_of f) d }
+
+-- the disk was only looked at
+pub run_quiet : (d e : DiskState) (f : Folder) → Honestly d (IsOpen d f) → ChangesNothing d e → StagesOnly (path_of f) (committed_by d f) d e
+run_quiet d e f opened quiet = record {
+  any_moment = λ honest. then_nothing d d e (StandsAlone (path_of f) d (committed_by d f)) (nothing_left d f (opened (quiet.honest honest))) quiet;
+  outside = outside_quiet (path_of f) d e quiet;
+}
+
+-- one run that stages after another
+pub run_twice : (path here : List ℕ) (d e f : DiskState) (base now : BaseBytes) → here ≡ path → StagesOnly path base d e → StagesOnly here now e f → Honestly e (now ≡ base) → StagesOnly path base d f
+run_twice path here d e f base now at one there same =
+    let two = subst (λ (p : List ℕ). StagesOnly p now e f) at there in
+    let kept = one.outside in
+    record {
+      any_moment = λ honest.
+          let h1 = two.outside.honest honest in
+          then_run d e f (StandsAlone path d base) (StandsAlone path e now) (one.any_moment h1) (two.any_moment honest)
+          (λ c left. record {
+            outside = λ m out named flushed. left.outside m out (kept.named m out named) (kept.flushed m out flushed) ∙ kept.seen m out;
+            stands = subst (λ (b : BaseBytes). StandsFor path b c) (same h1) left.stands;
+          });
+      outside = outside_twice path d e f kept two.outside;
+    }
+
+-- what stages commits nothing
+pub run_staged : (path : List ℕ) (d e : DiskState) (first next : BaseBytes) → StagesOnly path first d e → CommitsOnly path first next d e
+run_staged path d e first next one = record {
+  any_moment = λ honest. weaker_run d e (StandsAlone path d first) (IsBeforeOrAfter path d first next) (one.any_moment honest) (λ c left. record { outside = left.outside; stands = inl left.stands });
+  outside = one.outside;
+}
+
+-- a commit after a run that stages
+pub run_to_commit : (path here : List ℕ) (d e f : DiskState) (first next now held : BaseBytes) → here ≡ path → StagesOnly path first d e → CommitsOnly here now held e f → Honestly e (now ≡ first) → Honestly e (held ≡ next)
+    → CommitsOnly path first next d f
+run_to_commit path here d e f first next now held at one there same more =
+    let two = subst (λ (p : List ℕ). CommitsOnly p now held e f) at there in
+    let kept = one.outside in
+    record {
+      any_moment = λ honest.
+          let h1 = two.outside.honest honest in
+          then_run d e f (IsBeforeOrAfter path d first next) (IsBeforeOrAfter path e now held) ((run_staged path d e first next one).any_moment h1) (two.any_moment honest)
+          (λ c left. record {
+            outside = λ m out named flushed. left.outside m out (kept.named m out named) (kept.flushed m out flushed) ∙ kept.seen m out;
+            stands = ⊎_elim (λ (s : StandsFor path now c). inl (subst (λ (b : BaseBytes). StandsFor path b c) (same h1) s)) (λ (s : StandsFor path held c). inr (subst (λ (b : BaseBytes). StandsFor path b c) (more h1) s)) left.stands;
+          });
+      outside = outside_twice path d e f kept two.outside;
+    }
+
+-- and a run that stages after a commit
+pub run_from_commit : (path here : List ℕ) (d e f : DiskState) (first next now : BaseBytes) → here ≡ path → CommitsOnly path first next d e → StagesOnly here now e f → Honestly e (now ≡ next) → CommitsOnly path first next d f
+run_from_commit path here d e f first next now at one there same =
+    let two = subst (λ (p : List ℕ). StagesOnly p now e f) at there in
+    let kept = one.outside in
+    record {
+      any_moment = λ honest.
+          let h1 = two.outside.honest honest in
+          then_run d e f (IsBeforeOrAfter path d first next) (StandsAlone path e now) (one.any_moment h1) (two.any_moment honest)
+          (λ c left. record {
+            outside = λ m out named flushed. left.outside m out (kept.named m out named) (kept.flushed m out flushed) ∙ kept.seen m out;
+            stands = inr (subst (λ (b : BaseBytes). StandsFor path b c) (same h1) left.stands);
+          });
+      outside = outside_twice path d e f kept two.outside;
+    }
+
+-- an open folder stays open in two calls
+pub stays_twice : {T U : Type 0} {d : DiskState} {e : DiskState} {f g h : Folder} {one : Result T StoreError} (two : Result U StoreError) → StaysOpen f g d one → StaysOpen g h e two → StaysOpen f h e two
+stays_twice two was now = record { named = now.named; opened = now.opened; path = now.path ∙ was.path; mark = now.mark ∙ was.mark }

@@ -1,0 +1,66 @@
+-- What calls on an open base folder do.
+use Rattle.std.specs.Prelude.{◌≡◌, ◌≤◌, ℕ, List, Result, IsErrOf, OnOk}
+use Rattle.disk_io.specs.Device.{Failed}
+use Rattle.disk_io.specs.Disk.{DiskState, Files, Honestly}
+use Rattle.disk_io.specs.Runs.{LeavesOnly}
+use Rattle.base_log.specs.AtRest.{IsAtRest, IsStaged}
+use Rattle.base_log.specs.Moments.{IsBeforeOrAfter, KeepsOutside, StandsAlone}
+use Rattle.base_log.specs.Standing.{BaseBytes, and_keys, and_messages, base_at}
+use Rattle.base_log.specs.declared.log.CommitRecord.{CommitRecord}
+use Rattle.base_log.specs.declared.log.End.{End}
+use Rattle.base_store.specs.declared.store_error.StoreError.{StoreError}
+use Rattle.base_store.specs.declared.store_error.StoreError.TheVariants as error
+use Rattle.base_folder_store.specs.Added.{SameBesideBoth}
+use Rattle.base_folder_store.specs.Opened.{IsNamed, IsOpen, IsWritten, committed_by, held_by, path_of}
+use Rattle.base_folder_store.specs.declared.folder.Folder.{Folder}
+
+-- It keeps its path, its owner and its key. It is open still, unless the call failed.
+pub record StaysOpen {T : Type 0} (old new : Folder) (disk : DiskState) (result : Result T StoreError) : Type 0 where
+  pub named : IsNamed new
+  pub opened : Honestly disk (OnOk result (IsOpen disk new))
+  pub path : path_of new ≡ path_of old
+  pub mark : new.told.mark ≡ old.told.mark
+
+-- It has the same files, and no other file has changed. What was committed last is the same.
+pub record StaysInFiles (old new : Folder) (before after : Files) : Type 0 where
+  pub end : new.end ≡ old.end
+  pub number : new.told.number ≡ old.told.number
+  pub beside : SameBesideBoth (path_of old) old.told.number before after
+
+-- A run that commits nothing: a crash at any time leaves this base. Nothing outside the folder has changed.
+pub record StagesOnly (path : List ℕ) (base : BaseBytes) (old new : DiskState) : Type 0 where
+  pub any_moment : Honestly new (LeavesOnly old new (StandsAlone path old base))
+  pub outside : KeepsOutside path old new
+
+-- A run that commits at most once: a crash at any time leaves the base from before or the one after. Nothing outside the folder has changed.
+pub record CommitsOnly (path : List ℕ) (first next : BaseBytes) (old new : DiskState) : Type 0 where
+  pub any_moment : Honestly new (LeavesOnly old new (IsBeforeOrAfter path old first next))
+  pub outside : KeepsOutside path old new
+
+-- Nothing waits any more. It holds what it held, and has committed what it had, unless the call failed.
+pub record IsWrittenOut {T : Type 0} (before after : DiskState) (old new : Folder) (result : Result T StoreError) : Type 0 where
+  pub written : OnOk result (IsWritten new)
+  pub held : Honestly after (OnOk result (held_by after new ≡ held_by before old))
+  pub same : Honestly after (OnOk result (committed_by after new ≡ committed_by before old))
+
+-- What was held is held and committed, in files at rest, unless the call failed.
+pub record IsAcknowledged {T : Type 0} (before after : DiskState) (old new : Folder) (result : Result T StoreError) : Type 0 where
+  pub written : OnOk result (IsWritten new)
+  pub told : OnOk result (new.end.told ≡ new.told)
+  pub same : Honestly after (OnOk result (held_by after new ≡ held_by before old))
+  pub committed : Honestly after (OnOk result (committed_by after new ≡ held_by before old))
+  pub settled : Honestly after (OnOk result (IsAtRest after (path_of new) new.end))
+
+-- Both files have these bytes more, which no record counts. What was committed last is the same.
+pub record StagesBoth (path : List ℕ) (before after : DiskState) (end : End) (told more : CommitRecord) (bytes keys : List ℕ) : Type 0 where
+  pub staged : Honestly after (IsStaged after path end more)
+  pub added : Honestly after (base_at after path more ≡ and_keys (and_messages (base_at before path told) bytes) keys)
+  pub same : Honestly after (base_at after path end.told ≡ base_at before path end.told)
+  pub number : more.number ≡ told.number
+  pub mark : more.mark ≡ told.mark
+
+-- A failure of the device is answered only where its count of failures rose, and damage never.
+pub record HasWriteCause {T : Type 0} (before now : ℕ) (result : Result T StoreError) : Type 0 where
+  pub later : before ≤ now
+  pub failed : IsErrOf result error.Device → Failed before now
+  pub whole : IsErrOf result error.Damaged → ⊥
