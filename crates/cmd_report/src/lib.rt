@@ -2,7 +2,7 @@
 //! files of packets.
 //!
 //! The contract for the commands: a draft of the words of a posting, the words that a message gives to an answer, the
-//! file and the line of each packet, and just the lines of what was done. A packet is tossed as `toss_packet_in` does
+//! name and the line of each packet, and just the lines of what was done. A packet is tossed as `toss_packet_in` does
 //! it. Just the lines of its messages that were not filed are appended to a text, in order.
 //!
 //! Begin with `lines` (the printed lines). `posting`, `replying`, `scanning` and `tossing` belong to one command each.
@@ -23,6 +23,6 @@ pub use coming::PacketFiles;
 pub use lines::{MOST_TALLY, push_posted, push_purged, push_tally};
 pub use posting::{NewMessage, draft_of};
 pub use replying::{Answer, ReplyFields, found_in, is_id};
-pub use scanning::{packet_files, push_packet, resent_name};
+pub use scanning::{PlannedPacket, planned_packets, push_packet, resent_name};
 pub use storing::toss_noting_in;
 pub use tossing::fault_of;

@@ -1,42 +1,44 @@
-//! The files of the packets of a scan, and their lines.
+//! The names of the packets of a scan, and their lines.
 ghost use Rattle.std.specs.Prelude.{◌≡◌, ◌++◌, map, IfOk, OnOk};
 ghost use Rattle.std.specs.List.{flat_map};
-ghost use Rattle.cmd_report.specs.Scanned.{file_sent, line_sent, packet_name, resent_name};
+ghost use Rattle.cmd_report.specs.Scanned.{counted_line, line_sent, packet_name, planned_for, resent_name};
 ghost use Rattle.cmd_report.specs.Lines.{named_receiver};
 
 use crate::lines::push_sent;
 use echo_addr::{Address, Items};
 use echo_packet::Header;
-use model_steps::{Packet, PacketFile};
+use echo_toss::CountedPacket;
+use model_steps::Packet;
 use std::alloc::{AllocError, Global};
 
-/// The file of each packet. Adds a line for each.
-pub fn packet_files(
-    alloc: Global,
-    packets: Vec<Packet>,
-    before: usize,
-    lines: &mut Vec<u8>,
-) -> Result<Vec<PacketFile>, AllocError>
-    ensures files { IfOk result (λ files. files.items ≡ map (file_sent before) packets.items) }
-    ensures lines { OnOk result (lines.new.items ≡ lines.old.items ++ flat_map line_sent packets.items) }
-{
-    let mut files = Vec::with_capacity(alloc, packets.len())?;
-    'packets: for packet in packets {
-        push_packet(lines, &packet)?;
-        files.push(packet_file(alloc, packet, before)?)?;
-    }
-    Ok(files)
+/// A packet that is to be made: its name in the folder of packets, and its address. Its bytes are made when they are
+/// written.
+#[derive(Debug, Drop)]
+pub struct PlannedPacket {
+    pub name: Items<u8>,
+    pub to: Address,
 }
 
-// The file of a packet.
-fn packet_file(alloc: Global, packet: Packet, before: usize) -> Result<PacketFile, AllocError>
-    ensures { IfOk result (λ file. file ≡ file_sent before packet) }
+/// The name of each packet, with this number of messages scanned before. Adds a line for each.
+pub fn planned_packets(
+    alloc: Global,
+    packets: &[CountedPacket],
+    before: usize,
+    lines: &mut Vec<u8>,
+) -> Result<Vec<PlannedPacket>, AllocError>
+    ensures planned { IfOk result (λ planned. planned.items ≡ map (planned_for before) packets.now) }
+    ensures lines { OnOk result (lines.new.items ≡ lines.old.items ++ flat_map counted_line packets.now) }
 {
-    let name = packet_name(alloc, destination(&packet.header), before)?;
-    Ok(PacketFile {
-        name: Items::new(name),
-        packet,
-    })
+    let mut planned = Vec::with_capacity(alloc, packets.len())?;
+    'packets: for packet in packets {
+        push_sent(lines, packet.to, packet.messages, packet.bytes)?;
+        let name = packet_name(alloc, packet.to, before)?;
+        planned.push(PlannedPacket {
+            name: Items::new(name),
+            to: packet.to,
+        })?;
+    }
+    Ok(planned)
 }
 
 // Whom a packet is for.

@@ -1,16 +1,25 @@
 -- Scans of a store.
-use Rattle.std.proofs.Common.{◌≡◌, ◌++◌, ℕ, true, List, [], map, inr, Err, refl, ap, ◌∙◌}
+use Rattle.std.proofs.Common.{◌≡◌, ◌++◌, ℕ, true, List, [], ◌∷◌, drop, map, inr, Err, refl, ap, subst, ◌∙◌}
 use Rattle.std.specs.List.{flat_map}
+use Rattle.echo_addr.specs.declared.address.Address.{Address}
+use Rattle.echo_packet.specs.Packet.{packet_bytes}
+use Rattle.echo_links.specs.Links.{LinkFile}
+use Rattle.echo_filed.specs.Sets.{address_set}
 use Rattle.model_steps.specs.PacketFiles.{PacketFile}
-use Rattle.cmd_report.specs.Scanned.{file_sent, line_sent}
+use Rattle.cmd_report.specs.Scanned.{counted_line, file_sent, file_with, line_sent, planned_for}
+use Rattle.cmd_report.specs.declared.scanning.PlannedPacket.{PlannedPacket}
 use Rattle.cmd_status.proofs.Lines.{alone}
 use Rattle.cmd_status.specs.Devices.{Output}
 use Rattle.model_steps.specs.declared.packet.Packet.{Packet}
 use Rattle.model_steps.specs.declared.stamp.Stamp.{Stamp}
-use Rattle.model_steps.specs.Scanning.{scanned}
+use Rattle.model_steps.specs.Scanning.{header_to, scanned}
 use Rattle.model_steps.specs.Stamps.{is_stamp}
 use Rattle.model_steps.specs.SystemState.{SystemState}
 use Rattle.base_store.specs.Store.{HasStoreCause, StoreState}
+use Rattle.echo_toss.specs.declared.counting.CountedPacket.{CountedPacket}
+use Rattle.echo_toss.specs.Counts.{bytes_for, copies_out, counted_of}
+use Rattle.echo_toss.specs.Exports.{Outgoing, packet_out, packets_out, sent_of}
+use Rattle.echo_toss.proofs.Exports.{scan_made}
 use Rattle.echo_toss.specs.declared.step_error.ScanStepError.{ScanStepError}
 use Rattle.echo_toss.specs.declared.step_error.ScanStepError.TheVariants as scan
 use Rattle.echo_toss.specs.Stores.{IsScanStop, scan_answer}
@@ -28,12 +37,32 @@ pub scan_caused : (A B : Type 0) (old new : StoreState) (before now : ℕ) (why 
 scan_caused A B old new before now scan.BadStamp cause = cause
 scan_caused A B old new before now (scan.Store why) cause = cause
 
+-- ---- what was counted, as the packets of the scan
+
+lines_counted : (all : List Packet) → flat_map counted_line (map counted_of all) ≡ flat_map line_sent all
+lines_counted [] = refl
+lines_counted (p ∷ all) = ap (λ (l : List ℕ). line_sent p ++ l) (lines_counted all)
+
+files_counted : (file : LinkFile) (stamp : Stamp) (sent : List Outgoing) (before : ℕ) (all : List Address)
+    → map (file_with (λ a. packet_bytes (header_to file stamp a) (copies_out a sent))) (map (planned_for before) (map counted_of (map (packet_out file stamp sent) all))) ≡ map (file_sent before) (map (packet_out file stamp sent) all)
+unfolding header_to
+files_counted file stamp sent before [] = refl
+files_counted file stamp sent before (a ∷ all) = ap (λ (l : List PacketFile). file_sent before (packet_out file stamp sent a) ∷ l) (files_counted file stamp sent before all)
+
 -- the packets, their files and their lines
-pub scanned_at : (stamp : Stamp) (system : SystemState) (packets : List Packet) (sent : List PacketFile) (before : ℕ) (none lines : List ℕ) → is_stamp stamp ≡ true
-    → packets ≡ scanned system.file system.base system.cursor stamp → before ≡ system.cursor → sent ≡ map (file_sent before) packets → none ≡ [] → lines ≡ none ++ flat_map line_sent packets
-    → IsScannedAt stamp system lines sent
-scanned_at stamp system packets sent before none lines moment made first files nothing whole = record {
-  moment = moment;
-  printed = alone none lines (flat_map line_sent packets) nothing whole ∙ ap (λ (ps : List Packet). flat_map line_sent ps) made;
-  packets = files ∙ ap (λ (n : ℕ). map (file_sent n) packets) first ∙ ap (λ (ps : List Packet). map (file_sent system.cursor) ps) made;
-}
+pub scanned_at : (stamp : Stamp) (system : SystemState) (packets : List CountedPacket) (planned : List PlannedPacket) (before : ℕ) (none lines : List ℕ) → is_stamp stamp ≡ true
+    → packets ≡ map counted_of (scanned system.file system.base system.cursor stamp) → before ≡ system.cursor → planned ≡ map (planned_for before) packets → none ≡ [] → lines ≡ none ++ flat_map counted_line packets
+    → IsScannedAt stamp system lines (map (file_with (bytes_for system.file stamp system.cursor system.base)) planned)
+scanned_at stamp system packets planned before none lines moment counts first names nothing whole =
+    let all = scanned system.file system.base system.cursor stamp in
+    let sent = sent_of system.file (drop system.cursor system.base) in
+    let content = bytes_for system.file stamp system.cursor system.base in
+    let made : packets_out system.file stamp sent ≡ all = scan_made system.file stamp system.base system.cursor (packets_out system.file stamp sent) sent refl refl in
+    let filed : map (file_with content) (map (planned_for system.cursor) (map counted_of all)) ≡ map (file_sent system.cursor) all =
+    subst (λ (ps : List Packet). map (file_with content) (map (planned_for system.cursor) (map counted_of ps)) ≡ map (file_sent system.cursor) ps) made
+    (files_counted system.file stamp sent system.cursor (address_set (flat_map (λ o. o.targets) sent))) in
+    record {
+      moment = moment;
+      printed = alone none lines (flat_map counted_line packets) nothing whole ∙ ap (λ (ps : List CountedPacket). flat_map counted_line ps) counts ∙ lines_counted all;
+      packets = ap (map (file_with content)) (names ∙ ap (λ (n : ℕ). map (planned_for n) packets) first ∙ ap (map (planned_for system.cursor)) counts) ∙ filed;
+    }

@@ -1,8 +1,10 @@
 -- What `scan` prints of the base that a store holds, and its packets.
-use Rattle.std.specs.Prelude.{◌≡◌, true, false, ℕ, List, map, Result}
+use Rattle.std.specs.Prelude.{◌≡◌, true, false, ℕ, List, map, Result, Ok, Err}
 use Rattle.std.specs.List.{flat_map}
 use Rattle.model_steps.specs.PacketFiles.{PacketFile}
-use Rattle.cmd_report.specs.Scanned.{file_sent, line_sent}
+use Rattle.echo_addr.specs.declared.address.Address.{Address}
+use Rattle.cmd_report.specs.Scanned.{file_sent, file_with, line_sent}
+use Rattle.cmd_report.specs.declared.scanning.PlannedPacket.{PlannedPacket}
 use Rattle.cmd_status.specs.declared.fault.Fault.{Fault}
 use Rattle.cmd_status.specs.declared.fault.Fault.TheVariants.{Scan}
 use Rattle.cmd_status.specs.Devices.{Output}
@@ -19,6 +21,11 @@ pub record IsScannedAt (stamp : Stamp) (system : SystemState) (lines : List ℕ)
   pub moment : is_stamp stamp ≡ true
   pub printed : lines ≡ flat_map line_sent (scanned system.file system.base system.cursor stamp)
   pub packets : files ≡ map (file_sent system.cursor) (scanned system.file system.base system.cursor stamp)
+
+-- What was planned, as files with these bytes for each address.
+abbrev pub files_made : (Address → List ℕ) → Result (List PlannedPacket) CommandError → Result (List PacketFile) CommandError
+files_made content (Ok planned) = Ok (map (file_with content) planned)
+files_made content (Err why) = Err why
 
 -- A part of the stamp is out of its range.
 abbrev pub IsUnscannedAt : Stamp → Fault → Type 0

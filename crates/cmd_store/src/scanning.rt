@@ -5,33 +5,35 @@ ghost use Rattle.disk_io.specs.Runs.{ChangesNothing};
 ghost use Rattle.base_file.specs.Base.{Base};
 ghost use Rattle.cmd_status.specs.Devices.{output_of};
 ghost use Rattle.base_store.specs.Store.{CommitsNothing, GoesOn, HasStoreCause, all_scanned};
+ghost use Rattle.echo_toss.specs.Counts.{bytes_for};
 ghost use Rattle.echo_toss.specs.PacketsIn.{state_in};
-ghost use Rattle.cmd_store.specs.Scanned.{ScansOn};
+ghost use Rattle.cmd_store.specs.Scanned.{ScansOn, files_made};
 ghost use Rattle.cmd_store.specs.Stops.{store_answer};
 
 use crate::command_error::CommandError;
 use base_store::Store;
-use cmd_report::packet_files;
+use cmd_report::{PlannedPacket, planned_packets};
 use cmd_status::print_rest;
 use disk_io::Sink;
 use echo_addr::Items;
 use echo_links::LinkFile;
-use echo_toss::scan_step;
-use model_steps::{PacketFile, Stamp};
+use echo_toss::count_step;
+use model_steps::Stamp;
 use std::alloc::Global;
 
-/// `scan`: makes the packets of the messages that wait, and prints a line for each. Nothing is committed: the packets
-/// must be in staging files first, and then `commit_on` commits the cursor.
+/// `scan`: plans the packets of the messages that wait, and prints a line for each. The store then holds no waiting
+/// message. Nothing is committed: the packets must be in staging files first, and then a commit makes the cursor last.
 pub fn scan_on<'a, T: Store, W: Sink>(
     alloc: Global,
     stamp: Stamp,
     links: &LinkFile,
     store: &mut T,
     out: &mut W,
-) -> Result<Items<PacketFile>, CommandError<'a>>
+) -> Result<Items<PlannedPacket>, CommandError<'a>>
     requires { (T.state store.old).is_ready }
     ensures answers { Honestly (T.state store.new).disk ((base : Base) → (T.state store.old).keeps base
-        → ScansOn stamp (state_in links.now base) (output_of W.contents W.failures W.holds out.old) (output_of W.contents W.failures W.holds out.new) result) }
+        → ScansOn stamp (state_in links.now base) (output_of W.contents W.failures W.holds out.old) (output_of W.contents W.failures W.holds out.new)
+        (files_made (bytes_for links.now stamp base.cursor base.messages) result)) }
     ensures moved { Honestly (T.state store.new).disk ((base : Base) → (T.state store.old).keeps base → OnOk result ((T.state store.new).keeps (all_scanned base))) }
     ensures goes_on { OnOk result (GoesOn (T.state store.old) (T.state store.new)) }
     ensures quiet { ChangesNothing (T.state store.old).disk (T.state store.new).disk }
@@ -39,9 +41,9 @@ pub fn scan_on<'a, T: Store, W: Sink>(
     ensures cause { HasStoreCause (T.state store.old) (T.state store.new) (T.failures store.old) (T.failures store.new) (store_answer result) }
 {
     let before = store.cursor();
-    let packets = scan_step(alloc, links, store, stamp)?;
+    let packets = count_step(alloc, links, store, stamp)?;
     let mut lines = Vec::new(alloc);
-    let files = packet_files(alloc, packets, before, &mut lines)?;
+    let planned = planned_packets(alloc, &packets, before, &mut lines)?;
     print_rest(&mut lines, out)?;
-    Ok(Items::new(files))
+    Ok(Items::new(planned))
 }

@@ -1,5 +1,5 @@
 -- Packets that stand whole at one of their two paths, on the disk, and what naming another leaves of them.
-use Rattle.std.proofs.Common.{◌≡◌, ◌⊎◌, inl, inr, ⊎_elim, ◌∙◌, Bool, true, false, Some, refl, sym}
+use Rattle.std.proofs.Common.{◌≡◌, ◌⊎◌, inl, inr, ⊎_elim, ◌∙◌, Bool, true, false, List, ℕ, Some, refl, sym}
 use Rattle.disk_io.specs.Disk.{DiskState, Files}
 use Rattle.disk_atomic.specs.Changes.{ChangesOnly, HasOnDisk}
 use Rattle.disk_atomic.specs.Naming.{HasItsPath, HasMoved, Names, StandsWhole, StaysThere}
@@ -9,14 +9,14 @@ use Rattle.disk_atomic.proofs.Changes.{left_there, stays_on_disk}
 use Rattle.disk_atomic.proofs.Packets.{AtBoth}
 
 -- whatever a crash leaves, the packet stands whole at one of its two paths
-abbrev pub IsAnchored : DiskState → Outgoing → Type 0
-IsAnchored disk p = HasOnDisk disk p.path.now p.file.now.bytes ⊎ HasOnDisk disk p.staging.now p.file.now.bytes
+abbrev pub IsAnchored : (Outgoing → List ℕ) → DiskState → Outgoing → Type 0
+IsAnchored content disk p = HasOnDisk disk p.path.now (content p) ⊎ HasOnDisk disk p.staging.now (content p)
 
 -- its path has what it had
 abbrev pub IsSameAt : DiskState → DiskState → Outgoing → Type 0
 IsSameAt old new p = new.seen p.path.now ≡ old.seen p.path.now
 
-module _ (x y : Outgoing) (apart : AreApart x y) where
+module _ (content : Outgoing → List ℕ) (x y : Outgoing) (apart : AreApart x y) where
   pub not_path : AtBoth x y.path.now → ⊥
   not_path at = ⊎_elim (λ e. apart.staging_not_path (sym e)) (λ e. apart.paths (sym e)) at
 
@@ -25,19 +25,19 @@ module _ (x y : Outgoing) (apart : AreApart x y) where
 
   -- a run at the paths of x
   module _ (d e : DiskState) (run : ChangesOnly (AtBoth x) d e) where
-    pub anchor_stays : IsAnchored d y → IsAnchored e y
+    pub anchor_stays : IsAnchored content d y → IsAnchored content e y
     anchor_stays was =
-        ⊎_elim (λ on. inl (stays_on_disk (AtBoth x) d e y.path.now y.file.now.bytes run not_path on)) (λ on. inr (stays_on_disk (AtBoth x) d e y.staging.now y.file.now.bytes run not_staging on)) was
+        ⊎_elim (λ on. inl (stays_on_disk (AtBoth x) d e y.path.now (content y) run not_path on)) (λ on. inr (stays_on_disk (AtBoth x) d e y.staging.now (content y) run not_staging on)) was
 
-    pub staged_stays : IsStaged d y → IsStaged e y
+    pub staged_stays : IsStaged content d y → IsStaged content e y
     staged_stays was = record {
-      file = stays_on_disk (AtBoth x) d e y.staging.now y.file.now.bytes run not_staging was.file;
+      file = stays_on_disk (AtBoth x) d e y.staging.now (content y) run not_staging was.file;
       named = run.named y.path.now not_path was.named;
     }
 
-    pub has_path_stays : HasItsPath d y → HasItsPath e y
+    pub has_path_stays : HasItsPath content d y → HasItsPath content e y
     has_path_stays was = record {
-      file = stays_on_disk (AtBoth x) d e y.path.now y.file.now.bytes run not_path was.file;
+      file = stays_on_disk (AtBoth x) d e y.path.now (content y) run not_path was.file;
       gone = run.seen y.staging.now not_staging ∙ was.gone;
     }
 
@@ -45,25 +45,25 @@ module _ (x y : Outgoing) (apart : AreApart x y) where
     same_stays d0 was = run.seen y.path.now not_path ∙ was
 
   -- and what a crash leaves of it
-  pub whole_stays : (d : DiskState) (b c : Files) → d.may_leave b → Names x.path.now x.staging.now b c → IsAnchored d y → StandsWhole c y
+  pub whole_stays : (d : DiskState) (b c : Files) → d.may_leave b → Names x.path.now x.staging.now b c → IsAnchored content d y → StandsWhole content c y
   whole_stays d b c left names on =
       ⊎_elim
-      (λ at. inl (names.others y.path.now not_path ∙ left_there d y.path.now y.file.now.bytes at b left))
-      (λ at. inr (names.others y.staging.now not_staging ∙ left_there d y.staging.now y.file.now.bytes at b left))
+      (λ at. inl (names.others y.path.now not_path ∙ left_there d y.path.now (content y) at b left))
+      (λ at. inr (names.others y.staging.now not_staging ∙ left_there d y.staging.now (content y) at b left))
       on
 
 -- the packet that is named
-module _ (x : Outgoing) (d e : DiskState) (staged : HasOnDisk d x.staging.now x.file.now.bytes) where
-  pub has_path : HasMoved d e x.path.now x.staging.now → HasItsPath e x
+module _ (content : Outgoing → List ℕ) (x : Outgoing) (d e : DiskState) (staged : HasOnDisk d x.staging.now (content x)) where
+  pub has_path : HasMoved d e x.path.now x.staging.now → HasItsPath content e x
   has_path moved = record { file = record { seen = moved.seen ∙ staged.seen; named = moved.named; flushed = moved.flushed }; gone = moved.gone }
 
-  pub anchored_now : (named : Bool) → (named ≡ true → HasMoved d e x.path.now x.staging.now) → (named ≡ false → StaysThere d e x.staging.now) → IsAnchored e x
+  pub anchored_now : (named : Bool) → (named ≡ true → HasMoved d e x.path.now x.staging.now) → (named ≡ false → StaysThere d e x.staging.now) → IsAnchored content e x
   anchored_now true moved stays = inl (has_path (moved refl)).file
   anchored_now false moved stays =
       let still : StaysThere d e x.staging.now = stays refl in
       inr (record { seen = still.seen ∙ staged.seen; named = still.named staged.named; flushed = still.flushed staged.flushed })
 
-  pub whole_now : (b c : Files) → d.may_leave b → Names x.path.now x.staging.now b c → StandsWhole c x
+  pub whole_now : (b c : Files) → d.may_leave b → Names x.path.now x.staging.now b c → StandsWhole content c x
   whole_now b c left names =
-      let was : b x.staging.now ≡ Some x.file.now.bytes = left_there d x.staging.now x.file.now.bytes staged b left in
+      let was : b x.staging.now ≡ Some (content x) = left_there d x.staging.now (content x) staged b left in
       ⊎_elim (λ is. inl (is ∙ was)) (λ is. inr (is ∙ was)) names.stands

@@ -1,13 +1,15 @@
 -- Staging files of packets that are apart, one of which got longer.
-use Rattle.std.proofs.Common.{◌≡◌, ◌≢◌, ◌∙◌, ⊎_elim, ℕ, ◌<◌, ◌≤◌, ◌+◌, ◌++◌, List, ap, arith, get_or, length, refl, subst, sym}
+use Rattle.std.proofs.Common.{◌≡◌, ◌≢◌, ◌∙◌, ⊎_elim, ℕ, ◌<◌, ◌≤◌, ◌+◌, ◌++◌, List, ap, arith, get_or, length, subst, sym}
 use Rattle.std.specs.Prelude.{All, AllPairs, IsSome}
+use Rattle.std.specs.List.{AllWithin}
 use Rattle.std.proofs.lemmas.Bool.{cases_order}
+use Rattle.echo_addr.specs.declared.address.Address.{Address}
 use Rattle.std.proofs.lemmas.List.{get_or_default}
 use Rattle.disk_io.specs.Disk.{DiskState, bytes_in}
 use Rattle.disk_atomic.specs.Changes.{CanGrow, ChangesOnly}
-use Rattle.disk_atomic.specs.Outgoing.{AreApart, CanGrowStaging}
+use Rattle.disk_atomic.specs.Outgoing.{AreApart, CanGrowStaging, IsLonger, staged_in}
 use Rattle.disk_atomic.specs.declared.outgoing.Outgoing.{Outgoing}
-use Rattle.disk_atomic.proofs.Each.{apart}
+use Rattle.disk_atomic.proofs.Each.{apart, behind}
 use Rattle.disk_atomic.proofs.Packets.{At, apart_back}
 
 module _ (packets : List Outgoing) (pairs : AllPairs AreApart packets) (i : ℕ) (x : Outgoing) (lt : i < length packets) (is : x ≡ get_or packets i x) (d e : DiskState) (run : ChangesOnly (At x) d e) where
@@ -37,21 +39,14 @@ module _ (packets : List Outgoing) (pairs : AllPairs AreApart packets) (i : ℕ)
       (λ o. ⊎_elim (λ (low : k < i). grow_other k p (omega arith) within (all k p within)) (λ (high : i < k). grow_other k p (omega arith) within (all k p within)) o)
       (cases_order k i)
 
-  module _ (d0 : DiskState) (more : ℕ → List ℕ) (same : (k : ℕ) (p : Outgoing) → i ≤ k → k < length packets → d.seen (get_or packets k p).staging.now ≡ d0.seen (get_or packets k p).staging.now) where
+  -- those up to here got longer, the others are as they were first
+  module _ (d0 : DiskState) (more : Address → List ℕ) (same : (k : ℕ) (p : Outgoing) → i ≤ k → k < length packets → d.seen (get_or packets k p).staging.now ≡ d0.seen (get_or packets k p).staging.now) where
     pub still_same : (k : ℕ) (p : Outgoing) → i + 1 ≤ k → k < length packets → e.seen (get_or packets k p).staging.now ≡ d0.seen (get_or packets k p).staging.now
     still_same k p later within = same_other k p (omega arith) within ∙ same k p (omega arith) within
 
-    abbrev IsLonger : DiskState → ℕ → Outgoing → Type 0
-    IsLonger after k q = bytes_in (after.seen q.staging.now) ≡ bytes_in (d0.seen q.staging.now) ++ more k
-
-    pub one_longer : bytes_in (e.seen x.staging.now) ≡ bytes_in (d.seen x.staging.now) ++ more i → ((k : ℕ) (p : Outgoing) → k < i → k < length packets → IsLonger d k (get_or packets k p))
-        → (k : ℕ) (p : Outgoing) → k < i + 1 → k < length packets → IsLonger e k (get_or packets k p)
-    one_longer now was k p low within =
-        ⊎_elim
-        (λ (at : k ≡ i).
+    pub one_longer : staged_in e.seen x ≡ staged_in d.seen x ++ more x.to → AllWithin (IsLonger more d0 d) packets 0 i → AllWithin (IsLonger more d0 e) packets 0 (i + 1)
+    one_longer now was =
         let first : d.seen x.staging.now ≡ d0.seen x.staging.now = subst (λ (q : Outgoing). d.seen q.staging.now ≡ d0.seen q.staging.now) (sym is) (same i x (omega arith) lt) in
-        let here : IsLonger e i x = now ∙ ap (λ f. bytes_in f ++ more i) first in
-        subst (λ (n : ℕ). IsLonger e n (get_or packets n p)) (sym at) (subst (IsLonger e i) (sym (one_at i p refl)) here))
-        (λ o.
-        ⊎_elim (λ (before : k < i). ap bytes_in (same_other k p (omega arith) within) ∙ was k p before within) (λ (behind : i < k). absurd (omega (arith, low, behind))) o)
-        (cases_order k i)
+        let here : IsLonger more d0 e x = now ∙ ap (λ f. bytes_in f ++ more x.to) first in
+        behind AreApart apart_back packets pairs i x lt (IsLonger more d0 d) (IsLonger more d0 e) (λ y away before. ap bytes_in (run.seen y.staging.now (λ at. away.stagings (ap (λ (q : Outgoing). q.staging.now) (sym is) ∙ sym at))) ∙ before)
+        (subst (IsLonger more d0 e) is here) was

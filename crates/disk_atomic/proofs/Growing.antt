@@ -1,6 +1,6 @@
 -- A file that grows at its end.
-use Rattle.std.proofs.Common.{◌≡◌, ◌∙◌, ℕ, zero, suc, ◌+◌, ◌<◌, List, [], ◌∷◌, ◌++◌, length, take, drop, Some, ap, sym, subst, arith, append_assoc, length-append}
-use Rattle.std.proofs.lemmas.List.{append-nil, drop_all, nil_from_length, take_all}
+use Rattle.std.proofs.Common.{◌≡◌, ◌∙◌, ℕ, zero, suc, ◌+◌, ◌<◌, List, [], ◌∷◌, ◌++◌, length, take, drop, Some, ap, sym, subst, arith, length-append}
+use Rattle.std.proofs.lemmas.List.{append-nil, drop_all, take_all}
 use Rattle.std.specs.Prelude.{IsSome, slice_index}
 use Rattle.disk_io.specs.Disk.{DiskState, bytes_in}
 use Rattle.disk_io.specs.Fixed.{AreBytes}
@@ -43,15 +43,3 @@ grows_from_none disk path empty named alone =
       named = named;
       alone = alone;
     }
-
--- one message more
-pub one_behind : (file new piece longer left message : List ℕ) → longer ≡ piece ++ message → new ++ left ≡ file ++ longer → new ++ left ≡ file ++ piece ++ message
-one_behind file new piece longer left message is same =
-    same ∙ ap (λ (l : List ℕ). file ++ l) is ∙ sym (append_assoc file piece message)
-
--- all that was written, from a file of no bytes on
-pub packet_written : (none file all piece header messages end whole : List ℕ) → length none ≡ 0 → file ++ piece ≡ none ++ header ++ messages → all ≡ file ++ (piece ++ end)
-    → header ++ (messages ++ end) ≡ whole → all ≡ whole
-packet_written none file all piece header messages end whole empty so_far more is =
-    let nil : none ≡ [] = nil_from_length none empty in
-    more ∙ sym (append_assoc file piece end) ∙ ap (λ (l : List ℕ). l ++ end) so_far ∙ (λ k. ((nil k ++ header) ++ messages) ++ end) ∙ append_assoc header messages end ∙ is

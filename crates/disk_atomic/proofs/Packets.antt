@@ -5,10 +5,10 @@ use Rattle.std.proofs.lemmas.List.Elements.{at_read}
 use Rattle.std.specs.Prelude.{All, Contains}
 use Rattle.disk_io.specs.Disk.{DiskState}
 use Rattle.disk_io.specs.Runs.{ChangesNothing}
-use Rattle.disk_atomic.specs.Changes.{ChangesOnly, HasOnDisk}
+use Rattle.disk_atomic.specs.Changes.{ChangesOnly}
 use Rattle.disk_atomic.specs.Outgoing.{AreApart, ArePlaced, IsStagingOne, IsStagingGone, IsMade, IsStagingNamed, IsOfOne}
 use Rattle.disk_atomic.specs.declared.outgoing.Outgoing.{Outgoing}
-use Rattle.disk_atomic.proofs.Changes.{stays_on_disk, wider}
+use Rattle.disk_atomic.proofs.Changes.{wider}
 
 pub apart_back : (p q : Outgoing) → AreApart p q → AreApart q p
 apart_back p q a = record {
@@ -20,7 +20,7 @@ apart_back p q a = record {
 
 -- what a loop reads past the end
 abbrev pub nobody : Outgoing
-nobody = record { path = record { ref_ptr = (0, 0); now = [] }; staging = record { ref_ptr = (0, 0); now = [] }; file = record { ref_ptr = (0, 0); now = record { name = []; bytes = [] } } }
+nobody = record { path = record { ref_ptr = (0, 0); now = [] }; staging = record { ref_ptr = (0, 0); now = [] }; to = record { zone = 0; net = 0; node = 0 } }
 
 -- the path beside one of them
 abbrev pub At : Outgoing → List ℕ → Type 0
@@ -50,9 +50,6 @@ module _ (d e : DiskState) (x : Outgoing) (run : ChangesOnly (At x) d e) (y : Ou
 
   pub gone_stays : IsStagingGone d y → IsStagingGone e y
   gone_stays was = run.seen y.staging.now (λ at. apart.stagings (sym at)) ∙ was
-
-  pub filled_stays : HasOnDisk d y.staging.now y.file.now.bytes → HasOnDisk e y.staging.now y.file.now.bytes
-  filled_stays was = stays_on_disk (At x) d e y.staging.now y.file.now.bytes run (λ at. apart.stagings (sym at)) was
 
 -- a run that changes nothing
 pub made_through : (d e : DiskState) → ChangesNothing d e → (packets : List Outgoing) → All (IsMade d) packets → All (IsMade e) packets

@@ -37,15 +37,15 @@ pub record IsTaken (old : DiskState) (path staging : List ℕ) : Type 0 where
   pub other : old.seen path ≢ old.seen staging
 
 -- The packet is whole at one of its two paths.
-abbrev pub StandsWhole : Files → Outgoing → Type 0
-StandsWhole c p = (c p.path.now ≡ Some p.file.now.bytes) ⊎ (c p.staging.now ≡ Some p.file.now.bytes)
+abbrev pub StandsWhole : (Outgoing → List ℕ) → Files → Outgoing → Type 0
+StandsWhole content c p = (c p.path.now ≡ Some (content p)) ⊎ (c p.staging.now ≡ Some (content p))
 
 -- Each packet is whole at one of its two paths; all else is unchanged.
-pub record NamesEach (packets : List Outgoing) (before after : Files) : Type 0 where
+pub record NamesEach (content : Outgoing → List ℕ) (packets : List Outgoing) (before after : Files) : Type 0 where
   pub others : DifferAt (IsOfOne packets) before after
-  pub whole : All (StandsWhole after) packets
+  pub whole : All (StandsWhole content after) packets
 
 -- the packet has its path alone, on the disk
-pub record HasItsPath (disk : DiskState) (p : Outgoing) : Type 0 where
-  pub file : HasOnDisk disk p.path.now p.file.now.bytes
+pub record HasItsPath (content : Outgoing → List ℕ) (disk : DiskState) (p : Outgoing) : Type 0 where
+  pub file : HasOnDisk disk p.path.now (content p)
   pub gone : disk.seen p.staging.now ≡ None

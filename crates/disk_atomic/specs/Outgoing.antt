@@ -1,7 +1,8 @@
 -- Packets on the way to their paths.
-use Rattle.std.specs.Prelude.{◌≡◌, ◌≢◌, ◌⊎◌, ◌<◌, ◌++◌, ℕ, List, [], length, get_or, All, AllPairs, Contains, IsSome, Some, None}
+use Rattle.std.specs.Prelude.{◌≡◌, ◌≢◌, ◌⊎◌, ◌++◌, ℕ, List, [], All, AllPairs, Contains, IsSome, Some, None}
+use Rattle.echo_addr.specs.declared.address.Address.{Address}
 use Rattle.disk_io.specs.Fixed.{AreBytes}
-use Rattle.disk_io.specs.Disk.{DiskState, IsIn, bytes_in}
+use Rattle.disk_io.specs.Disk.{DiskState, Files, IsIn, bytes_in}
 use Rattle.disk_atomic.specs.Changes.{CanGrow, HasOnDisk}
 use Rattle.disk_atomic.specs.declared.outgoing.Outgoing.{Outgoing}
 
@@ -35,9 +36,13 @@ pub record ArePlaced (folder : List ℕ) (packets : List Outgoing) : Type 0 wher
   pub each : All (IsPlaced folder) packets
   pub apart : AllPairs AreApart packets
 
--- Its content is bytes.
-abbrev pub SendsBytes : Outgoing → Type 0
-SendsBytes p = AreBytes p.file.now.bytes
+-- Its content is bytes. What each packet has is given by a function, here and below.
+abbrev pub SendsBytes : (Outgoing → List ℕ) → Outgoing → Type 0
+SendsBytes content p = AreBytes (content p)
+
+-- the bytes of its staging file, where these files are seen
+abbrev pub staged_in : Files → Outgoing → List ℕ
+staged_in seen p = bytes_in (seen p.staging.now)
 
 -- No file has the packet's path.
 abbrev pub IsFree : DiskState → Outgoing → Type 0
@@ -60,10 +65,9 @@ pub record IsMade (disk : DiskState) (p : Outgoing) : Type 0 where
 abbrev pub CanGrowStaging : DiskState → Outgoing → Type 0
 CanGrowStaging disk p = CanGrow disk p.staging.now
 
--- Each staging file has these bytes behind those that it had; the packets are numbered.
-abbrev pub AreLonger : (ℕ → List ℕ) → List Outgoing → DiskState → DiskState → Type 0
-AreLonger more packets old new = (k : ℕ) (p : Outgoing) → k < length packets
-    → bytes_in (new.seen (get_or packets k p).staging.now) ≡ bytes_in (old.seen (get_or packets k p).staging.now) ++ more k
+-- Its staging file has the bytes for its address behind those that it had.
+abbrev pub IsLonger : (Address → List ℕ) → DiskState → DiskState → Outgoing → Type 0
+IsLonger more old new p = staged_in new.seen p ≡ staged_in old.seen p ++ more p.to
 
 -- Its staging file exists.
 abbrev pub HasStaging : DiskState → Outgoing → Type 0
@@ -74,10 +78,10 @@ abbrev pub IsStagingFlushed : DiskState → Outgoing → Type 0
 IsStagingFlushed disk p = disk.is_flushed p.staging.now
 
 -- The packet is in its staging file, on the disk.
-abbrev pub IsFilled : DiskState → Outgoing → Type 0
-IsFilled disk p = HasOnDisk disk p.staging.now p.file.now.bytes
+abbrev pub IsFilled : (Outgoing → List ℕ) → DiskState → Outgoing → Type 0
+IsFilled content disk p = HasOnDisk disk p.staging.now (content p)
 
 -- The packet is in its staging file, and whether its path leads to a file is on the disk too.
-pub record IsStaged (disk : DiskState) (p : Outgoing) : Type 0 where
-  pub file : HasOnDisk disk p.staging.now p.file.now.bytes
+pub record IsStaged (content : Outgoing → List ℕ) (disk : DiskState) (p : Outgoing) : Type 0 where
+  pub file : HasOnDisk disk p.staging.now (content p)
   pub named : disk.is_named p.path.now

@@ -1,27 +1,25 @@
 //! Files that grow at their end, piece by piece, while their length is asked of the disk.
-ghost use Rattle.std.specs.Prelude.{◌≡◌, ◌<◌, ◌++◌, ℕ, List, length, All, AllPairs, IfOk, OnOk};
+ghost use Rattle.std.specs.Prelude.{◌≡◌, ◌++◌, List, ℕ, All, AllPairs, IfOk, OnOk};
+ghost use Rattle.echo_addr.specs.declared.address.Address.{Address};
 ghost use Rattle.disk_io.specs.Fixed.{AreBytes};
 ghost use Rattle.disk_io.specs.Disk.{Honestly, bytes_in};
 ghost use Rattle.disk_io.specs.Runs.{ChangesNothing, HasCause, KeepsNamed};
 ghost use Rattle.disk_atomic.specs.Changes.{CanGrow, ChangesOnly};
-ghost use Rattle.disk_atomic.specs.Outgoing.{AreApart, AreLonger, CanGrowStaging, HasStaging, IsStagingFlushed, IsStagingOne};
+ghost use Rattle.disk_atomic.specs.Outgoing.{AreApart, CanGrowStaging, HasStaging, IsLonger, IsStagingFlushed, IsStagingOne, SendsBytes};
 
 use crate::outgoing::Outgoing;
 use disk_io::{Disk, DiskError, are_bytes};
+use echo_addr::Address;
 use std::alloc::{AllocError, Global};
 
 /// The next piece of each of some packets.
 pub trait Pieces {
-    // How many packets there are.
-    ghost many: { Self → ℕ };
+    // The bytes that come next in the packet for this address.
+    ghost bytes: { Self → Address → List ℕ };
 
-    // The bytes that come next in the packet of this number.
-    ghost bytes: { Self → ℕ → List ℕ };
-
-    /// The bytes that come next in the packet of this number, counted from 0.
-    fn piece(&self, alloc: Global, number: usize) -> Result<Vec<u8>, AllocError>
-        requires { number < many self.now }
-        ensures { IfOk result (λ piece. piece.items ≡ bytes self.now number) };
+    /// The bytes that come next in the packet for this address.
+    fn piece(&self, alloc: Global, to: Address) -> Result<Vec<u8>, AllocError>
+        ensures { IfOk result (λ piece. piece.items ≡ bytes self.now to) };
 }
 
 /// Writes the bytes behind those that the file has.
@@ -47,17 +45,17 @@ pub fn append_each<D: Disk, P: Pieces>(
     pieces: &P,
 ) -> Result<(), DiskError>
     requires apart { AllPairs AreApart packets.now }
-    requires many { P.many pieces.now ≡ length packets.now }
     requires grow { All (CanGrowStaging (D.state disk.old)) packets.now }
     ensures grow { OnOk result (All (CanGrowStaging (D.state disk.new)) packets.now) }
-    ensures longer { Honestly (D.state disk.new) (OnOk result (AreLonger (P.bytes pieces.now) packets.now (D.state disk.old) (D.state disk.new))) }
+    ensures longer { Honestly (D.state disk.new) (OnOk result (All (IsLonger (P.bytes pieces.now) (D.state disk.old) (D.state disk.new)) packets.now)) }
+    ensures bytes { OnOk result (All (SendsBytes (λ p. P.bytes pieces.now p.to)) packets.now) }
     ensures named { KeepsNamed (λ m. ⊥) (D.state disk.old) (D.state disk.new) }
     ensures changes { ChangesOnly (IsStagingOne packets.now) (D.state disk.old) (D.state disk.new) }
     ensures cause { HasCause (D.failures disk.old) (D.failures disk.new) result }
 {
-    'packets: for i in 0..packets.len() {
-        let piece = pieces.piece(alloc, i)?;
-        append_piece(disk, packets[i].staging, &piece)?;
+    'packets: for packet in packets {
+        let piece = pieces.piece(alloc, packet.to)?;
+        append_piece(disk, packet.staging, &piece)?;
     }
     Ok(())
 }

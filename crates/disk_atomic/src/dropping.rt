@@ -1,6 +1,7 @@
 //! Staging files of packets are removed.
-ghost use Rattle.std.specs.Prelude.{◌≡◌, ◌≤◌, All, AllPairs, None, OnOk};
+ghost use Rattle.std.specs.Prelude.{◌≡◌, All, AllPairs, None, OnOk};
 ghost use Rattle.disk_io.specs.Disk.{Honestly, IsIn};
+ghost use Rattle.disk_io.specs.Runs.{HasCause};
 ghost use Rattle.disk_atomic.specs.Changes.{ChangesOnly};
 ghost use Rattle.disk_atomic.specs.Outgoing.{AreApart, ArePlaced, IsAtStaging, IsStagingOne, IsStagingGone, IsStagingNamed, IsOfOne};
 
@@ -12,7 +13,7 @@ fn drop_one<D: Disk>(disk: &mut D, path: &[u8]) -> Result<(), DiskError>
     requires { (D.state disk.old).is_named path.now }
     ensures gone { Honestly (D.state disk.new) (OnOk result ((D.state disk.new).seen path.now ≡ None)) }
     ensures changes { ChangesOnly (λ m. m ≡ path.now) (D.state disk.old) (D.state disk.new) }
-    ensures later { D.failures disk.old ≤ D.failures disk.new }
+    ensures cause { HasCause (D.failures disk.old) (D.failures disk.new) result }
 {
     if !disk.exists(path)? {
         return Ok(());
@@ -26,7 +27,7 @@ fn drop_each<D: Disk>(disk: &mut D, packets: &[Outgoing<'_>]) -> Result<(), Disk
     requires named { All (IsStagingNamed (D.state disk.old)) packets.now }
     ensures gone { Honestly (D.state disk.new) (OnOk result (All (IsStagingGone (D.state disk.new)) packets.now)) }
     ensures changes { ChangesOnly (IsStagingOne packets.now) (D.state disk.old) (D.state disk.new) }
-    ensures later { D.failures disk.old ≤ D.failures disk.new }
+    ensures cause { HasCause (D.failures disk.old) (D.failures disk.new) result }
 {
     'packets: for packet in packets {
         drop_one(disk, packet.staging)?;
@@ -47,7 +48,7 @@ pub fn drop_staging<D: Disk>(
     ensures gone { Honestly (D.state disk.new) (OnOk result (All (IsStagingGone (D.state disk.new)) packets.now)) }
     ensures trial_gone { Honestly (D.state disk.new) (OnOk result ((D.state disk.new).seen trial.now ≡ None)) }
     ensures changes { ChangesOnly (IsAtStaging packets.now trial.now) (D.state disk.old) (D.state disk.new) }
-    ensures later { D.failures disk.old ≤ D.failures disk.new }
+    ensures cause { HasCause (D.failures disk.old) (D.failures disk.new) result }
 {
     sync_folder_of(disk, folder)?;
     drop_one(disk, trial)?;

@@ -1,10 +1,9 @@
 //! Files that are written whole: a crash leaves the old file or the new one, and packets together with a commit.
 //!
-//! Begin with `replacing` (a file is replaced whole), then `filling`, `outgoing` and `staged` (packets in staging
-//! files) and `naming` (packets get their paths). `appending` lets staging files grow piece by piece, `keeping` replaces
-//! a file of which a part stays; no command uses these two yet. `staging` writes and syncs one file. `trying` finds out
-//! whether a packet can get a second path. `dropping` removes staging files of packets, and `finishing` ends what a
-//! stopped scan left.
+//! Begin with `replacing` (a file is replaced whole), then `outgoing`, `staged` and `appending` (staging files of packets
+//! are made, and grow piece by piece) and `naming` (packets get their paths). `keeping` replaces a file of which a part
+//! stays, with `filling`; no command uses it yet. `staging` writes and syncs one file. `trying` finds out whether a packet
+//! can get a second path. `dropping` removes staging files of packets, and `finishing` ends what a stopped scan left.
 #![tactic(auto)]
 
 mod appending;
@@ -28,6 +27,6 @@ pub use naming::{name_packet, name_packets};
 pub use outgoing::Outgoing;
 pub use placing_error::PlacingError;
 pub use replacing::replace_file;
-pub use staged::{make_packets, stage_packets};
+pub use staged::make_packets;
 pub use staging::{fill_file, stage_file};
 pub use trying::try_link;

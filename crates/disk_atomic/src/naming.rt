@@ -4,7 +4,7 @@ ghost use Rattle.disk_io.specs.Disk.{Honestly, IsIn};
 ghost use Rattle.disk_io.specs.Runs.{ChangesNothing, HasCause, LeavesOnly, OneStepOn};
 ghost use Rattle.disk_atomic.specs.Changes.{ChangesOnly};
 ghost use Rattle.disk_atomic.specs.Naming.{Gives, HasItsPath, HasMoved, IsTaken, Names, NamesEach, StaysThere};
-ghost use Rattle.disk_atomic.specs.Outgoing.{ArePlaced, IsFree, IsOfOne, IsStaged};
+ghost use Rattle.disk_atomic.specs.Outgoing.{ArePlaced, IsFree, IsOfOne, IsStaged, staged_in};
 
 use crate::outgoing::Outgoing;
 use disk_io::{Disk, DiskError, read_file, sync_folder_of};
@@ -139,13 +139,13 @@ pub fn name_packets<D: Disk>(
     packets: &[Outgoing<'_>],
 ) -> Result<bool, DiskError>
     requires placed { ArePlaced folder.now packets.now }
-    requires staged { All (IsStaged (D.state disk.old)) packets.now }
-    ensures named { Honestly (D.state disk.new) (IfOk result (λ all. all ≡ true → All (HasItsPath (D.state disk.new)) packets.now)) }
+    requires staged { All (IsStaged (staged_in (D.state disk.old).seen) (D.state disk.old)) packets.now }
+    ensures named { Honestly (D.state disk.new) (IfOk result (λ all. all ≡ true → All (HasItsPath (staged_in (D.state disk.old).seen) (D.state disk.new)) packets.now)) }
     ensures taken { Honestly (D.state disk.new) (IfOk result (λ all. all ≡ false → All (IsFree (D.state disk.old)) packets.now → ⊥)) }
     ensures settled { OnOk result ((m : List ℕ) → IsIn folder.now m → (D.state disk.new).is_named m) }
 
     // A crash at any time leaves each packet whole at one of its two paths at least.
-    ensures any_moment { Honestly (D.state disk.new) (LeavesOnly (D.state disk.old) (D.state disk.new) (OneStepOn (NamesEach packets.now) (D.state disk.old))) }
+    ensures any_moment { Honestly (D.state disk.new) (LeavesOnly (D.state disk.old) (D.state disk.new) (OneStepOn (NamesEach (staged_in (D.state disk.old).seen) packets.now) (D.state disk.old))) }
     ensures changes { ChangesOnly (IsOfOne packets.now) (D.state disk.old) (D.state disk.new) }
     ensures cause { HasCause (D.failures disk.old) (D.failures disk.new) result }
 {

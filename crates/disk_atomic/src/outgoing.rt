@@ -1,11 +1,11 @@
 //! A packet that will be sent.
-use model_steps::PacketFile;
+use echo_addr::Address;
 
-/// A packet that will be sent: its path, its staging path until a commit, and its file. The bytes of the file are
-/// made when they are written.
+/// A packet that will be sent: its path, its staging path until a commit, and the address that it is for. Its bytes are
+/// made while they are written.
 #[derive(Clone, Copy)]
 pub struct Outgoing<'a> {
     pub path: &'a [u8],
     pub staging: &'a [u8],
-    pub file: &'a PacketFile,
+    pub to: Address,
 }

@@ -1,14 +1,12 @@
-//! Packets in their staging files.
+//! Staging files are made for packets.
 ghost use Rattle.std.specs.Prelude.{◌≡◌, ℕ, List, true, false, All, AllPairs, IfOk, OnOk};
 ghost use Rattle.disk_io.specs.Disk.{Honestly, IsIn};
-ghost use Rattle.disk_io.specs.Runs.{ChangesNothing, HasCause, KeepsNamed};
+ghost use Rattle.disk_io.specs.Runs.{ChangesNothing, HasCause};
 ghost use Rattle.disk_atomic.specs.Changes.{ChangesOnly};
-ghost use Rattle.disk_atomic.specs.Outgoing.{AreApart, ArePlaced, SendsBytes, IsStagingOne, IsFilled, IsFree, IsMade, IsStagingNamed, IsStaged};
+ghost use Rattle.disk_atomic.specs.Outgoing.{AreApart, ArePlaced, IsStagingOne, IsFree, IsMade, IsStagingNamed};
 
-use crate::filling::fill_packet;
 use crate::outgoing::Outgoing;
 use disk_io::{Disk, DiskError, sync_folder_of};
-use std::alloc::Global;
 
 // Whether no packet's path is in use.
 fn are_free<D: Disk>(disk: &mut D, packets: &[Outgoing<'_>]) -> Result<bool, DiskError>
@@ -39,27 +37,6 @@ fn make_files<D: Disk>(disk: &mut D, packets: &[Outgoing<'_>]) -> Result<(), Dis
     Ok(())
 }
 
-// Writes each packet into its staging file.
-fn fill_files<D: Disk>(
-    alloc: Global,
-    disk: &mut D,
-    packets: &[Outgoing<'_>],
-) -> Result<(), DiskError>
-    requires apart { AllPairs AreApart packets.now }
-    requires made { All (IsMade (D.state disk.old)) packets.now }
-    requires named { All (IsStagingNamed (D.state disk.old)) packets.now }
-    ensures bytes { OnOk result (All SendsBytes packets.now) }
-    ensures filled { OnOk result (All (IsFilled (D.state disk.new)) packets.now) }
-    ensures named { KeepsNamed (λ m. ⊥) (D.state disk.old) (D.state disk.new) }
-    ensures changes { ChangesOnly (IsStagingOne packets.now) (D.state disk.old) (D.state disk.new) }
-    ensures cause { HasCause (D.failures disk.old) (D.failures disk.new) result }
-{
-    'packets: for packet in packets {
-        fill_packet(alloc, disk, packet.staging, packet.file)?;
-    }
-    Ok(())
-}
-
 /// Makes an empty staging file for each packet, and syncs the folder. If a packet's path is in use it returns `false`,
 /// and makes no file.
 pub fn make_packets<D: Disk>(
@@ -81,29 +58,5 @@ pub fn make_packets<D: Disk>(
     }
     make_files(disk, packets)?;
     sync_folder_of(disk, folder)?;
-    Ok(true)
-}
-
-/// Writes each packet into its staging file, and syncs it. If a packet's path is in use it returns `false`, and
-/// writes no packet.
-pub fn stage_packets<D: Disk>(
-    alloc: Global,
-    disk: &mut D,
-    folder: &[u8],
-    packets: &[Outgoing<'_>],
-) -> Result<bool, DiskError>
-    requires { ArePlaced folder.now packets.now }
-    ensures bytes { IfOk result (λ free. free ≡ true → All SendsBytes packets.now) }
-    ensures staged { IfOk result (λ free. free ≡ true → All (IsStaged (D.state disk.new)) packets.now) }
-    ensures named { IfOk result (λ free. free ≡ true → (m : List ℕ) → IsIn folder.now m → (D.state disk.new).is_named m) }
-    ensures free { Honestly (D.state disk.new) (IfOk result (λ free. free ≡ true → All (IsFree (D.state disk.new)) packets.now)) }
-    ensures taken { Honestly (D.state disk.new) (IfOk result (λ free. free ≡ false → All (IsFree (D.state disk.old)) packets.now → ⊥)) }
-    ensures changes { ChangesOnly (IsStagingOne packets.now) (D.state disk.old) (D.state disk.new) }
-    ensures cause { HasCause (D.failures disk.old) (D.failures disk.new) result }
-{
-    if !make_packets(disk, folder, packets)? {
-        return Ok(false);
-    }
-    fill_files(alloc, disk, packets)?;
     Ok(true)
 }

@@ -8,6 +8,8 @@ use Rattle.echo_links.specs.Links.{LinkFile, links_of}
 use Rattle.echo_filed.specs.Filed.{Filed}
 use Rattle.echo_filed.specs.Sets.{address_set}
 use Rattle.model_steps.specs.declared.packet.Packet.{Packet}
+use Rattle.model_steps.specs.declared.stamp.Stamp.{Stamp}
+use Rattle.model_steps.specs.Scanning.{header_to}
 use Rattle.echo_toss.specs.Exports.{Outgoing, copy_out, goes_out, sent_of}
 use Rattle.echo_toss.specs.declared.counting.CountedPacket.{CountedPacket}
 
@@ -23,6 +25,10 @@ IsGroupFrom file messages from group = group.sent ++ sent_of file (drop group.ne
 -- the copies for an address
 abbrev pub copies_out : Address → List Outgoing → List Message
 copies_out address sent = map (copy_out address) (filter (goes_out address) sent)
+
+-- the bytes of the packet for an address, of the messages from a number on
+abbrev pub bytes_for : LinkFile → Stamp → ℕ → List Filed → Address → List ℕ
+bytes_for file stamp from messages to = packet_bytes (header_to file stamp to) (copies_out to (sent_of file (drop from messages)))
 
 -- the addresses of all links
 abbrev pub link_set : LinkFile → List Address

@@ -43,6 +43,7 @@ pub use grouping::{Group, copies_in, group_from};
 pub use laws::packet_laws;
 pub use model_steps::{Draft, Outcome, Packet, PostFault, ScanFault, Stamp};
 pub use packets::{check_destination, toss_packet_in};
+pub use packing::header_to;
 pub use posting::post_step;
 pub use resending::{Resend, resend_in};
 pub use scanning::scan_step;

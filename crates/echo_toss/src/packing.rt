@@ -119,8 +119,7 @@ pub(crate) fn goes_to(one: &Outgoing, address: Address) -> bool
 
 /// The header of a packet to the address.
 #[tactic(auto, unfolding(model_steps::specs::Scanning::header_to))]
-pub(crate) fn header_to(links: &LinkFile, stamp: Stamp, address: Address) -> Header
-    requires { is_stamp stamp ≡ true }
+pub fn header_to(links: &LinkFile, stamp: Stamp, address: Address) -> Header
     ensures { result ≡ header_to links.now stamp address }
 {
     let system = links.system();
@@ -128,7 +127,7 @@ pub(crate) fn header_to(links: &LinkFile, stamp: Stamp, address: Address) -> Hea
         orig_node: system.node,
         dest_node: address.node,
         year: stamp.year,
-        month: stamp.month - 1,
+        month: stamp.month.saturating_sub(1),
         day: stamp.day,
         hour: stamp.hour,
         minute: stamp.minute,

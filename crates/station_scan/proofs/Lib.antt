@@ -10,6 +10,8 @@ mod Stops
 mod Outs
 mod Looked
 mod Through
+mod Written
+mod Causes
 mod Scans
 mod Tries
 mod Runs

@@ -21,6 +21,7 @@ use Rattle.station_scan.specs.Beneath.{IsUsedAt}
 use Rattle.station_scan.specs.Fitting.{AreTaken}
 use Rattle.station_scan.specs.Left.{AreFreeLeft, EndsLeft, IsEnded, IsLeftOf, IsOfNameOff}
 use Rattle.station_scan.specs.Publishing.{IsOnDisk, KeepsStoreBut}
+use Rattle.station_scan.specs.Sending.{HasBytes, IsAtItsPath, IsStagingGone}
 use Rattle.station_scan.specs.Scanning.{AreSentOut, CommitsScan, IsTaken, IsTouched, PreparesScan, SendsOut}
 use Rattle.station_scan.specs.Sends.{AreSentOn, IsOfThese, SendsThese, WasTriedFor}
 use Rattle.station_scan.specs.Stops.{IsOfPlacing, most, scan_done}
@@ -106,39 +107,40 @@ module _ (Own : List ℕ → Type 0) (outbound own : List ℕ) (is_true failed :
     sent_crash : LeavesOnly s1.disk s2.disk (SendsThese s1 outbound own files first next) → LeavesOnly s0.disk s2.disk All_may
     sent_crash run = then_run s0.disk s1.disk s2.disk All_may (SendsThese s1 outbound own files first next) (ended_moments (Ok tt) ends) run sent_moment
 
-    sent_out : AreSentOn outbound own files s1 s2 → AreSentOut is_true Own outbound own Comes cursor these files s0.disk.seen s2.disk
-    sent_out sent =
-        let now = sent.committed.committed honest2 next (used.holds.keeps next is) in
+    sent_out : (made : Base → List PacketFile) → made next ≡ files → AreSentOn outbound own made s1 s2 → AreSentOut is_true Own outbound own Comes cursor these files s0.disk.seen s2.disk
+    sent_out made are sent =
+        let kept_next = used.holds.keeps next is in
+        let now = sent.committed.committed honest2 next kept_next in
         let back : (c : Files) → s2.stands next c → Comes c = λ c stands. (used.same.stands next c).0 ((kept.same.stands next c).0 stands) in
         record {
           all = ends.all;
           between = s1.disk.seen;
           ended = all_ended;
           staging_them = ends.changes.seen;
-          packets = sent.packets honest2;
-          gone = sent.gone honest2;
+          packets = subst (λ (l : List PacketFile). All (IsAtItsPath outbound s2.disk) l) are (sent.packets honest2 next kept_next);
+          gone = subst (λ (l : List PacketFile). All (IsStagingGone outbound own s2.disk.seen) l) are (sent.gone honest2 next kept_next);
           shown = back s2.disk.seen (s2.shown honest2 sent.committed.ready next now);
           on_disk = λ c left. back c (s2.stays honest2 sent.committed.ready next now c left);
           others = λ m other. kept.keeps.seen m (λ of. other (of_these m of));
-          bytes = sent.bytes;
+          bytes = subst (λ (l : List PacketFile). All HasBytes l) are (sent.bytes honest2 next kept_next);
         }
 
-    sent_if : (result : Result (Unit {0}) ScanError) → OnOk result (AreSentOn outbound own files s1 s2) → OnOk result (AreSentOut is_true Own outbound own Comes cursor these files s0.disk.seen s2.disk)
-    sent_if (Ok done) sent = sent_out sent
-    sent_if (Err cause) sent = tt
+    sent_if : (made : Base → List PacketFile) → made next ≡ files → (result : Result (Unit {0}) ScanError) → OnOk result (AreSentOn outbound own made s1 s2) → OnOk result (AreSentOut is_true Own outbound own Comes cursor these files s0.disk.seen s2.disk)
+    sent_if made are (Ok done) sent = sent_out made are sent
+    sent_if made are (Err cause) sent = tt
 
-    pub sends_out : (result : Result (Unit {0}) ScanError) → OnOk result (AreSentOn outbound own files s1 s2) → LeavesOnly s1.disk s2.disk (SendsThese s1 outbound own files first next)
+    pub sends_out : (made : Base → List PacketFile) → made next ≡ files → (result : Result (Unit {0}) ScanError) → OnOk result (AreSentOn outbound own made s1 s2) → LeavesOnly s1.disk s2.disk (SendsThese s1 outbound own files first next)
         → IfErr result (IsOfPlacing failed (AreTaken Own outbound own files s1.disk.seen) (most < cursor)) → SendsOut is_true failed Own outbound own Stays Comes cursor files s0.disk s2.disk result
-    sends_out result sent run why = record {
+    sends_out made are result sent run why = record {
       found = these;
       each = ends.each;
-      sent = sent_if result sent;
+      sent = sent_if made are result sent;
       crash = sent_crash run;
       why = put_wider failed failed _ _ _ result (λ f. f) (λ taken. inr (s1.disk.seen, all_ended, ends.changes.seen, taken)) why;
     }
 
 -- it was tried once they were at their end
-pub tried_ended : {D : Type 0} (state : D → DiskState) (Own : List ℕ → Type 0) (outbound own : List ℕ) (files : List PacketFile) (s0 s1 s2 : StoreState) → IsUsedAt (IsOfNameOff Own outbound own) s0 s1
+pub tried_ended : {D F : Type 0} (state : D → DiskState) (Own : List ℕ → Type 0) (outbound own : List ℕ) (files : List F) (s0 s1 s2 : StoreState) → IsUsedAt (IsOfNameOff Own outbound own) s0 s1
     → HoldsAsBefore s1 s2 ⊎ WasTriedFor state Own outbound own files s1.disk → HoldsAsBefore s0 s2 ⊎ WasTriedFor state Own outbound own files s0.disk
 tried_ended state Own outbound own files s0 s1 s2 used (inl holds) = inl (holds_still s0 s1 s2 used.holds holds)
 tried_ended state Own outbound own files s0 s1 s2 used (inr (inl none)) = inr (inl none)

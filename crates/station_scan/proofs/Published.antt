@@ -1,23 +1,26 @@
 -- Packets and the commit of a store.
-use Rattle.std.proofs.Common.{◌≡◌, inl, inr, ⊎_elim, ◌∙◌, ◌<◌, ℕ, List, get_or, length, refl, subst, sym}
-use Rattle.std.specs.Prelude.{All, Bool, Err, false, IfOk, Ok, OnOk, Result, true}
+use Rattle.std.proofs.Common.{◌≡◌, ◌⊎◌, inl, inr, ⊎_elim, ◌∙◌, ◌<◌, ℕ, List, Some, ap, get_or, length, refl, subst, sym}
+use Rattle.std.specs.Prelude.{All, Bool, Err, false, IfErr, IfOk, Ok, OnOk, Result, true}
 use Rattle.std.proofs.lemmas.List.Elements.{All-contains}
 use Rattle.base_file.specs.Base.{Base}
-use Rattle.disk_io.specs.Disk.{DiskState, Files, Honestly}
+use Rattle.disk_io.specs.Disk.{DiskState, Files, Honestly, bytes_in}
+use Rattle.disk_io.specs.Fixed.{AreBytes}
 use Rattle.disk_io.specs.declared.disk_error.DiskError.{DiskError}
 use Rattle.disk_io.specs.Runs.{ChangesNothing, LeavesOnly, OneStepOn}
 use Rattle.disk_io.proofs.Moments.{then_run, weaker_run}
-use Rattle.disk_atomic.specs.Changes.{ChangesOnly, DifferAt}
-use Rattle.disk_atomic.specs.Naming.{HasItsPath, NamesEach}
-use Rattle.disk_atomic.specs.Outgoing.{IsAtStaging, IsFilled, IsOfOne, SendsBytes}
+use Rattle.disk_atomic.specs.Changes.{ChangesOnly, DifferAt, HasOnDisk}
+use Rattle.disk_atomic.specs.Naming.{HasItsPath, NamesEach, StandsWhole}
+use Rattle.disk_atomic.specs.Outgoing.{IsAtStaging, IsFilled, IsOfOne, IsStaged, SendsBytes, staged_in}
 use Rattle.disk_atomic.specs.Publishing.{IsApartFrom}
 use Rattle.disk_atomic.specs.declared.outgoing.Outgoing.{Outgoing}
 use Rattle.base_store.specs.Store.{Commits, MayCommit, LeavesEither, StoreState}
 use Rattle.base_store.proofs.Runs.{same_twice}
 use Rattle.station.specs.Beneath.{HoldsAsBefore}
 use Rattle.station_scan.specs.Beneath.{IsUsedAt}
-use Rattle.station_scan.specs.Publishing.{AreGoing, ArePublished, AreStaged, CommitsWith, IsClear, IsGoingAt, IsNamedAs, IsPublishedAt, UnchangedExcept, KeepsStoreBut, PublishesOn}
+use Rattle.station_scan.specs.Publishing.{AreGoing, ArePublished, AreStaged, CommitsWith, IsClear, IsGoingAt, IsNamedAs, IsPublishedAt, IsWritten, UnchangedExcept, KeepsStoreBut, NoneStays, PublishesOn, StopsCommitting, StopsPublishing, staged_before}
+use Rattle.disk_atomic.specs.declared.placing_error.PlacingError.TheVariants as placing
 use Rattle.station_scan.specs.declared.publish_error.PublishError.{PublishError}
+use Rattle.station_scan.specs.declared.publish_error.PublishError.TheVariants.{Base as OfBase, Packets, Reading, Staging}
 
 -- none of the store's own paths is a packet's
 pub own_not_of : (s : StoreState) (packets : List Outgoing) → All (IsApartFrom s.is_own) packets → (m : List ℕ) → s.is_own m → IsOfOne packets m → ⊥
@@ -83,24 +86,54 @@ holds_still s0 s1 s2 one two = record { ready = two.ready; keeps = λ base h. tw
 pub holds_now : (s : StoreState) → s.is_ready → HoldsAsBefore s s
 holds_now s ready = record { ready = ready; keeps = λ base h. h; committed = λ base h. h }
 
+-- ---- what packets have, by another function
+
+module _ (one other : Outgoing → List ℕ) (packets : List Outgoing) (same : All (λ p. one p ≡ other p) packets) where
+  pub whole_as : (c : Files) → All (StandsWhole one c) packets → All (StandsWhole other c) packets
+  whole_as c all k z lt =
+      let p = get_or packets k z in
+      subst (λ (b : List ℕ). (c p.path.now ≡ Some b) ⊎ (c p.staging.now ≡ Some b)) (same k z lt) (all k z lt)
+
+  pub bytes_as : All (SendsBytes one) packets → All (SendsBytes other) packets
+  bytes_as all k z lt = subst AreBytes (same k z lt) (all k z lt)
+
+  pub path_as : (d : DiskState) → All (HasItsPath one d) packets → All (HasItsPath other d) packets
+  path_as d all k z lt = record { file = subst (HasOnDisk d (get_or packets k z).path.now) (same k z lt) (all k z lt).file; gone = (all k z lt).gone }
+
+  pub filled_as : (d : DiskState) → All (IsFilled one d) packets → All (IsFilled other d) packets
+  filled_as d all k z lt = subst (HasOnDisk d (get_or packets k z).staging.now) (same k z lt) (all k z lt)
+
 -- ---- what a crash leaves
 
 -- packets stand beside their paths, and the store is committed
 module _ (packets : List Outgoing) (s0 : StoreState) (apart : All (IsApartFrom s0.is_own) packets) (s1 : StoreState) (may : MayCommit s0 s1) (staged : AreStaged packets s0.disk) where
-  filled_still : (k : ℕ) (z : Outgoing) → k < length packets → IsFilled s1.disk (get_or packets k z)
+  abbrev has : Outgoing → List ℕ
+  has = staged_in s0.disk.seen
+
+  filled_still : (k : ℕ) (z : Outgoing) → k < length packets → IsFilled has s1.disk (get_or packets k z)
   filled_still k z lt =
       let file = (staged.staged k z lt).file in
       let off = (apart k z lt).staging in
       record { seen = may.beside.seen _ off ∙ file.seen; named = may.beside.named _ off file.named; flushed = may.beside.flushed _ off file.flushed }
 
   -- where that failed they stay there
-  pub all_filled : All (IsFilled s1.disk) packets
+  pub all_filled : All (IsFilled has s1.disk) packets
   all_filled k z lt = filled_still k z lt
 
-  committing : s1.disk.is_honest → (first next : Base) → s0.committed first → s0.keeps next → LeavesOnly s0.disk s1.disk (CommitsWith s0 (IsOfOne packets) packets first next)
+  -- the staging files are seen as before
+  pub same_staged : All (λ p. staged_in s1.disk.seen p ≡ has p) packets
+  same_staged k z lt = ap bytes_in (may.beside.seen _ (apart k z lt).staging)
+
+  back_staged : All (λ p. has p ≡ staged_in s1.disk.seen p) packets
+  back_staged k z lt = sym (same_staged k z lt)
+
+  pub staged_still : All (IsStaged (staged_in s1.disk.seen) s1.disk) packets
+  staged_still k z lt = record { file = filled_as has (staged_in s1.disk.seen) packets back_staged s1.disk all_filled k z lt; named = may.beside.named _ (apart k z lt).path (staged.staged k z lt).named }
+
+  committing : s1.disk.is_honest → (first next : Base) → s0.committed first → s0.keeps next → LeavesOnly s0.disk s1.disk (CommitsWith s0 (IsOfOne packets) has packets first next)
   committing honest first next was is =
       let clear : All (IsClear s0.disk) packets = staged.clear (may.beside.honest honest) in
-      weaker_run s0.disk s1.disk (LeavesEither s0 first next) (CommitsWith s0 (IsOfOne packets) packets first next) (may.any_moment honest first next was is)
+      weaker_run s0.disk s1.disk (LeavesEither s0 first next) (CommitsWith s0 (IsOfOne packets) has packets first next) (may.any_moment honest first next was is)
       (λ c either. record {
         others = λ m out other on. either.beside m out on.0 on.1;
         either =
@@ -109,32 +142,32 @@ module _ (packets : List Outgoing) (s0 : StoreState) (apart : All (IsApartFrom s
             (λ stands. inr (
               stands,
               λ k z lt. let file = (staged.staged k z lt).file in inr (either.beside (get_or packets k z).staging.now (apart k z lt).staging file.named file.flushed ∙ file.seen),
-              staged.bytes,
+              staged.bytes (may.beside.honest honest),
             ))
             either.stands;
       })
 
   -- and then they get their paths
-  pub naming : (s2 : StoreState) → Commits s0 s1 → IsUsedAt (IsOfOne packets) s1 s2 → s1.disk.is_honest → LeavesOnly s1.disk s2.disk (OneStepOn (NamesEach packets) s1.disk) → (first next : Base) → s0.committed first
-      → s0.keeps next → LeavesOnly s0.disk s2.disk (CommitsWith s0 (IsOfOne packets) packets first next)
+  pub naming : (s2 : StoreState) → Commits s0 s1 → IsUsedAt (IsOfOne packets) s1 s2 → s1.disk.is_honest → LeavesOnly s1.disk s2.disk (OneStepOn (NamesEach (staged_in s1.disk.seen) packets) s1.disk) → (first next : Base) → s0.committed first
+      → s0.keeps next → LeavesOnly s0.disk s2.disk (CommitsWith s0 (IsOfOne packets) has packets first next)
   naming s2 commits used honest names first next was is =
       let next_committed = commits.committed honest next is in
       let own_not : (m : List ℕ) → s1.is_own m → IsOfOne packets m → ⊥ = λ m own. own_not_of s0 packets apart m ((may.same.own m).0 own) in
-      then_run s0.disk s1.disk s2.disk (CommitsWith s0 (IsOfOne packets) packets first next) (OneStepOn (NamesEach packets) s1.disk) (committing honest first next was is) names
+      then_run s0.disk s1.disk s2.disk (CommitsWith s0 (IsOfOne packets) has packets first next) (OneStepOn (NamesEach (staged_in s1.disk.seen) packets) s1.disk) (committing honest first next was is) names
       (λ c step. record {
         others = λ m out other on.
             step.2.others m other ∙ s1.disk.on_disk m (may.beside.named m out on.0) (may.beside.flushed m out on.1) step.0 step.1 ∙ may.beside.seen m out;
         either = inr (
           (may.same.stands next c).0 (used.settled next step.0 c (λ m own. step.2.others m (own_not m own)) (s1.stays honest commits.ready next next_committed step.0 step.1)),
-          step.2.whole,
-          staged.bytes,
+          whole_as (staged_in s1.disk.seen) has packets same_staged c step.2.whole,
+          staged.bytes (may.beside.honest honest),
         );
       })
 
 -- packets are written beside their paths, and a path is tried
-module _ (outbound trial : List ℕ) (packets : List Outgoing) (s0 : StoreState) (going : AreGoing s0.is_own outbound trial packets) (ready : s0.is_ready) (s1 : StoreState) (used : IsUsedAt (IsAtStaging packets trial) s0 s1) where
+module _ (outbound trial : List ℕ) (content : Outgoing → List ℕ) (packets : List Outgoing) (s0 : StoreState) (going : AreGoing s0.is_own outbound trial packets) (ready : s0.is_ready) (s1 : StoreState) (used : IsUsedAt (IsAtStaging packets trial) s0 s1) where
   abbrev May : Base → Base → Files → Type 0
-  May first next c = PublishesOn s0 packets trial first next c
+  May first next c = PublishesOn s0 content packets trial first next c
 
   -- it stopped before the commit
   pub stopping : s1.disk.is_honest → (first next : Base) → s0.committed first → LeavesOnly s0.disk s1.disk (May first next)
@@ -149,15 +182,18 @@ module _ (outbound trial : List ℕ) (packets : List Outgoing) (s0 : StoreState)
   going_at m at = ⊎_elim (λ b. inl (b.0, b.1, inl b.2)) (λ e. inr e) at
 
   -- all of it
-  pub publishing : (s2 : StoreState) → s1.disk.is_honest → (first next : Base) → s0.committed first → LeavesOnly s1.disk s2.disk (CommitsWith s1 (IsOfOne packets) packets first next) → LeavesOnly s0.disk s2.disk (May first next)
-  publishing s2 honest first next was commits =
+  pub publishing : (s2 : StoreState) → s1.disk.is_honest → (first next : Base) → s0.committed first → All (IsWritten content s1.disk.seen) packets
+      → LeavesOnly s1.disk s2.disk (CommitsWith s1 (IsOfOne packets) (staged_in s1.disk.seen) packets first next) → LeavesOnly s0.disk s2.disk (May first next)
+  publishing s2 honest first next was written commits =
       let run = used.changes in
       let not : (m : List ℕ) → (IsGoingAt packets trial m → ⊥) → IsAtStaging packets trial m → ⊥ = λ m other at. other (going_at m at) in
-      then_run s0.disk s1.disk s2.disk (May first next) (CommitsWith s1 (IsOfOne packets) packets first next) (stopping honest first next was) commits
+      then_run s0.disk s1.disk s2.disk (May first next) (CommitsWith s1 (IsOfOne packets) (staged_in s1.disk.seen) packets first next) (stopping honest first next was) commits
       (λ c with. inr (record {
         others = λ m out other on.
             with.others m (λ own. out ((used.same.own m).0 own)) (λ of. other (inl of)) (run.named m (not m other) on.0, run.flushed m (not m other) on.1) ∙ run.seen m (not m other);
-        either = ⊎_elim (λ none. inl ((used.same.stands first c).0 none.0, none.1)) (λ all. inr ((used.same.stands next c).0 all.0, all.1, all.2)) with.either;
+        either =
+            ⊎_elim (λ none. inl ((used.same.stands first c).0 none.0, none.1))
+            (λ all. inr ((used.same.stands next c).0 all.0, whole_as (staged_in s1.disk.seen) content packets written c all.1, bytes_as (staged_in s1.disk.seen) content packets written all.2)) with.either;
       }))
 
   -- and what it touches
@@ -177,10 +213,59 @@ module _ (outbound trial : List ℕ) (packets : List Outgoing) (s0 : StoreState)
     keeps = keeps_wider (IsAtStaging packets trial) (IsPublishedAt s0 (IsGoingAt packets trial)) s0.disk s1.disk (λ m is. inr (going_at m is)) (keeps_only (IsAtStaging packets trial) s0.disk s1.disk used.changes);
   }
 
+-- what was committed after it was used is committed from before
+pub commits_used : (paths : List ℕ → Type 0) (s0 s1 s2 : StoreState) → IsUsedAt paths s0 s1 → Commits s1 s2 → Commits s0 s2
+commits_used paths s0 s1 s2 used commits = record {
+  ready = commits.ready;
+  keeps = λ honest base kept. commits.keeps honest base (used.holds.keeps base kept);
+  committed = λ honest base kept. commits.committed honest base (used.holds.keeps base kept);
+  honest = λ honest. used.changes.honest (commits.honest honest);
+}
+
+-- what the staging files had is what the packets are to have
+module _ (outbound trial : List ℕ) (content : Base → Outgoing → List ℕ) (packets : List Outgoing) (s0 s1 s2 : StoreState) (used : IsUsedAt (IsAtStaging packets trial) s0 s1) (honest_run : s2.disk.is_honest → s1.disk.is_honest)
+    (written : s1.disk.is_honest → (base : Base) → s0.keeps base → All (IsWritten (content base) s1.disk.seen) packets) where
+  published_as : ArePublished (staged_before s1) packets s1 s2 → ArePublished content packets s0 s2
+  published_as are = record {
+    committed = commits_used (IsAtStaging packets trial) s0 s1 s2 used are.committed;
+    named = λ honest base kept. path_as (staged_in s1.disk.seen) (content base) packets (written (honest_run honest) base kept) s2.disk (are.named honest base (used.holds.keeps base kept));
+    bytes = λ honest base kept. bytes_as (staged_in s1.disk.seen) (content base) packets (written (honest_run honest) base kept) (are.bytes honest base (used.holds.keeps base kept));
+  }
+
+  pub published_from : (result : Result (Unit {0}) PublishError) → OnOk result (ArePublished (staged_before s1) packets s1 s2) → OnOk result (ArePublished content packets s0 s2)
+  published_from (Ok done) are = published_as are
+  published_from (Err why) are = tt
+
+  stops_as : s2.disk.is_honest → (why : PublishError) → StopsCommitting packets s1 s2 why → StopsPublishing content packets trial s0 s2 why
+  stops_as honest (Packets placing.Taken) stops = inr (commits_used (IsAtStaging packets trial) s0 s1 s2 used stops)
+  stops_as honest (Packets placing.Memory) stops = inr (commits_used (IsAtStaging packets trial) s0 s1 s2 used stops)
+  stops_as honest (Packets placing.Device) stops = inr (commits_used (IsAtStaging packets trial) s0 s1 s2 used stops)
+  stops_as honest (Reading cause) stops = absurd stops
+  stops_as honest (Staging cause) stops = absurd stops
+  stops_as honest (OfBase cause) stops = λ base kept. filled_as (staged_in s1.disk.seen) (content base) packets (written (honest_run honest) base kept) s2.disk stops
+
+  pub stops_from : s2.disk.is_honest → (result : Result (Unit {0}) PublishError) → IfErr result (StopsCommitting packets s1 s2) → IfErr result (StopsPublishing content packets trial s0 s2)
+  stops_from honest (Ok done) stops = tt
+  stops_from honest (Err why) stops = stops_as honest why stops
+
+-- it stopped before the commit
+pub stops_before : (content : Base → Outgoing → List ℕ) (packets : List Outgoing) (trial : List ℕ) (s0 s1 : StoreState) (why : PublishError) → HoldsAsBefore s0 s1 → NoneStays packets trial s1.disk why → StopsPublishing content packets trial s0 s1 why
+stops_before content packets trial s0 s1 (Packets placing.Taken) holds gone = inl holds
+stops_before content packets trial s0 s1 (Packets placing.Memory) holds gone = inl (holds, gone)
+stops_before content packets trial s0 s1 (Packets placing.Device) holds gone = inl (holds, gone)
+stops_before content packets trial s0 s1 (Reading cause) holds gone = (holds, gone)
+stops_before content packets trial s0 s1 (Staging cause) holds gone = holds
+stops_before content packets trial s0 s1 (OfBase cause) holds gone = absurd gone
+
 -- whether all got their paths
-pub published_if : (packets : List Outgoing) (s0 s2 : StoreState) (named : Result Bool DiskError) (result : Result (Unit {0}) PublishError) → IsNamedAs named result
-    → Honestly s2.disk (IfOk named (λ all. all ≡ true → All (HasItsPath s2.disk) packets)) → Commits s0 s2 → All SendsBytes packets → OnOk result (ArePublished packets s0 s2)
-published_if packets s0 s2 (Ok true) result is paths commits bytes =
-    subst (λ (r : Result (Unit {0}) PublishError). OnOk r (ArePublished packets s0 s2)) (sym is) (record { committed = commits; named = λ honest. paths honest refl; bytes = bytes })
-published_if packets s0 s2 (Ok false) result is paths commits bytes = subst (λ (r : Result (Unit {0}) PublishError). OnOk r (ArePublished packets s0 s2)) (sym is) tt
-published_if packets s0 s2 (Err cause) result is paths commits bytes = subst (λ (r : Result (Unit {0}) PublishError). OnOk r (ArePublished packets s0 s2)) (sym is) tt
+pub published_if : (packets : List Outgoing) (s0 s1 s2 : StoreState) (named : Result Bool DiskError) (result : Result (Unit {0}) PublishError) → IsNamedAs named result → (s2.disk.is_honest → s0.disk.is_honest)
+    → All (λ p. staged_in s1.disk.seen p ≡ staged_in s0.disk.seen p) packets → Honestly s2.disk (IfOk named (λ all. all ≡ true → All (HasItsPath (staged_in s1.disk.seen) s2.disk) packets)) → Commits s0 s2
+    → Honestly s0.disk (All (SendsBytes (staged_in s0.disk.seen)) packets) → OnOk result (ArePublished (staged_before s0) packets s0 s2)
+published_if packets s0 s1 s2 (Ok true) result is run same paths commits bytes =
+    subst (λ (r : Result (Unit {0}) PublishError). OnOk r (ArePublished (staged_before s0) packets s0 s2)) (sym is) (record {
+      committed = commits;
+      named = λ honest base kept. path_as (staged_in s1.disk.seen) (staged_in s0.disk.seen) packets same s2.disk (paths honest refl);
+      bytes = λ honest base kept. bytes (run honest);
+    })
+published_if packets s0 s1 s2 (Ok false) result is run same paths commits bytes = subst (λ (r : Result (Unit {0}) PublishError). OnOk r (ArePublished (staged_before s0) packets s0 s2)) (sym is) tt
+published_if packets s0 s1 s2 (Err cause) result is run same paths commits bytes = subst (λ (r : Result (Unit {0}) PublishError). OnOk r (ArePublished (staged_before s0) packets s0 s2)) (sym is) tt

@@ -1,10 +1,13 @@
 -- Packets that go out, as the files of a scan.
-use Rattle.std.proofs.Common.{◌≡◌, ◌≢◌, ◌⊎◌, inl, inr, ⊎_elim, ◌∙◌, ◌<◌, ℕ, List, [], ◌++◌, get_or, length, map, sym, subst, ap, Some, arith}
+use Rattle.std.proofs.Common.{◌≡◌, ◌≢◌, ◌⊎◌, inl, inr, ⊎_elim, ◌∙◌, ◌<◌, ℕ, List, [], ◌∷◌, ◌++◌, get_or, length, map, refl, sym, subst, ap, Some, arith}
 use Rattle.std.specs.Prelude.{All, AllPairs, Contains}
 use Rattle.std.proofs.lemmas.List.{get_or-map, length-map}
 use Rattle.std.proofs.lemmas.List.Elements.{All-contains, Contains-get_or}
 use Rattle.disk_io.specs.Fixed.{AreBytes}
 use Rattle.disk_io.specs.Disk.{DiskState, Files, IsIn}
+use Rattle.echo_addr.specs.declared.address.Address.{Address}
+use Rattle.cmd_report.specs.Scanned.{file_with}
+use Rattle.cmd_report.specs.declared.scanning.PlannedPacket.{PlannedPacket}
 use Rattle.model_steps.specs.PacketFiles.{PacketFile}
 use Rattle.disk_atomic.specs.Naming.{HasItsPath, StandsWhole as outgoing_whole}
 use Rattle.disk_atomic.specs.Outgoing.{AreApart, ArePlaced, IsStagingOne, IsOfOne}
@@ -16,42 +19,99 @@ use Rattle.station.specs.Paths.{staging_path}
 use Rattle.station.proofs.StagingPaths.{staging_other}
 use Rattle.station_scan.specs.declared.sending.TwoPaths.{TwoPaths}
 use Rattle.station_scan.specs.Publishing.{IsFreeIn}
-use Rattle.station_scan.specs.Sending.{AreSent, HasBytes, HaveOtherPaths, IsAtItsPath, IsFreeAt, IsStagingGone, IsNameByte, IsOffOwn, StandsWhole, file_paths}
+use Rattle.station_scan.specs.Sending.{AreSent, HasBytes, HaveOtherPaths, IsAtItsPath, IsFreeAt, IsNamed, IsStagingGone, IsNameByte, IsOffOwn, StandsWhole, file_paths, for_address, planned_paths}
+use Rattle.station_scan.specs.Fitting.{AreFit, AreTaken, FitPlanned, IsUnfit}
+use Rattle.station_scan.specs.declared.publish_error.PublishError.{PublishError}
+use Rattle.station_scan.specs.declared.publish_error.PublishError.TheVariants.{Packets}
+use Rattle.disk_atomic.specs.declared.placing_error.PlacingError.TheVariants.{Memory, Taken}
 use Rattle.station_scan.proofs.Names.{four_apart, name_staging_in, name_in}
 
--- no file
+-- no packet, and no file
+pub no_plan : PlannedPacket
+no_plan = record { name = []; to = record { zone = 0; net = 0; node = 0 } }
+
 no_file : PacketFile
 no_file = record { name = []; bytes = [] }
 
--- the packet has the paths and the bytes of the file
-pub record Goes (folder own : List ℕ) (sent : PacketFile) (packet : Outgoing) : Type 0 where
+-- the packet has the paths of the file, and what it has is this
+pub record Goes (folder own : List ℕ) (content : Address → List ℕ) (sent : PacketFile) (packet : Outgoing) : Type 0 where
   pub path : packet.path.now ≡ folder ++ sent.name
   pub staging : packet.staging.now ≡ staging_path (folder ++ sent.name) own
-  pub bytes : packet.file.now.bytes ≡ sent.bytes
+  pub bytes : content packet.to ≡ sent.bytes
 
-module _ (folder own : List ℕ) (files : List PacketFile) (paths : List TwoPaths) (packets : List Outgoing) (are : paths ≡ map (file_paths folder own) files) (sent : AreSent files paths packets) where
+module _ (folder own : List ℕ) (content : Address → List ℕ) where
+  -- planned packets as files have the same paths
+  pub paths_are : (planned : List PlannedPacket) → map (planned_paths folder own) planned ≡ map (file_paths folder own) (map (file_with content) planned)
+  paths_are [] = refl
+  paths_are (p ∷ planned) = ap (λ (l : List TwoPaths). planned_paths folder own p ∷ l) (paths_are planned)
+
+  pub many_files : (planned : List PlannedPacket) → length (map (file_with content) planned) ≡ length planned
+  many_files planned = length-map planned (file_with content)
+
+  pub file_at : (planned : List PlannedPacket) (k : ℕ) (f : PacketFile) → k < length planned → get_or (map (file_with content) planned) k f ≡ file_with content (get_or planned k no_plan)
+  file_at planned k f lt = get_or-map (file_with content) planned k no_plan f lt
+
+  -- and fit if those do
+  module _ (Own : List ℕ → Type 0) (planned : List PlannedPacket) where
+    pub fit_files : FitPlanned Own folder own planned → AreFit Own folder own (map (file_with content) planned)
+    fit_files fit = record {
+      names = λ k f lt.
+          let low : k < length planned = subst (λ (n : ℕ). k < n) (many_files planned) lt in
+          subst (λ (file : PacketFile). IsNamed file.name) (sym (file_at planned k f low)) (fit.names k no_plan low);
+      differ = subst (AllPairs HaveOtherPaths) (paths_are planned) fit.differ;
+      off = subst (All (IsOffOwn Own)) (paths_are planned) fit.off;
+      trial = fit.trial;
+    }
+
+    fit_plans : AreFit Own folder own (map (file_with content) planned) → FitPlanned Own folder own planned
+    fit_plans fit = record {
+      names = λ k p lt.
+          let high : k < length (map (file_with content) planned) = subst (λ (n : ℕ). k < n) (sym (many_files planned)) lt in
+          subst (λ (file : PacketFile). IsNamed file.name) (get_or-map (file_with content) planned k p no_file lt) (fit.names k no_file high);
+      differ = subst (AllPairs HaveOtherPaths) (sym (paths_are planned)) fit.differ;
+      off = subst (All (IsOffOwn Own)) (sym (paths_are planned)) fit.off;
+      trial = fit.trial;
+    }
+
+    -- paths that do not fit
+    pub unfit_taken : (why : PublishError) (seen : Files) → IsUnfit Own folder own planned why → why ≡ Packets Taken → AreTaken Own folder own (map (file_with content) planned) seen
+    unfit_taken why seen (inl unfit) is = inr (λ fit. unfit.1 (fit_plans fit))
+    unfit_taken why seen (inr none) is = let other : Packets Memory ≡ Packets Taken = sym none ∙ is in absurd (cc other)
+
+module _ (folder own : List ℕ) (content : Address → List ℕ) (planned : List PlannedPacket) (packets : List Outgoing) (sent : AreSent planned (map (planned_paths folder own) planned) packets) where
+  abbrev files : List PacketFile
+  files = map (file_with content) planned
+
+  abbrev paths : List TwoPaths
+  paths = map (file_paths folder own) files
+
   -- the paths of one
   at_paths : (k : ℕ) (f : PacketFile) → k < length files → get_or paths k (file_paths folder own f) ≡ file_paths folder own (get_or files k f)
-  at_paths k f lt = ap (λ (l : List TwoPaths). get_or l k (file_paths folder own f)) are ∙ get_or-map (file_paths folder own) files k f (file_paths folder own f) lt
+  at_paths k f lt = get_or-map (file_paths folder own) files k f (file_paths folder own f) lt
 
-  pub goes : (k : ℕ) (f : PacketFile) (p : Outgoing) → k < length files → Goes folder own (get_or files k f) (get_or packets k p)
+  pub goes : (k : ℕ) (f : PacketFile) (p : Outgoing) → k < length files → Goes folder own content (get_or files k f) (get_or packets k p)
   goes k f p lt =
-      let one = sent.each k f (file_paths folder own f) p lt in
-      let at = at_paths k f lt in
+      let low : k < length planned = subst (λ (n : ℕ). k < n) (many_files folder own content planned) lt in
+      let one = sent.each k no_plan (planned_paths folder own no_plan) p low in
+      let at = get_or-map (planned_paths folder own) planned k no_plan (planned_paths folder own no_plan) low in
+      let is = sym (file_at folder own content planned k f low) in
       record {
-        path = one.path ∙ ap (λ (t : TwoPaths). t.path) at;
-        staging = one.staging ∙ ap (λ (t : TwoPaths). t.staging) at;
-        bytes = ap (λ (file : PacketFile). file.bytes) one.file;
+        path = one.path ∙ ap (λ (t : TwoPaths). t.path) at ∙ ap (λ (q : PacketFile). folder ++ q.name) is;
+        staging = one.staging ∙ ap (λ (t : TwoPaths). t.staging) at ∙ ap (λ (q : PacketFile). staging_path (folder ++ q.name) own) is;
+        bytes = ap content one.to ∙ ap (λ (q : PacketFile). q.bytes) is;
       }
 
+  as_many : length packets ≡ length files
+  as_many = sent.as_many ∙ sym (many_files folder own content planned)
+
   within : (k : ℕ) → k < length packets → k < length files
-  within k lt = subst (λ (n : ℕ). k < n) sent.as_many lt
+  within k lt = subst (λ (n : ℕ). k < n) as_many lt
 
   back : (k : ℕ) → k < length files → k < length packets
-  back k lt = subst (λ (n : ℕ). k < n) (sym sent.as_many) lt
+  back k lt = subst (λ (n : ℕ). k < n) (sym as_many) lt
 
   has_paths : (k : ℕ) → k < length files → k < length paths
-  has_paths k lt = subst (λ (n : ℕ). k < n) (sym (ap length are ∙ length-map files (file_paths folder own))) lt
+  has_paths k lt = subst (λ (n : ℕ). k < n) (sym (length-map files (file_paths folder own))) lt
 
   module _ (names : All (λ (file : PacketFile). All IsNameByte file.name) files) (own_plain : All (λ b. b ≢ 47) own) (differ : AllPairs HaveOtherPaths paths) where
     two_apart : (k j : ℕ) (z : Outgoing) → k < j → j < length packets → k < length packets → AreApart (get_or packets k z) (get_or packets j z)
@@ -99,7 +159,7 @@ module _ (folder own : List ℕ) (files : List PacketFile) (paths : List TwoPath
       }
 
   -- what has its path
-  pub at_its_path : (disk : DiskState) → All (HasItsPath disk) packets → All (IsAtItsPath folder disk) files
+  pub at_its_path : (disk : DiskState) → All (HasItsPath (for_address content) disk) packets → All (IsAtItsPath folder disk) files
   at_its_path disk all k f lt =
       let is = goes k f nobody lt in
       let there = (all k nobody (back k lt)).file in
@@ -110,7 +170,7 @@ module _ (folder own : List ℕ) (files : List PacketFile) (paths : List TwoPath
       }
 
   -- what it has are bytes
-  pub files_bytes : All outgoing.SendsBytes packets → All HasBytes files
+  pub files_bytes : All (outgoing.SendsBytes (for_address content)) packets → All HasBytes files
   files_bytes all k f lt = subst AreBytes (goes k f nobody lt).bytes (all k nobody (back k lt))
 
   -- a path of a packet is one of a file
@@ -137,15 +197,15 @@ module _ (folder own : List ℕ) (files : List PacketFile) (paths : List TwoPath
       (found.0, found.1, found.2, at ∙ found.3)
 
   -- what stands whole, and what has none at its path
-  pub stand_whole : (c : Files) → All (outgoing_whole c) packets → All (StandsWhole folder own c) files
+  pub stand_whole : (c : Files) → All (outgoing_whole (for_address content) c) packets → All (StandsWhole folder own c) files
   stand_whole c all k f lt =
       let is = goes k f nobody lt in
       ⊎_elim
-      (λ (e : c (get_or packets k nobody).path.now ≡ Some (get_or packets k nobody).file.now.bytes). inl (ap c (sym is.path) ∙ e ∙ ap (λ (b : List ℕ). Some b) is.bytes))
-      (λ (e : c (get_or packets k nobody).staging.now ≡ Some (get_or packets k nobody).file.now.bytes). inr (ap c (sym is.staging) ∙ e ∙ ap (λ (b : List ℕ). Some b) is.bytes))
+      (λ (e : c (get_or packets k nobody).path.now ≡ Some (content (get_or packets k nobody).to)). inl (ap c (sym is.path) ∙ e ∙ ap (λ (b : List ℕ). Some b) is.bytes))
+      (λ (e : c (get_or packets k nobody).staging.now ≡ Some (content (get_or packets k nobody).to)). inr (ap c (sym is.staging) ∙ e ∙ ap (λ (b : List ℕ). Some b) is.bytes))
       (all k nobody (back k lt))
 
-  pub none_staging : (disk : DiskState) → All (HasItsPath disk) packets → All (IsStagingGone folder own disk.seen) files
+  pub none_staging : (disk : DiskState) → All (HasItsPath (for_address content) disk) packets → All (IsStagingGone folder own disk.seen) files
   none_staging disk all k f lt = ap disk.seen (sym (goes k f nobody lt).staging) ∙ (all k nobody (back k lt)).gone
 
   pub free_packets : (disk : DiskState) → All (IsFreeAt folder disk.seen) files → All (outgoing.IsFree disk) packets

@@ -1,17 +1,19 @@
 -- Packets that stand beside their paths, while a path is tried with the first of them.
 use Rattle.std.proofs.Common.{◌≡◌, ◌≢◌, ◌⊎◌, inl, inr, ⊎_elim, ◌∙◌, ◌<◌, ◌≤◌, ℕ, List, ap, arith, get_or, length, subst, sym}
-use Rattle.std.specs.Prelude.{All, Contains}
+use Rattle.std.specs.Prelude.{All, Contains, IsSome}
 use Rattle.std.proofs.lemmas.Bool.{cases_lt}
 use Rattle.std.proofs.lemmas.List.{get_or_default}
 use Rattle.std.proofs.lemmas.List.Elements.{All-contains, Contains-get_or}
-use Rattle.disk_io.specs.Disk.{DiskState}
+use Rattle.disk_io.specs.Disk.{DiskState, bytes_in}
+use Rattle.disk_io.specs.Runs.{ChangesNothing}
 use Rattle.disk_atomic.specs.Changes.{ChangesOnly, DifferAt, HasOnDisk}
-use Rattle.disk_atomic.specs.Outgoing.{ArePlaced, IsAtStaging, IsStaged}
+use Rattle.disk_atomic.specs.Outgoing.{ArePlaced, IsAtStaging, IsStaged, IsStagingFlushed, staged_in}
 use Rattle.disk_atomic.specs.Trying.{Tries, WasTried}
 use Rattle.disk_atomic.specs.declared.outgoing.Outgoing.{Outgoing}
 use Rattle.disk_atomic.proofs.Changes.{stays_on_disk, wider}
 use Rattle.disk_atomic.proofs.Packets.{path_not_staging}
-use Rattle.station_scan.specs.Publishing.{IsTrial}
+use Rattle.disk_atomic.proofs.Parts.{all_on_disk}
+use Rattle.station_scan.specs.Publishing.{AreOpen, IsTrial, IsTriedWith, IsWritten}
 
 -- it was tried after a run at these paths
 pub tried_after : {D : Type 0} (state : D → DiskState) (few paths : List ℕ → Type 0) (trial : List ℕ) (d0 d1 : DiskState) → ((m : List ℕ) → few m → paths m) → DifferAt paths d0.seen d1.seen
@@ -32,15 +34,15 @@ module _ (outbound trial : List ℕ) (packets : List Outgoing) (placed : ArePlac
   pub path_off : (k : ℕ) (z : Outgoing) → k < length packets → IsAtStaging packets trial (get_or packets k z).path.now → ⊥
   path_off k z lt at = ⊎_elim (λ b. path_not_staging outbound packets placed k z lt b) (λ t. of.off (get_or packets k z, Contains-get_or packets k z lt, inr (sym t))) at
 
-  module _ (x : Outgoing) (is : x ≡ get_or packets 0 x) (some : 0 < length packets) where
+  module _ (content : Outgoing → List ℕ) (x : Outgoing) (is : x ≡ get_or packets 0 x) (some : 0 < length packets) where
     has : Contains packets x
     has = (0, some, sym is)
 
     pub first_other : x.staging.now ≢ trial
     first_other e = of.off (x, has, inl (sym e))
 
-    pub first_staged : (d : DiskState) → All (IsStaged d) packets → IsStaged d x
-    first_staged d all = All-contains (IsStaged d) packets x all has
+    pub first_staged : (d : DiskState) → All (IsStaged content d) packets → IsStaged content d x
+    first_staged d all = All-contains (IsStaged content d) packets x all has
 
     pub at_staging : (m : List ℕ) → (m ≡ x.staging.now) ⊎ (m ≡ trial) → IsAtStaging packets trial m
     at_staging m at = ⊎_elim (λ b. inl (x, has, b)) (λ t. inr t) at
@@ -49,25 +51,46 @@ module _ (outbound trial : List ℕ) (packets : List Outgoing) (placed : ArePlac
       pub tried_changes : ChangesOnly (IsAtStaging packets trial) d e
       tried_changes = wider (λ m. (m ≡ x.staging.now) ⊎ (m ≡ trial)) (IsAtStaging packets trial) d e at_staging tries.changes
 
-      file_still : All (IsStaged d) packets → (k : ℕ) (z : Outgoing) → k < length packets → HasOnDisk e (get_or packets k z).staging.now (get_or packets k z).file.now.bytes
+      file_still : All (IsStaged content d) packets → (k : ℕ) (z : Outgoing) → k < length packets → HasOnDisk e (get_or packets k z).staging.now (content (get_or packets k z))
       file_still all k z lt =
           let p = get_or packets k z in
           let first : get_or packets 0 z ≡ x = get_or_default packets 0 z x some ∙ sym is in
           let was = (first_staged d all).file in
           ⊎_elim
           (λ (later : 0 < k).
-          stays_on_disk (λ m. (m ≡ x.staging.now) ⊎ (m ≡ trial)) d e p.staging.now p.file.now.bytes tries.changes
+          stays_on_disk (λ m. (m ≡ x.staging.now) ⊎ (m ≡ trial)) d e p.staging.now (content p) tries.changes
           (λ at.
           ⊎_elim (λ b. (placed.apart 0 k z later lt).stagings (ap (λ (q : Outgoing). q.staging.now) first ∙ sym b)) (λ t. of.off (p, Contains-get_or packets k z lt, inl (sym t))) at)
           (all k z lt).file)
           (λ (low : k ≤ 0).
           let zero : k ≡ 0 = omega arith in
-          subst (λ (q : Outgoing). HasOnDisk e q.staging.now q.file.now.bytes) (sym (ap (λ (n : ℕ). get_or packets n z) zero ∙ first))
+          subst (λ (q : Outgoing). HasOnDisk e q.staging.now (content q)) (sym (ap (λ (n : ℕ). get_or packets n z) zero ∙ first))
           (record { seen = tries.stays.seen ∙ was.seen; named = tries.stays.named was.named; flushed = tries.stays.flushed was.flushed }))
           (cases_lt 0 k)
 
-      pub still_staged : All (IsStaged d) packets → All (IsStaged e) packets
+      pub still_staged : All (IsStaged content d) packets → All (IsStaged content e) packets
       still_staged all k z lt = record {
         file = file_still all k z lt;
         named = tries.changes.named (get_or packets k z).path.now (λ at. path_off k z lt (at_staging _ at)) (all k z lt).named;
       }
+
+-- packets on the disk as their staging files were seen are there as these are seen now
+pub staged_now : (content : Outgoing → List ℕ) (packets : List Outgoing) (e : DiskState) → All (IsStaged content e) packets → All (IsWritten content e.seen) packets × All (IsStaged (staged_in e.seen) e) packets
+staged_now content packets e all =
+    let same : All (IsWritten content e.seen) packets = λ k z lt. ap bytes_in (all k z lt).file.seen in
+    (same, λ k z lt. record { file = subst (HasOnDisk e (get_or packets k z).staging.now) (sym (same k z lt)) (all k z lt).file; named = (all k z lt).named })
+
+-- files that were seen and are synced are on the disk
+pub synced : (outbound : List ℕ) (packets : List Outgoing) → ArePlaced outbound packets → (d e : DiskState) → AreOpen outbound packets d → ChangesNothing d e → All (IsStagingFlushed e) packets → All (IsStaged (staged_in e.seen) e) packets
+synced outbound packets placed d e opened quiet flushed k z lt =
+    let p = get_or packets k z in
+    let path = p.staging.now in
+    record {
+      file = all_on_disk e path (subst IsSome (sym (quiet.seen path)) (opened.grow k z lt).there) (quiet.named path (λ h. h) (opened.grow k z lt).named) (flushed k z lt);
+      named = quiet.named p.path.now (λ h. h) (opened.named p.path.now (placed.each k z lt).path_in);
+    }
+
+-- it was tried after a run that changed nothing
+pub tried_quiet : {D : Type 0} (state : D → DiskState) (packets : List Outgoing) (trial : List ℕ) (d0 d1 : DiskState) → ChangesNothing d0 d1 → IsTriedWith state packets trial d1 → IsTriedWith state packets trial d0
+tried_quiet state packets trial d0 d1 quiet (inl none) = inl none
+tried_quiet state packets trial d0 d1 quiet (inr was) = inr (tried_after state (IsAtStaging packets trial) (IsAtStaging packets trial) trial d0 d1 (λ m is. is) (λ m out. quiet.seen m) was)

@@ -10,28 +10,33 @@ use Rattle.station_scan.specs.Stops.{IsOfPlacing, scan_done, stop_of}
 use Rattle.station_scan.specs.declared.scan_error.ScanError.{ScanError}
 use Rattle.station_scan.specs.declared.scan_error.ScanError.TheVariants.{Command, Placing, Staying, TooFar}
 use Rattle.station_scan.specs.declared.publish_error.PublishError.{PublishError}
-use Rattle.station_scan.specs.declared.publish_error.PublishError.TheVariants.{Base as OfBase, Staging, Packets}
+use Rattle.station_scan.specs.declared.publish_error.PublishError.TheVariants.{Base as OfBase, Reading, Staging, Packets}
 
 module _ (failed taken far : Type 0) where
   -- what stopped the publishing, as what stopped the scan
   stop_why : (why : PublishError) → (why ≡ Packets placing.Device → failed) → (why ≡ Packets placing.Taken → taken) → (why ≡ Staging disk.Device → failed) → (why ≡ OfBase error.Device → failed) → (why ≡ OfBase error.Damaged → ⊥)
-      → IsOfPlacing failed taken far (stop_of why)
-  stop_why (Packets placing.Device) packets free staging base whole = packets refl
-  stop_why (Packets placing.Memory) packets free staging base whole = tt
-  stop_why (Packets placing.Taken) packets free staging base whole = free refl
-  stop_why (Staging disk.Device) packets free staging base whole = staging refl
-  stop_why (Staging disk.Memory) packets free staging base whole = tt
-  stop_why (OfBase error.Device) packets free staging base whole = base refl
-  stop_why (OfBase error.Damaged) packets free staging base whole = absurd (whole refl)
-  stop_why (OfBase error.Memory) packets free staging base whole = tt
-  stop_why (OfBase error.TooMany) packets free staging base whole = tt
+      → (why ≡ Reading error.Device → failed) → (why ≡ Reading error.Damaged → ⊥) → IsOfPlacing failed taken far (stop_of why)
+  stop_why (Packets placing.Device) packets free staging base whole read unread = packets refl
+  stop_why (Packets placing.Memory) packets free staging base whole read unread = tt
+  stop_why (Packets placing.Taken) packets free staging base whole read unread = free refl
+  stop_why (Staging disk.Device) packets free staging base whole read unread = staging refl
+  stop_why (Staging disk.Memory) packets free staging base whole read unread = tt
+  stop_why (OfBase error.Device) packets free staging base whole read unread = base refl
+  stop_why (OfBase error.Damaged) packets free staging base whole read unread = absurd (whole refl)
+  stop_why (OfBase error.Memory) packets free staging base whole read unread = tt
+  stop_why (OfBase error.TooMany) packets free staging base whole read unread = tt
+  stop_why (Reading error.Device) packets free staging base whole read unread = read refl
+  stop_why (Reading error.Damaged) packets free staging base whole read unread = absurd (unread refl)
+  stop_why (Reading error.Memory) packets free staging base whole read unread = tt
+  stop_why (Reading error.TooMany) packets free staging base whole read unread = tt
 
   pub sent_why : (done : Result (Unit {0}) PublishError) (result : Result (Unit {0}) ScanError) → result ≡ scan_done done → (IsErrOf done (Packets placing.Device) → failed) → (IsErrOf done (Packets placing.Taken) → taken)
-      → (IsErrOf done (Staging disk.Device) → failed) → (IsErrOf done (OfBase error.Device) → failed) → (IsErrOf done (OfBase error.Damaged) → ⊥) → IfErr result (IsOfPlacing failed taken far)
-  sent_why (Ok done) result is packets free staging base whole = subst (λ (r : Result (Unit {0}) ScanError). IfErr r (IsOfPlacing failed taken far)) (sym is) tt
-  sent_why (Err why) result is packets free staging base whole =
+      → (IsErrOf done (Staging disk.Device) → failed) → (IsErrOf done (OfBase error.Device) → failed) → (IsErrOf done (OfBase error.Damaged) → ⊥)
+      → (IsErrOf done (Reading error.Device) → failed) → (IsErrOf done (Reading error.Damaged) → ⊥) → IfErr result (IsOfPlacing failed taken far)
+  sent_why (Ok done) result is packets free staging base whole read unread = subst (λ (r : Result (Unit {0}) ScanError). IfErr r (IsOfPlacing failed taken far)) (sym is) tt
+  sent_why (Err why) result is packets free staging base whole read unread =
       subst (λ (r : Result (Unit {0}) ScanError). IfErr r (IsOfPlacing failed taken far)) (sym is)
-      (stop_why why (λ e. packets (cc e)) (λ e. free (cc e)) (λ e. staging (cc e)) (λ e. base (cc e)) (λ e. whole (cc e)))
+      (stop_why why (λ e. packets (cc e)) (λ e. free (cc e)) (λ e. staging (cc e)) (λ e. base (cc e)) (λ e. whole (cc e)) (λ e. read (cc e)) (λ e. unread (cc e)))
 
   -- what earlier scans left was not brought to its end
   pub placing_why : (cause : PlacingError) → (cause ≡ placing.Device → failed) → (cause ≡ placing.Taken → taken) → IsOfPlacing failed taken far (Placing cause)

@@ -1,22 +1,20 @@
 -- What is so of a disk once nothing more has changed, and before.
 use Rattle.std.proofs.Common.{inl, inr, ⊎_elim, ◌∙◌, ℕ, List, get_or, refl, subst, sym}
-use Rattle.std.specs.Prelude.{All, Bool, Err, IfErr, IfOk, Ok, OnOk, Result}
+use Rattle.std.specs.Prelude.{All, Err, IfOk, IsSome, Ok, OnOk, Result}
 use Rattle.disk_io.specs.Disk.{DiskState, Files}
 use Rattle.disk_io.specs.Runs.{ChangesNothing, LeavesOnly, OneStepOn}
 use Rattle.disk_io.proofs.Moments.{then_nothing, then_run, weaker_run}
 use Rattle.disk_atomic.specs.Changes.{HasOnDisk}
 use Rattle.disk_atomic.specs.Finishing.{FinishesEach, IsOfLeft, IsOver}
 use Rattle.disk_atomic.specs.Naming.{HasItsPath, NamesEach}
-use Rattle.disk_atomic.specs.Outgoing.{IsStaged}
+use Rattle.disk_atomic.specs.Outgoing.{IsStaged, SendsBytes, staged_in}
 use Rattle.disk_atomic.specs.declared.finishing.Left.{Left}
 use Rattle.disk_atomic.specs.declared.outgoing.Outgoing.{Outgoing}
 use Rattle.disk_atomic.specs.declared.placing_error.PlacingError.{PlacingError}
 use Rattle.disk_atomic.proofs.Changes.{left_there, only_nothing, then_only}
 use Rattle.disk_atomic.proofs.Ended.{quiet_then}
 use Rattle.station_scan.specs.Left.{AreAllLeft, EndsLeft, IsEndedAt, IsLeftOf}
-use Rattle.station_scan.specs.Publishing.{AreStaged, NoneStays}
-use Rattle.station_scan.specs.declared.publish_error.PublishError.{PublishError}
-use Rattle.station_scan.specs.declared.publish_error.PublishError.TheVariants.{Base, Staging, Packets}
+use Rattle.station_scan.specs.Publishing.{AreOpen, AreStaged}
 use Rattle.station_scan.proofs.Lefts.{finishes_none, on_ok_over, over_still}
 use Rattle.station_scan.proofs.Looked.{same_seen}
 
@@ -32,49 +30,53 @@ module _ (d e : DiskState) (quiet : ChangesNothing d e) where
   file_through : (path bytes : List ℕ) → HasOnDisk d path bytes → HasOnDisk e path bytes
   file_through path bytes on = record { seen = quiet.seen path ∙ on.seen; named = quiet.named path (λ h. h) on.named; flushed = quiet.flushed path (λ h. h) on.flushed }
 
-  pub are_staged : (packets : List Outgoing) → All (IsStaged d) packets → All (IsStaged e) packets
-  are_staged packets all k z lt =
+  pub are_staged : (packets : List Outgoing) → All (IsStaged (staged_in d.seen) d) packets → All (IsStaged (staged_in e.seen) e) packets
+  are_staged packets all =
+      subst (λ (f : Files). All (IsStaged (staged_in f) e) packets) (sym (same_seen d e quiet)) (λ k z lt.
       let p = get_or packets k z in
-      record { file = file_through p.staging.now p.file.now.bytes (all k z lt).file; named = quiet.named p.path.now (λ h. h) (all k z lt).named }
+      record { file = file_through p.staging.now (staged_in d.seen p) (all k z lt).file; named = quiet.named p.path.now (λ h. h) (all k z lt).named })
 
   pub staged_through : (packets : List Outgoing) → AreStaged packets d → AreStaged packets e
   staged_through packets was = record {
-    bytes = was.bytes;
     staged = are_staged packets was.staged;
+    bytes = λ honest. subst (λ (f : Files). All (SendsBytes (staged_in f)) packets) (sym (same_seen d e quiet)) (was.bytes (quiet.honest honest));
     clear = λ honest k z lt.
         let p = get_or packets k z in
         let none = was.clear (quiet.honest honest) k z lt in
         record { none = quiet.seen p.path.now ∙ none.none; named = quiet.named p.path.now (λ h. h) none.named; flushed = quiet.flushed p.path.now (λ h. h) none.flushed };
   }
 
-  pub have_their_paths : (packets : List Outgoing) → All (HasItsPath d) packets → All (HasItsPath e) packets
-  have_their_paths packets all k z lt =
+  pub have_their_paths : (content : Outgoing → List ℕ) (packets : List Outgoing) → All (HasItsPath content d) packets → All (HasItsPath content e) packets
+  have_their_paths content packets all k z lt =
       let p = get_or packets k z in
-      record { file = file_through p.path.now p.file.now.bytes (all k z lt).file; gone = quiet.seen p.staging.now ∙ (all k z lt).gone }
+      record { file = file_through p.path.now (content p) (all k z lt).file; gone = quiet.seen p.staging.now ∙ (all k z lt).gone }
 
-  -- what was removed is gone still
-  none_through : (packets : List Outgoing) (trial : List ℕ) (why : PublishError) → NoneStays packets trial d why → NoneStays packets trial e why
-  none_through packets trial (Packets cause) gone = (λ k z lt. quiet.seen (get_or packets k z).staging.now ∙ gone.0 k z lt, quiet.seen trial ∙ gone.1)
-  none_through packets trial (Staging cause) gone = tt
-  none_through packets trial (Base cause) gone = gone
-
-  pub gone_through : (packets : List Outgoing) (trial : List ℕ) (r : Result Bool PublishError) → IfErr r (NoneStays packets trial d) → IfErr r (NoneStays packets trial e)
-  gone_through packets trial (Ok free) gone = tt
-  gone_through packets trial (Err why) gone = none_through packets trial why gone
+  -- staging files that grow
+  pub open_through : (outbound : List ℕ) (packets : List Outgoing) → AreOpen outbound packets d → AreOpen outbound packets e
+  open_through outbound packets was = record {
+    grow = λ k z lt.
+        let path = (get_or packets k z).staging.now in
+        record { there = subst IsSome (sym (quiet.seen path)) (was.grow k z lt).there; named = quiet.named path (λ h. h) (was.grow k z lt).named; alone = quiet.alone path (λ h. h) (was.grow k z lt).alone };
+    named = λ m inside. quiet.named m (λ h. h) (was.named m inside);
+    free = λ honest k z lt. quiet.seen (get_or packets k z).path.now ∙ was.free (quiet.honest honest) k z lt;
+    bytes = λ honest. subst (λ (f : Files). All (SendsBytes (staged_in f)) packets) (sym (same_seen d e quiet)) (was.bytes (quiet.honest honest));
+  }
 
 -- a run between two that change nothing
 module _ (a d e b : DiskState) (before : ChangesNothing a d) (after : ChangesNothing e b) where
-  pub names_through : (packets : List Outgoing) → All (IsStaged a) packets → LeavesOnly d e (OneStepOn (NamesEach packets) d) → LeavesOnly a b (OneStepOn (NamesEach packets) a)
+  pub names_through : (packets : List Outgoing) → All (IsStaged (staged_in a.seen) a) packets → LeavesOnly d e (OneStepOn (NamesEach (staged_in d.seen) packets) d) → LeavesOnly a b (OneStepOn (NamesEach (staged_in a.seen) packets) a)
   names_through packets staged run =
-      then_nothing a e b (OneStepOn (NamesEach packets) a)
-      (then_run a d e (OneStepOn (NamesEach packets) a) (OneStepOn (NamesEach packets) d)
-      (weaker_run a d a.may_leave (OneStepOn (NamesEach packets) a) before.run
+      let has = staged_in a.seen in
+      let named : LeavesOnly d e (OneStepOn (NamesEach has packets) d) = subst (λ (f : Files). LeavesOnly d e (OneStepOn (NamesEach (staged_in f) packets) d)) (same_seen a d before) run in
+      then_nothing a e b (OneStepOn (NamesEach has packets) a)
+      (then_run a d e (OneStepOn (NamesEach has packets) a) (OneStepOn (NamesEach has packets) d)
+      (weaker_run a d a.may_leave (OneStepOn (NamesEach has packets) a) before.run
       (λ c left. (
         c,
         left,
-        record { others = λ m other. refl; whole = λ k z lt. inr (left_there a (get_or packets k z).staging.now (get_or packets k z).file.now.bytes (staged k z lt).file c left) },
+        record { others = λ m other. refl; whole = λ k z lt. inr (left_there a (get_or packets k z).staging.now (has (get_or packets k z)) (staged k z lt).file c left) },
       )))
-      run (λ c step. (step.0, before.no_more step.0 step.1, step.2)))
+      named (λ c step. (step.0, before.no_more step.0 step.1, step.2)))
       after
 
   ended_back : (cursor : ℕ) (found : List Left) (m : List ℕ) → IsEndedAt cursor found b.seen m → IsEndedAt cursor found e.seen m

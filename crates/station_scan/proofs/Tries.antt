@@ -1,5 +1,5 @@
 -- That a scan tries whether a file gets a second path.
-use Rattle.std.proofs.Common.{◌⊎◌, inl, inr, ⊎_elim, ℕ, List, Result, Ok, Err}
+use Rattle.std.proofs.Common.{◌⊎◌, ◌∙◌, inl, inr, ⊎_elim, ℕ, List, Result, Ok, Err, map}
 use Rattle.std.specs.Prelude.{OnOk}
 use Rattle.base_file.specs.Base.{Base}
 use Rattle.disk_io.specs.Disk.{DiskState, Files}
@@ -9,6 +9,10 @@ use Rattle.station.specs.Beneath.{HoldsAsBefore}
 use Rattle.station.specs.Paths.{dotted, staging_path}
 use Rattle.station.specs.Place.{IsOfPlace, Place}
 use Rattle.cmd_status.specs.Devices.{Output}
+use Rattle.std.proofs.lemmas.List.{length-map}
+use Rattle.echo_addr.specs.declared.address.Address.{Address}
+use Rattle.cmd_report.specs.Scanned.{file_with}
+use Rattle.cmd_report.specs.declared.scanning.PlannedPacket.{PlannedPacket}
 use Rattle.model_steps.specs.PacketFiles.{PacketFile}
 use Rattle.model_steps.specs.declared.stamp.Stamp.{Stamp}
 use Rattle.base_store.specs.Store.{IsSameStore, StoreState}
@@ -26,7 +30,7 @@ any_ok (Ok done) P p = p
 any_ok (Err why) P p = tt
 
 -- it was tried on the disk as it was before the store was looked through
-pub tried_looked : {D : Type 0} (state : D → DiskState) (Own : List ℕ → Type 0) (outbound own : List ℕ) (files : List PacketFile) (d0 d1 : DiskState) → ChangesNothing d0 d1
+pub tried_looked : {D F : Type 0} (state : D → DiskState) (Own : List ℕ → Type 0) (outbound own : List ℕ) (files : List F) (d0 d1 : DiskState) → ChangesNothing d0 d1
     → WasTriedFor state Own outbound own files d1 → WasTriedFor state Own outbound own files d0
 tried_looked state Own outbound own files d0 d1 quiet (inl none) = inl none
 tried_looked state Own outbound own files d0 d1 quiet (inr was) =
@@ -34,14 +38,18 @@ tried_looked state Own outbound own files d0 d1 quiet (inr was) =
     inr (tried_after state at at (staging_path outbound own) d0 d1 (λ m is. is) (λ m out. quiet.seen m) was)
 
 -- the packets that were made were tried, or the base stands that was committed
-pub tries_on : {D : Type 0} (state : D → DiskState) (stamp : Stamp) (Own : List ℕ → Type 0) (outbound : List ℕ) (s1 sA s2 : StoreState) (out now : Output) (file : LinkFile) (base : Base) (files : List PacketFile)
-    (result : Result (Unit {0}) ScanError) → ChangesNothing s1.disk sA.disk → sA.committed base → ScansOn stamp (state_in file base) out now (Ok files)
-    → HoldsAsBefore sA s2 ⊎ WasTriedFor state Own outbound (dotted file.system) files sA.disk → OnOk result (TriesOn state stamp Own outbound s1 s2 out now file base)
-tries_on state stamp Own outbound s1 sA s2 out now file base files result quiet is answer tried =
+pub tries_on : {D : Type 0} (state : D → DiskState) (stamp : Stamp) (Own : List ℕ → Type 0) (outbound : List ℕ) (s1 sA s2 : StoreState) (out now : Output) (file : LinkFile) (base : Base) (content : Address → List ℕ) (planned : List PlannedPacket)
+    (result : Result (Unit {0}) ScanError) → ChangesNothing s1.disk sA.disk → sA.committed base → ScansOn stamp (state_in file base) out now (Ok (map (file_with content) planned))
+    → HoldsAsBefore sA s2 ⊎ WasTriedFor state Own outbound (dotted file.system) planned sA.disk → OnOk result (TriesOn state stamp Own outbound s1 s2 out now file base)
+tries_on state stamp Own outbound s1 sA s2 out now file base content planned result quiet is answer tried =
     any_ok result (TriesOn state stamp Own outbound s1 s2 out now file base)
     (⊎_elim
     (λ (holds : HoldsAsBefore sA s2). inl (holds.ready, holds.committed base is))
-    (λ (was : WasTriedFor state Own outbound (dotted file.system) files sA.disk). inr (files, answer, tried_looked state Own outbound (dotted file.system) files s1.disk sA.disk quiet was))
+    (λ (was : WasTriedFor state Own outbound (dotted file.system) planned sA.disk). inr (
+      map (file_with content) planned,
+      answer,
+      ⊎_elim (λ none. inl (length-map planned (file_with content) ∙ none)) (λ tried. inr tried) (tried_looked state Own outbound (dotted file.system) planned s1.disk sA.disk quiet was),
+    ))
     tried)
 
 module _ {D : Type 0} (state : D → DiskState) (stamp : Stamp) (place : Place) (outbound : List ℕ) (Reads : LinkFile → Type 0) (d0 d2 : DiskState) (s1 s2 : StoreState) (of : IsOfPlace place d0 s1) (quiet : ChangesNothing s2.disk d2)

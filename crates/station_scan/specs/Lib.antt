@@ -7,3 +7,4 @@ pub mod Publishing
 pub mod Sends
 pub mod Stops
 pub mod Scanning
+pub mod Writing

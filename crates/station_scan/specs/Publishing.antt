@@ -8,7 +8,7 @@ use Rattle.disk_io.specs.declared.disk_error.DiskError.TheVariants as disk_error
 use Rattle.disk_io.specs.Runs.{KeepsAlone, KeepsFlushed, KeepsNamed, LeavesOnly, OneStepOn}
 use Rattle.disk_atomic.specs.Changes.{DifferAt}
 use Rattle.disk_atomic.specs.Naming.{HasItsPath, StandsWhole}
-use Rattle.disk_atomic.specs.Outgoing.{ArePlaced, IsAtStaging, IsFilled, IsFree, IsStagingGone, IsOfOne, IsStaged, SendsBytes}
+use Rattle.disk_atomic.specs.Outgoing.{ArePlaced, CanGrowStaging, IsAtStaging, IsFilled, IsFree, IsStagingGone, IsOfOne, IsStaged, SendsBytes, staged_in}
 use Rattle.disk_atomic.specs.Publishing.{IsApartFrom, placing_cause}
 use Rattle.disk_atomic.specs.Trying.{WasTried}
 use Rattle.disk_atomic.specs.declared.outgoing.Outgoing.{Outgoing}
@@ -18,7 +18,7 @@ use Rattle.base_store.specs.declared.store_error.StoreError.{StoreError}
 use Rattle.base_store.specs.declared.store_error.StoreError.TheVariants as store
 use Rattle.station.specs.Beneath.{HoldsAsBefore}
 use Rattle.station_scan.specs.declared.publish_error.PublishError.{PublishError}
-use Rattle.station_scan.specs.declared.publish_error.PublishError.TheVariants.{Base as OfBase, Staging, Packets}
+use Rattle.station_scan.specs.declared.publish_error.PublishError.TheVariants.{Base as OfBase, Reading, Staging, Packets}
 
 -- What the path leads to is on the disk.
 abbrev pub IsOnDisk : DiskState → List ℕ → Type 0
@@ -64,18 +64,18 @@ IsFreeIn c p = c p.path.now ≡ None
 -- From the commit on. Either the files hold the base that was committed before, and no file has the path of a packet of these. Or they hold
 -- the store's new base, and each packet, which is bytes, is whole at its path or its staging path. All else on the disk, except at these
 -- paths, is as it was seen.
-pub record CommitsWith (old : StoreState) (paths : List ℕ → Type 0) (packets : List Outgoing) (first next : Base) (c : Files) : Type 0 where
+pub record CommitsWith (old : StoreState) (paths : List ℕ → Type 0) (content : Outgoing → List ℕ) (packets : List Outgoing) (first next : Base) (c : Files) : Type 0 where
   pub others : (m : List ℕ) → (old.is_own m → ⊥) → (paths m → ⊥) → IsOnDisk old.disk m → c m ≡ old.disk.seen m
-  pub either : (old.stands first c × All (IsFreeIn c) packets) ⊎ (old.stands next c × All (StandsWhole c) packets × All SendsBytes packets)
+  pub either : (old.stands first c × All (IsFreeIn c) packets) ⊎ (old.stands next c × All (StandsWhole content c) packets × All (SendsBytes content) packets)
 
 -- What a crash at any time during the steps may leave.
-abbrev pub PublishesOn : StoreState → List Outgoing → List ℕ → Base → Base → Files → Type 0
-PublishesOn old packets trial first next c = StagesOver old packets trial first c ⊎ CommitsWith old (IsGoingAt packets trial) packets first next c
+abbrev pub PublishesOn : StoreState → (Outgoing → List ℕ) → List Outgoing → List ℕ → Base → Base → Files → Type 0
+PublishesOn old content packets trial first next c = StagesOver old packets trial first c ⊎ CommitsWith old (IsGoingAt packets trial) content packets first next c
 
--- A crash at any moment leaves such files.
-abbrev pub MayPublish : List Outgoing → List ℕ → StoreState → StoreState → Type 0
-MayPublish packets trial old new =
-    Honestly new.disk ((first next : Base) → old.committed first → old.keeps next → LeavesOnly old.disk new.disk (PublishesOn old packets trial first next))
+-- A crash at any moment leaves such files. What each packet has is given by the base that the store holds, here and below.
+abbrev pub MayPublish : (Base → Outgoing → List ℕ) → List Outgoing → List ℕ → StoreState → StoreState → Type 0
+MayPublish content packets trial old new =
+    Honestly new.disk ((first next : Base) → old.committed first → old.keeps next → LeavesOnly old.disk new.disk (PublishesOn old (content next) packets trial first next))
 
 -- Their staging files are gone, and so is the trial file.
 abbrev pub AreGone : List Outgoing → List ℕ → DiskState → Type 0
@@ -84,11 +84,12 @@ AreGone packets trial disk = All (IsStagingGone disk) packets × (disk.seen tria
 -- The state after a failure. If a packet stopped it, the base is unchanged or committed. If unchanged, no staging file remains, unless a
 -- path was in use. `Staging` reports that staging files remain. If the base stopped it, each packet is whole in its staging file, since the
 -- base may be committed.
-abbrev pub StopsPublishing : List Outgoing → List ℕ → StoreState → StoreState → PublishError → Type 0
-StopsPublishing packets trial old new (Packets placing.Taken) = HoldsAsBefore old new ⊎ Commits old new
-StopsPublishing packets trial old new (Packets cause) = (HoldsAsBefore old new × AreGone packets trial new.disk) ⊎ Commits old new
-StopsPublishing packets trial old new (Staging cause) = HoldsAsBefore old new
-StopsPublishing packets trial old new (OfBase cause) = All (IsFilled new.disk) packets
+abbrev pub StopsPublishing : (Base → Outgoing → List ℕ) → List Outgoing → List ℕ → StoreState → StoreState → PublishError → Type 0
+StopsPublishing content packets trial old new (Packets placing.Taken) = HoldsAsBefore old new ⊎ Commits old new
+StopsPublishing content packets trial old new (Packets cause) = (HoldsAsBefore old new × AreGone packets trial new.disk) ⊎ Commits old new
+StopsPublishing content packets trial old new (Reading cause) = HoldsAsBefore old new × AreGone packets trial new.disk
+StopsPublishing content packets trial old new (Staging cause) = HoldsAsBefore old new
+StopsPublishing content packets trial old new (OfBase cause) = (base : Base) → old.keeps base → All (IsFilled (content base) new.disk) packets
 
 -- A failure of the device is reported only if its count of failures rose. On an honest disk, damage is reported only for a store that holds
 -- no base.
@@ -97,7 +98,9 @@ pub record HasPublishCause {T : Type 0} (old new : StoreState) (before now : ℕ
   pub packets : IsErrOf result (Packets placing.Device) → Failed before now
   pub staging : IsErrOf result (Staging disk_error.Device) → Failed before now
   pub base : IsErrOf result (OfBase store.Device) → Failed before now
+  pub reading : IsErrOf result (Reading store.Device) → Failed before now
   pub damaged : Honestly new.disk (IsErrOf result (OfBase store.Damaged) → (base : Base) → old.keeps base → ⊥)
+  pub unread : Honestly new.disk (IsErrOf result (Reading store.Damaged) → (base : Base) → old.keeps base → ⊥)
 
 -- Nothing has the packet's path, and that is on the disk.
 pub record IsClear (disk : DiskState) (p : Outgoing) : Type 0 where
@@ -105,31 +108,46 @@ pub record IsClear (disk : DiskState) (p : Outgoing) : Type 0 where
   pub named : disk.is_named p.path.now
   pub flushed : disk.is_flushed p.path.now
 
--- Each packet, which is bytes, is in its staging file, and no file has its path.
+-- Its staging file is seen with this content.
+abbrev pub IsWritten : (Outgoing → List ℕ) → Files → Outgoing → Type 0
+IsWritten content seen p = staged_in seen p ≡ content p
+
+-- The staging files were made, and can grow. They have bytes, and no file has the path of a packet.
+pub record AreOpen (outbound : List ℕ) (packets : List Outgoing) (disk : DiskState) : Type 0 where
+  pub grow : All (CanGrowStaging disk) packets
+  pub named : (m : List ℕ) → IsIn outbound m → disk.is_named m
+  pub free : Honestly disk (All (IsFree disk) packets)
+  pub bytes : Honestly disk (All (SendsBytes (staged_in disk.seen)) packets)
+
+-- Each packet is on the disk as its staging file is seen, which has bytes, and no file has its path.
 pub record AreStaged (packets : List Outgoing) (disk : DiskState) : Type 0 where
-  pub bytes : All SendsBytes packets
-  pub staged : All (IsStaged disk) packets
+  pub staged : All (IsStaged (staged_in disk.seen) disk) packets
+  pub bytes : Honestly disk (All (SendsBytes (staged_in disk.seen)) packets)
   pub clear : Honestly disk (All (IsClear disk) packets)
 
 -- If a packet was not staged, no staging file remains, unless the error says so.
 abbrev pub NoneStays : List Outgoing → List ℕ → DiskState → PublishError → Type 0
 NoneStays packets trial new (Packets cause) = AreGone packets trial new
+NoneStays packets trial new (Reading cause) = AreGone packets trial new
 NoneStays packets trial new (Staging cause) = Unit {0}
 NoneStays packets trial new (OfBase cause) = ⊥
 
--- A failure of the device is reported only if its count of failures rose. A used path and a failure of the base are never reported.
-pub record HasStageCause {T : Type 0} (before now : ℕ) (result : Result T PublishError) : Type 0 where
+-- A failure of the device is reported only if its count of failures rose. On an honest disk, damage is reported only for a store that holds
+-- no base. A used path and a failed commit are never reported.
+pub record HasStageCause {T : Type 0} (old new : StoreState) (before now : ℕ) (result : Result T PublishError) : Type 0 where
   pub later : before ≤ now
   pub packets : IsErrOf result (Packets placing.Device) → Failed before now
   pub staging : IsErrOf result (Staging disk_error.Device) → Failed before now
+  pub reading : IsErrOf result (Reading store.Device) → Failed before now
+  pub unread : Honestly new.disk (IsErrOf result (Reading store.Damaged) → (base : Base) → old.keeps base → ⊥)
   pub free : IsErrOf result (Packets placing.Taken) → ⊥
   pub base : (cause : StoreError) → IsErrOf result (OfBase cause) → ⊥
 
 -- each packet is at its path on the disk, and the store's base is committed
-pub record ArePublished (packets : List Outgoing) (old new : StoreState) : Type 0 where
+pub record ArePublished (content : Base → Outgoing → List ℕ) (packets : List Outgoing) (old new : StoreState) : Type 0 where
   pub committed : Commits old new
-  pub named : Honestly new.disk (All (HasItsPath new.disk) packets)
-  pub bytes : All SendsBytes packets
+  pub named : Honestly new.disk ((base : Base) → old.keeps base → All (HasItsPath (content base) new.disk) packets)
+  pub bytes : Honestly new.disk ((base : Base) → old.keeps base → All (SendsBytes (content base)) packets)
 
 -- It is the same store. Except at these paths, the files seen and the files on the disk are unchanged.
 pub record KeepsStoreBut (paths : List ℕ → Type 0) (old new : StoreState) : Type 0 where
@@ -140,16 +158,21 @@ pub record KeepsStoreBut (paths : List ℕ → Type 0) (old new : StoreState) : 
 abbrev pub IsPublishedAt : StoreState → (List ℕ → Type 0) → List ℕ → Type 0
 IsPublishedAt s paths m = s.is_own m ⊎ paths m
 
--- A crash at any moment from the commit on leaves such files.
+-- what is in the staging files before a commit, whatever the base
+abbrev pub staged_before : StoreState → Base → Outgoing → List ℕ
+staged_before old base = staged_in old.disk.seen
+
+-- A crash at any moment from the commit on leaves such files. Each packet has what was in its staging file before.
 abbrev pub MayCommitWith : List Outgoing → StoreState → StoreState → Type 0
 MayCommitWith packets old new =
-    Honestly new.disk ((first next : Base) → old.committed first → old.keeps next → LeavesOnly old.disk new.disk (CommitsWith old (IsOfOne packets) packets first next))
+    Honestly new.disk ((first next : Base) → old.committed first → old.keeps next → LeavesOnly old.disk new.disk (CommitsWith old (IsOfOne packets) (staged_in old.disk.seen) packets first next))
 
 -- If a packet stopped it, the base is committed; if the base stopped it, each packet is in its staging file.
 abbrev pub StopsCommitting : List Outgoing → StoreState → StoreState → PublishError → Type 0
 StopsCommitting packets old new (Packets cause) = Commits old new
+StopsCommitting packets old new (Reading cause) = ⊥
 StopsCommitting packets old new (Staging cause) = ⊥
-StopsCommitting packets old new (OfBase cause) = All (IsFilled new.disk) packets
+StopsCommitting packets old new (OfBase cause) = All (IsFilled (staged_in old.disk.seen) new.disk) packets
 
 -- The result that reports whether all packets got their paths.
 abbrev pub IsNamedAs : Result Bool DiskError → Result (Unit {0}) PublishError → Type 0

@@ -2,6 +2,8 @@
 use Rattle.std.specs.Prelude.{◌≡◌, ◌≢◌, ◌⊎◌, ◌<◌, ℕ, List, [], ◌++◌, length, get_or, All, Contains, Some, None}
 use Rattle.disk_io.specs.Fixed.{AreBytes}
 use Rattle.disk_io.specs.Disk.{DiskState, Files}
+use Rattle.echo_addr.specs.declared.address.Address.{Address}
+use Rattle.cmd_report.specs.declared.scanning.PlannedPacket.{PlannedPacket}
 use Rattle.model_steps.specs.PacketFiles.{PacketFile}
 use Rattle.disk_atomic.specs.Changes.{HasOnDisk}
 use Rattle.disk_atomic.specs.declared.outgoing.Outgoing.{Outgoing}
@@ -18,9 +20,9 @@ abbrev pub two_paths : List ℕ → List ℕ → List ℕ → TwoPaths
 two_paths folder own name = record { path = folder ++ name; staging = staging_path (folder ++ name) own }
 
 -- A packet's name: it is not empty.
-pub record IsNamed (sent : PacketFile) : Type 0 where
-  pub some : sent.name ≢ []
-  pub plain : All IsNameByte sent.name
+pub record IsNamed (name : List ℕ) : Type 0 where
+  pub some : name ≢ []
+  pub plain : All IsNameByte name
 
 -- The two paths of a packet's file.
 abbrev pub file_paths : List ℕ → List ℕ → PacketFile → TwoPaths
@@ -35,16 +37,24 @@ pub record IsOffOwn (Own : List ℕ → Type 0) (two : TwoPaths) : Type 0 where
   pub path : Own two.path → ⊥
   pub staging : Own two.staging → ⊥
 
--- The packet that goes to these paths is this file.
-pub record IsSent (sent : PacketFile) (two : TwoPaths) (packet : Outgoing) : Type 0 where
+-- The two paths of a planned packet.
+abbrev pub planned_paths : List ℕ → List ℕ → PlannedPacket → TwoPaths
+planned_paths folder own planned = two_paths folder own planned.name
+
+-- What each packet has, by its address.
+abbrev pub for_address : (Address → List ℕ) → Outgoing → List ℕ
+for_address content packet = content packet.to
+
+-- The planned packet goes to these paths.
+pub record IsSent (planned : PlannedPacket) (two : TwoPaths) (packet : Outgoing) : Type 0 where
   pub path : packet.path.now ≡ two.path
   pub staging : packet.staging.now ≡ two.staging
-  pub file : packet.file.now ≡ sent
+  pub to : packet.to ≡ planned.to
 
--- These packets are these files, one by one.
-pub record AreSent (files : List PacketFile) (paths : List TwoPaths) (packets : List Outgoing) : Type 0 where
-  pub as_many : length packets ≡ length files
-  pub each : (k : ℕ) (f : PacketFile) (t : TwoPaths) (p : Outgoing) → k < length files → IsSent (get_or files k f) (get_or paths k t) (get_or packets k p)
+-- These packets are those that were planned, one by one.
+pub record AreSent (planned : List PlannedPacket) (paths : List TwoPaths) (packets : List Outgoing) : Type 0 where
+  pub as_many : length packets ≡ length planned
+  pub each : (k : ℕ) (f : PlannedPacket) (t : TwoPaths) (p : Outgoing) → k < length planned → IsSent (get_or planned k f) (get_or paths k t) (get_or packets k p)
 
 -- The packet is on the disk, at its path, with just its bytes.
 abbrev pub IsAtItsPath : List ℕ → DiskState → PacketFile → Type 0

@@ -1,5 +1,5 @@
 -- The packets of a scan and the commit of a store.
-use Rattle.std.specs.Prelude.{◌≡◌, ◌⊎◌, ℕ, List, length, All, Result, IsErrOf}
+use Rattle.std.specs.Prelude.{◌≡◌, ◌⊎◌, ℕ, List, length, map, All, Result, IsErrOf}
 use Rattle.base_file.specs.Base.{Base}
 use Rattle.disk_io.specs.Disk.{DiskState, Files, Honestly}
 use Rattle.disk_io.specs.Runs.{LeavesOnly, OneStepOn}
@@ -7,11 +7,15 @@ use Rattle.disk_atomic.specs.Changes.{DifferAt}
 use Rattle.disk_atomic.specs.Trying.{WasTried}
 use Rattle.disk_atomic.specs.declared.placing_error.PlacingError.TheVariants as placing
 use Rattle.station.specs.Paths.{staging_path}
+use Rattle.cmd_report.specs.Scanned.{file_with}
+use Rattle.cmd_report.specs.declared.scanning.PlannedPacket.{PlannedPacket}
+use Rattle.echo_toss.specs.Counts.{bytes_for}
 use Rattle.model_steps.specs.PacketFiles.{PacketFile}
+use Rattle.station_scan.specs.declared.pieces.Source.{Source}
 use Rattle.base_store.specs.Store.{Commits, StoreState}
 use Rattle.station_scan.specs.Fitting.{AreTaken}
 use Rattle.station_scan.specs.Left.{IsOfNameOff}
-use Rattle.station_scan.specs.Publishing.{HasPublishCause, IsOnDisk}
+use Rattle.station_scan.specs.Publishing.{IsOnDisk}
 use Rattle.station_scan.specs.Sending.{HasBytes, IsAtItsPath, IsStagingOfPacket, IsFreeAt, IsStagingGone, IsOfPacket, StandsWhole}
 use Rattle.station_scan.specs.declared.publish_error.PublishError.{PublishError}
 use Rattle.station_scan.specs.declared.publish_error.PublishError.TheVariants.{Packets}
@@ -36,22 +40,25 @@ abbrev pub SendsThese : StoreState → List ℕ → List ℕ → List PacketFile
 SendsThese old outbound own files first next c = WritesBeside old outbound own files first c ⊎ CommitsThese old outbound own files first next c
 
 -- A crash at any moment leaves such files.
-abbrev pub MaySendThese : List ℕ → List ℕ → List PacketFile → StoreState → StoreState → Type 0
+abbrev pub MaySendThese : List ℕ → List ℕ → (Base → List PacketFile) → StoreState → StoreState → Type 0
 MaySendThese outbound own files old new =
-    Honestly new.disk ((first next : Base) → old.committed first → old.keeps next → LeavesOnly old.disk new.disk (SendsThese old outbound own files first next))
+    Honestly new.disk ((first next : Base) → old.committed first → old.keeps next → LeavesOnly old.disk new.disk (SendsThese old outbound own (files next) first next))
+
+-- The files of planned packets, made of what the store holds.
+abbrev pub files_for : Source → List PlannedPacket → Base → List PacketFile
+files_for source planned base = map (file_with (bytes_for source.links.now source.stamp source.from base.messages)) planned
 
 -- Each packet is on the disk at its path alone, and what the store held is committed.
-pub record AreSentOn (outbound own : List ℕ) (files : List PacketFile) (old new : StoreState) : Type 0 where
+pub record AreSentOn (outbound own : List ℕ) (files : Base → List PacketFile) (old new : StoreState) : Type 0 where
   pub committed : Commits old new
-  pub packets : Honestly new.disk (All (IsAtItsPath outbound new.disk) files)
-  pub gone : Honestly new.disk (All (IsStagingGone outbound own new.disk.seen) files)
-  pub bytes : All HasBytes files
+  pub packets : Honestly new.disk ((base : Base) → old.keeps base → All (IsAtItsPath outbound new.disk) (files base))
+  pub gone : Honestly new.disk ((base : Base) → old.keeps base → All (IsStagingGone outbound own new.disk.seen) (files base))
+  pub bytes : Honestly new.disk ((base : Base) → old.keeps base → All HasBytes (files base))
 
 -- If there are packets, the first step in the folder was to try whether a file gets a second path.
-abbrev pub WasTriedFor : {D : Type 0} → (D → DiskState) → (List ℕ → Type 0) → List ℕ → List ℕ → List PacketFile → DiskState → Type 0
+abbrev pub WasTriedFor : {D F : Type 0} → (D → DiskState) → (List ℕ → Type 0) → List ℕ → List ℕ → List F → DiskState → Type 0
 WasTriedFor state Own outbound own files old = (length files ≡ 0) ⊎ WasTried state (IsOfNameOff Own outbound own) (staging_path outbound own) old
 
--- Why the packets were not sent. A used path is reported only if there was one.
-pub record HasSendCause {T : Type 0} (Own : List ℕ → Type 0) (outbound own : List ℕ) (files : List PacketFile) (old new : StoreState) (before now : ℕ) (result : Result T PublishError) : Type 0 where
-  pub causes : HasPublishCause old new before now result
-  pub taken : Honestly new.disk (IsErrOf result (Packets placing.Taken) → AreTaken Own outbound own files old.disk.seen)
+-- A used path is reported only if there was one.
+abbrev pub TakenIfTold : (List ℕ → Type 0) → List ℕ → List ℕ → List PacketFile → StoreState → StoreState → Result (Unit {0}) PublishError → Type 0
+TakenIfTold Own outbound own files old new result = Honestly new.disk (IsErrOf result (Packets placing.Taken) → AreTaken Own outbound own files old.disk.seen)

@@ -8,11 +8,12 @@ use Rattle.cmd_store.specs.declared.command_error.CommandError.TheVariants.{Met,
 use Rattle.station_scan.specs.declared.scan_error.ScanError.{ScanError}
 use Rattle.station_scan.specs.declared.scan_error.ScanError.TheVariants.{Command, Placing, Staying, TooFar}
 use Rattle.station_scan.specs.declared.publish_error.PublishError.{PublishError}
-use Rattle.station_scan.specs.declared.publish_error.PublishError.TheVariants.{Base, Staging, Packets}
+use Rattle.station_scan.specs.declared.publish_error.PublishError.TheVariants.{Base, Reading, Staging, Packets}
 
 -- An error of publishing as an error of a scan.
 abbrev pub stop_of : PublishError → ScanError
 stop_of (Packets cause) = Placing cause
+stop_of (Reading cause) = Command (Store cause)
 stop_of (Staging cause) = Staying cause
 stop_of (Base cause) = Command (Store cause)
 

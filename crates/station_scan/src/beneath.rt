@@ -1,20 +1,17 @@
 //! Parts of a scan on the disk that a store uses.
-ghost use Rattle.std.specs.Prelude.{◌≡◌, ◌≢◌, ◌≤◌, ◌⊎◌, ℕ, List, true, false, All, IfErr, IfOk, IsErrOf};
+ghost use Rattle.std.specs.Prelude.{◌≡◌, ◌≢◌, ◌≤◌, ◌⊎◌, ℕ, List, true, false, All, IfOk, IsErrOf};
 ghost use Rattle.disk_io.specs.Device.{Failed};
 ghost use Rattle.disk_io.specs.Disk.{Honestly};
 ghost use Rattle.disk_io.specs.Runs.{HasCause, LeavesOnly, OneStepOn};
 ghost use Rattle.disk_atomic.specs.Naming.{HasItsPath, NamesEach};
-ghost use Rattle.disk_atomic.specs.Outgoing.{ArePlaced, IsAtStaging, IsFree, IsOfOne, IsStaged};
+ghost use Rattle.disk_atomic.specs.Outgoing.{ArePlaced, IsFree, IsOfOne, IsStaged, staged_in};
 ghost use Rattle.disk_atomic.specs.Publishing.{IsApartFrom};
 ghost use Rattle.station_scan.specs.Beneath.{IsUsedAt};
 ghost use Rattle.station_scan.specs.Left.{AreFreeLeft, EndsLeft, IsOfNameOff};
-ghost use Rattle.station_scan.specs.Publishing.{AreGoing, AreStaged, HasStageCause, IsTriedWith, NoneStays};
 
 use crate::finishing::finish_left;
 use crate::listing::ListStaged;
-use crate::publish_error::PublishError;
 use crate::sending::Sending;
-use crate::staging::stage_or_drop;
 use base_store::Store;
 use disk_atomic::{Outgoing, PlacingError, name_packets};
 use disk_io::{Disk, DiskError};
@@ -28,30 +25,6 @@ pub struct Used<S, A> {
     pub done: A,
 }
 
-/// Writes each packet into its staging file, and tries whether files there can get a second path.
-pub(crate) fn stage_on<'a, D: Disk, P: LendStation<'a, D>>(
-    alloc: Global,
-    store: P::Kept,
-    outbound: &[u8],
-    trial: &[u8],
-    packets: &[Outgoing<'_>],
-) -> Used<P::Kept, Result<bool, PublishError>>
-    requires ready { (P.Kept.state store).is_ready }
-    requires going { AreGoing (P.Kept.state store).is_own outbound.now trial.now packets.now }
-    ensures used { IsUsedAt (IsAtStaging packets.now trial.now) (P.Kept.state store) (P.Kept.state result.store) }
-    ensures staged { IfOk result.done (λ free. free ≡ true → AreStaged packets.now (P.Kept.state result.store).disk) }
-    ensures tried { IfOk result.done (λ free. free ≡ true → IsTriedWith D.state packets.now trial.now (P.Kept.state store).disk) }
-    ensures taken { Honestly (P.Kept.state result.store).disk (IfOk result.done (λ free. free ≡ false → All (IsFree (P.Kept.state store).disk) packets.now → ⊥)) }
-    ensures gone { Honestly (P.Kept.state result.store).disk (IfErr result.done (NoneStays packets.now trial.now (P.Kept.state result.store).disk)) }
-    ensures cause { HasStageCause (P.Kept.failures store) (P.Kept.failures result.store) result.done }
-{
-    let (disk, rest) = P::lend(store);
-    let mut disk = disk;
-    let done = stage_or_drop(alloc, &mut disk, outbound, trial, packets);
-    let store = P::give_back(alloc, disk, rest);
-    Used { store, done }
-}
-
 /// Gives each packet its path, and returns whether all have theirs.
 pub(crate) fn name_on<'a, D: Disk, P: LendStation<'a, D>>(
     alloc: Global,
@@ -62,11 +35,11 @@ pub(crate) fn name_on<'a, D: Disk, P: LendStation<'a, D>>(
     requires ready { (P.Kept.state store).is_ready }
     requires placed { ArePlaced outbound.now packets.now }
     requires apart { All (IsApartFrom (P.Kept.state store).is_own) packets.now }
-    requires staged { All (IsStaged (P.Kept.state store).disk) packets.now }
+    requires staged { All (IsStaged (staged_in (P.Kept.state store).disk.seen) (P.Kept.state store).disk) packets.now }
     ensures used { IsUsedAt (IsOfOne packets.now) (P.Kept.state store) (P.Kept.state result.store) }
-    ensures named { Honestly (P.Kept.state result.store).disk (IfOk result.done (λ all. all ≡ true → All (HasItsPath (P.Kept.state result.store).disk) packets.now)) }
+    ensures named { Honestly (P.Kept.state result.store).disk (IfOk result.done (λ all. all ≡ true → All (HasItsPath (staged_in (P.Kept.state store).disk.seen) (P.Kept.state result.store).disk) packets.now)) }
     ensures taken { Honestly (P.Kept.state result.store).disk (IfOk result.done (λ all. all ≡ false → All (IsFree (P.Kept.state store).disk) packets.now → ⊥)) }
-    ensures any_moment { Honestly (P.Kept.state result.store).disk (LeavesOnly (P.Kept.state store).disk (P.Kept.state result.store).disk (OneStepOn (NamesEach packets.now) (P.Kept.state store).disk)) }
+    ensures any_moment { Honestly (P.Kept.state result.store).disk (LeavesOnly (P.Kept.state store).disk (P.Kept.state result.store).disk (OneStepOn (NamesEach (staged_in (P.Kept.state store).disk.seen) packets.now) (P.Kept.state store).disk)) }
     ensures cause { HasCause (P.Kept.failures store) (P.Kept.failures result.store) result.done }
 {
     let (disk, rest) = P::lend(store);

@@ -1,11 +1,11 @@
 //! Whether packets go to paths that nothing else uses.
 ghost use Rattle.std.specs.Prelude.{◌≡◌, ◌≢◌, true, false, All, AllPairs, map};
 ghost use Rattle.station.specs.Paths.{staging_path};
-ghost use Rattle.station_scan.specs.Fitting.{AreFit};
-ghost use Rattle.station_scan.specs.Sending.{HaveOtherPaths, IsNameByte, IsNamed, IsOffOwn, file_paths};
+ghost use Rattle.station_scan.specs.Fitting.{FitPlanned};
+ghost use Rattle.station_scan.specs.Sending.{HaveOtherPaths, IsNameByte, IsNamed, IsOffOwn, planned_paths};
 
 use crate::sending::{Sending, TwoPaths};
-use model_steps::PacketFile;
+use cmd_report::PlannedPacket;
 use station::OwnPaths;
 
 /// Whether it may be a packet's name: no byte of it is a slash or a tilde.
@@ -21,25 +21,24 @@ pub(crate) fn is_name(name: &[u8]) -> bool
     true
 }
 
-// Whether the file has such a name, and it is not empty.
-fn is_named(file: &PacketFile) -> bool
-    ensures yes { result ≡ true → IsNamed file.now }
-    ensures no { result ≡ false → IsNamed file.now → ⊥ }
+// Whether it is such a name, and not empty.
+fn is_named(name: &[u8]) -> bool
+    ensures yes { result ≡ true → IsNamed name.now }
+    ensures no { result ≡ false → IsNamed name.now → ⊥ }
 {
-    let name = file.name.as_slice();
     if name.is_empty() {
         return false;
     }
     is_name(name)
 }
 
-// Whether each file has such a name.
-fn are_named(files: &[PacketFile]) -> bool
-    ensures yes { result ≡ true → All IsNamed files.now }
-    ensures no { result ≡ false → All IsNamed files.now → ⊥ }
+// Whether each packet has such a name.
+fn are_named(planned: &[PlannedPacket]) -> bool
+    ensures yes { result ≡ true → All (λ p. IsNamed p.name) planned.now }
+    ensures no { result ≡ false → All (λ p. IsNamed p.name) planned.now → ⊥ }
 {
-    'files: for file in files {
-        if !is_named(file) {
+    'planned: for packet in planned {
+        if !is_named(packet.name.as_slice()) {
             return false;
         }
     }
@@ -101,7 +100,7 @@ fn are_off_own<O: OwnPaths>(own: &O, paths: &[TwoPaths]) -> bool
     true
 }
 
-/// Whether each file goes to two paths that no other file uses. Neither they nor the tried path may belong to the
+/// Whether each packet goes to two paths that no other one uses. Neither they nor the tried path may belong to the
 /// station.
 pub(crate) fn are_fit<O: OwnPaths>(
     own: &O,
@@ -109,12 +108,12 @@ pub(crate) fn are_fit<O: OwnPaths>(
     paths: &[TwoPaths],
     trial: &[u8],
 ) -> bool
-    requires paths { paths.now ≡ map (file_paths sending.outbound.now sending.own.now) sending.files.now }
+    requires paths { paths.now ≡ map (planned_paths sending.outbound.now sending.own.now) sending.planned.now }
     requires trial { trial.now ≡ staging_path sending.outbound.now sending.own.now }
-    ensures yes { result ≡ true → AreFit (O.is_own own.now) sending.entry.outbound.now sending.entry.own.now sending.entry.files.now }
-    ensures no { result ≡ false → AreFit (O.is_own own.now) sending.entry.outbound.now sending.entry.own.now sending.entry.files.now → ⊥ }
+    ensures yes { result ≡ true → FitPlanned (O.is_own own.now) sending.entry.outbound.now sending.entry.own.now sending.entry.planned.now }
+    ensures no { result ≡ false → FitPlanned (O.is_own own.now) sending.entry.outbound.now sending.entry.own.now sending.entry.planned.now → ⊥ }
 {
-    if !are_named(sending.files) {
+    if !are_named(sending.planned) {
         return false;
     }
     if !all_differ(paths) {

@@ -9,8 +9,8 @@ ghost use Rattle.base_store.specs.Store.{Commits, MayCommit};
 ghost use Rattle.station_scan.specs.Fitting.{AreFitting, IsUnfit};
 ghost use Rattle.station_scan.specs.Publishing.{HasPublishCause, KeepsStoreBut};
 ghost use Rattle.station_scan.specs.Scanning.{IsTouched, SendsOut};
-ghost use Rattle.station_scan.specs.Sending.{file_paths};
-ghost use Rattle.station_scan.specs.Sends.{AreSentOn, HasSendCause, IsOfThese, MaySendThese, WasTriedFor};
+ghost use Rattle.station_scan.specs.Sending.{planned_paths};
+ghost use Rattle.station_scan.specs.Sends.{AreSentOn, IsOfThese, MaySendThese, TakenIfTold, WasTriedFor, files_for};
 ghost use Rattle.station_scan.specs.Stops.{IsOfBase, scan_done};
 
 use crate::beneath::{Used, finish_on};
@@ -20,6 +20,7 @@ use crate::publish_error::PublishError;
 use crate::publishing::publish;
 use crate::scan_error::ScanError;
 use crate::sending::{Sending, TwoPaths, outgoing_of, paths_of};
+use crate::writing::Batch;
 use base_store::{Store, StoreError};
 use cmd_store::CommandError;
 use disk_atomic::{Outgoing, PlacingError};
@@ -50,7 +51,7 @@ fn commit_alone<'a, D: Disk, P: LendStation<'a, D>>(
     }
 }
 
-// The packets of these files at these paths, if nothing else uses the paths of each and none belongs to the station.
+// The packets at these paths, if nothing else uses the paths of each and none belongs to the station.
 fn fitting_packets<'p, O: OwnPaths>(
     alloc: Global,
     paths: &O,
@@ -58,15 +59,15 @@ fn fitting_packets<'p, O: OwnPaths>(
     two: &'p [TwoPaths],
     trial: &[u8],
 ) -> Result<Vec<Outgoing<'p>>, PublishError>
-    requires paths { two.now ≡ map (file_paths sending.outbound.now sending.own.now) sending.files.now }
+    requires paths { two.now ≡ map (planned_paths sending.outbound.now sending.own.now) sending.planned.now }
     requires trial { trial.now ≡ staging_path sending.outbound.now sending.own.now }
-    ensures fit { IfOk result (λ packets. AreFitting (O.is_own paths.now) sending.entry.outbound.now sending.entry.own.now sending.entry.files.now packets.items) }
-    ensures err { IfErr result (IsUnfit (O.is_own paths.now) sending.entry.outbound.now sending.entry.own.now sending.entry.files.now) }
+    ensures fit { IfOk result (λ packets. AreFitting (O.is_own paths.now) sending.entry.outbound.now sending.entry.own.now sending.entry.planned.now packets.items) }
+    ensures err { IfErr result (IsUnfit (O.is_own paths.now) sending.entry.outbound.now sending.entry.own.now sending.entry.planned.now) }
 {
     if !are_fit(paths, sending, two, trial) {
         return Err(PublishError::Packets(PlacingError::Taken));
     }
-    Ok(outgoing_of(alloc, sending.files, two)?)
+    Ok(outgoing_of(alloc, sending.planned, two)?)
 }
 
 // Writes these packets, and commits the store.
@@ -79,13 +80,16 @@ fn publish_packets<'a, D: Disk, P: LendStation<'a, D>>(
     requires plain { All (λ b. b ≢ 47) sending.own.now }
     requires ready { (P.Kept.state store).is_ready }
     requires own { (m : List ℕ) → (P.Kept.state store).is_own m → P.Paths.is_own paths.now m }
-    ensures sent { OnOk result.done (AreSentOn sending.entry.outbound.now sending.entry.own.now sending.entry.files.now (P.Kept.state store) (P.Kept.state result.store)) }
-    ensures any_moment { MaySendThese sending.entry.outbound.now sending.entry.own.now sending.entry.files.now (P.Kept.state store) (P.Kept.state result.store) }
-    ensures keeps { KeepsStoreBut (IsOfThese (P.Kept.state store).is_own sending.entry.outbound.now sending.entry.own.now sending.entry.files.now) (P.Kept.state store) (P.Kept.state result.store) }
-    ensures tried { HoldsAsBefore (P.Kept.state store) (P.Kept.state result.store) ⊎ WasTriedFor D.state (P.Paths.is_own paths.now) sending.entry.outbound.now sending.entry.own.now sending.entry.files.now (P.Kept.state store).disk }
-    ensures cause { HasSendCause (P.Paths.is_own paths.now) sending.entry.outbound.now sending.entry.own.now sending.entry.files.now (P.Kept.state store) (P.Kept.state result.store) (P.Kept.failures store) (P.Kept.failures result.store) result.done }
+    ensures sent { OnOk result.done (AreSentOn sending.entry.outbound.now sending.entry.own.now (files_for sending.entry.source sending.entry.planned.now) (P.Kept.state store) (P.Kept.state result.store)) }
+    ensures any_moment { MaySendThese sending.entry.outbound.now sending.entry.own.now (files_for sending.entry.source sending.entry.planned.now) (P.Kept.state store) (P.Kept.state result.store) }
+
+    // Which paths it uses does not depend on what the packets have, nor does the rest.
+    ensures keeps { (base : Base) → KeepsStoreBut (IsOfThese (P.Kept.state store).is_own sending.entry.outbound.now sending.entry.own.now (files_for sending.entry.source sending.entry.planned.now base)) (P.Kept.state store) (P.Kept.state result.store) }
+    ensures tried { HoldsAsBefore (P.Kept.state store) (P.Kept.state result.store) ⊎ WasTriedFor D.state (P.Paths.is_own paths.now) sending.entry.outbound.now sending.entry.own.now sending.entry.planned.now (P.Kept.state store).disk }
+    ensures taken { (base : Base) → TakenIfTold (P.Paths.is_own paths.now) sending.entry.outbound.now sending.entry.own.now (files_for sending.entry.source sending.entry.planned.now base) (P.Kept.state store) (P.Kept.state result.store) result.done }
+    ensures cause { HasPublishCause (P.Kept.state store) (P.Kept.state result.store) (P.Kept.failures store) (P.Kept.failures result.store) result.done }
 {
-    let two = match paths_of(alloc, sending.outbound, sending.own, sending.files) {
+    let two = match paths_of(alloc, sending.outbound, sending.own, sending.planned) {
         Ok(two) => two,
         Err(refused) => {
             return Used {
@@ -112,7 +116,12 @@ fn publish_packets<'a, D: Disk, P: LendStation<'a, D>>(
             };
         }
     };
-    publish::<D, P>(alloc, store, sending.outbound, &trial, &packets)
+    let batch = Batch {
+        outbound: sending.outbound,
+        trial: &trial,
+        packets: &packets,
+    };
+    publish::<D, P>(alloc, store, batch, sending.source)
 }
 
 // Writes the packets of a scan, and commits its store. A scan without packets needs no folder.
@@ -125,13 +134,16 @@ fn publish_files<'a, D: Disk, P: LendStation<'a, D>>(
     requires plain { All (λ b. b ≢ 47) sending.own.now }
     requires ready { (P.Kept.state store).is_ready }
     requires own { (m : List ℕ) → (P.Kept.state store).is_own m → P.Paths.is_own paths.now m }
-    ensures sent { OnOk result.done (AreSentOn sending.entry.outbound.now sending.entry.own.now sending.entry.files.now (P.Kept.state store) (P.Kept.state result.store)) }
-    ensures any_moment { MaySendThese sending.entry.outbound.now sending.entry.own.now sending.entry.files.now (P.Kept.state store) (P.Kept.state result.store) }
-    ensures keeps { KeepsStoreBut (IsOfThese (P.Kept.state store).is_own sending.entry.outbound.now sending.entry.own.now sending.entry.files.now) (P.Kept.state store) (P.Kept.state result.store) }
-    ensures tried { HoldsAsBefore (P.Kept.state store) (P.Kept.state result.store) ⊎ WasTriedFor D.state (P.Paths.is_own paths.now) sending.entry.outbound.now sending.entry.own.now sending.entry.files.now (P.Kept.state store).disk }
-    ensures cause { HasSendCause (P.Paths.is_own paths.now) sending.entry.outbound.now sending.entry.own.now sending.entry.files.now (P.Kept.state store) (P.Kept.state result.store) (P.Kept.failures store) (P.Kept.failures result.store) result.done }
+    ensures sent { OnOk result.done (AreSentOn sending.entry.outbound.now sending.entry.own.now (files_for sending.entry.source sending.entry.planned.now) (P.Kept.state store) (P.Kept.state result.store)) }
+    ensures any_moment { MaySendThese sending.entry.outbound.now sending.entry.own.now (files_for sending.entry.source sending.entry.planned.now) (P.Kept.state store) (P.Kept.state result.store) }
+
+    // Which paths it uses does not depend on what the packets have, nor does the rest.
+    ensures keeps { (base : Base) → KeepsStoreBut (IsOfThese (P.Kept.state store).is_own sending.entry.outbound.now sending.entry.own.now (files_for sending.entry.source sending.entry.planned.now base)) (P.Kept.state store) (P.Kept.state result.store) }
+    ensures tried { HoldsAsBefore (P.Kept.state store) (P.Kept.state result.store) ⊎ WasTriedFor D.state (P.Paths.is_own paths.now) sending.entry.outbound.now sending.entry.own.now sending.entry.planned.now (P.Kept.state store).disk }
+    ensures taken { (base : Base) → TakenIfTold (P.Paths.is_own paths.now) sending.entry.outbound.now sending.entry.own.now (files_for sending.entry.source sending.entry.planned.now base) (P.Kept.state store) (P.Kept.state result.store) result.done }
+    ensures cause { HasPublishCause (P.Kept.state store) (P.Kept.state result.store) (P.Kept.failures store) (P.Kept.failures result.store) result.done }
 {
-    if sending.files.is_empty() {
+    if sending.planned.is_empty() {
         commit_alone::<D, P>(store)
     } else {
         publish_packets::<D, P>(alloc, store, paths, sending)
@@ -153,10 +165,10 @@ pub(crate) fn send_out<'a, D: Disk, P: LendStation<'a, D>, G: ListStaged>(
     requires own { (m : List ℕ) → (P.Kept.state store).is_own m → P.Paths.is_own paths.now m }
     ensures sends { Honestly (P.Kept.state result.store).disk ((first next : Base) → (P.Kept.state store).committed first → (P.Kept.state store).keeps next
         → SendsOut (G.is_true listing.new (P.Kept.state store).disk.seen) (Failed (P.Kept.failures store) (P.Kept.failures result.store) ⊎ Failed (G.failures listing.old) (G.failures listing.new)) (P.Paths.is_own paths.now)
-        sending.entry.outbound.now sending.entry.own.now ((P.Kept.state store).stands first) ((P.Kept.state store).stands next) cursor sending.entry.files.now (P.Kept.state store).disk (P.Kept.state result.store).disk result.done) }
+        sending.entry.outbound.now sending.entry.own.now ((P.Kept.state store).stands first) ((P.Kept.state store).stands next) cursor (files_for sending.entry.source sending.entry.planned.now next) (P.Kept.state store).disk (P.Kept.state result.store).disk result.done) }
 
     // If files of the folder can get no second path, nothing is committed.
-    ensures tried { HoldsAsBefore (P.Kept.state store) (P.Kept.state result.store) ⊎ WasTriedFor D.state (P.Paths.is_own paths.now) sending.entry.outbound.now sending.entry.own.now sending.entry.files.now (P.Kept.state store).disk }
+    ensures tried { HoldsAsBefore (P.Kept.state store) (P.Kept.state result.store) ⊎ WasTriedFor D.state (P.Paths.is_own paths.now) sending.entry.outbound.now sending.entry.own.now sending.entry.planned.now (P.Kept.state store).disk }
     ensures keeps { KeepsStoreBut (IsTouched (P.Kept.state store).is_own sending.entry.outbound.now) (P.Kept.state store) (P.Kept.state result.store) }
     ensures later { P.Kept.failures store ≤ P.Kept.failures result.store }
     ensures listing_later { G.failures listing.old ≤ G.failures listing.new }

@@ -12,6 +12,9 @@ pub enum PublishError {
     /// committed.
     #[error("{0}")]
     Packets(PlacingError),
+    /// The base could not be read again while packets were written, and no staging file is left.
+    #[error("{0}")]
+    Reading(StoreError),
     /// A packet was not written, and some staging files may be left.
     #[error("{0}")]
     Staging(DiskError),

@@ -28,6 +28,7 @@ impl<'a> From<PublishError> for ScanError<'a> {
         match why {
             PublishError::Packets(cause) => ScanError::Placing(cause),
             PublishError::Staging(cause) => ScanError::Staying(cause),
+            PublishError::Reading(cause) => ScanError::Command(CommandError::Store(cause)),
             PublishError::Base(cause) => ScanError::Command(CommandError::Store(cause)),
         }
     }

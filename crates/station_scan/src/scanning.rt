@@ -130,16 +130,16 @@ fn scan_kept<'a, 's, D: Disk, P: LendStation<'a, D>, G: ListStaged, T: MessagePr
     ensures device { IsErrOf result.done (ScanError.Command (CommandError.Store StoreError.Device)) → Failed (P.Kept.failures store) (P.Kept.failures result.store) }
 {
     let cursor = store.cursor();
-    let Taken { store, files } = take_waiting(alloc, scan.stamp, links, store, &scan.watch, out);
-    match files {
-        Ok(files) => put_taken::<D, P, G, T>(
+    let Taken { store, planned } = take_waiting(alloc, scan.stamp, links, store, &scan.watch, out);
+    match planned {
+        Ok(planned) => put_taken::<D, P, G, T>(
             alloc,
             links,
             store,
             paths,
             scan,
             cursor,
-            files.as_slice(),
+            planned.as_slice(),
         ),
         Err(stop) => Used {
             store,

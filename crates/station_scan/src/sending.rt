@@ -1,10 +1,11 @@
 //! The packets of a scan, each with its two paths.
 ghost use Rattle.std.specs.Prelude.{◌≡◌, map, length, IfOk};
-ghost use Rattle.station_scan.specs.Sending.{AreSent, file_paths, two_paths};
+ghost use Rattle.station_scan.specs.Sending.{AreSent, planned_paths, two_paths};
 
+use crate::pieces::Source;
+use cmd_report::PlannedPacket;
 use disk_atomic::Outgoing;
 use echo_addr::Items;
-use model_steps::PacketFile;
 use station::staging_path;
 use std::alloc::{AllocError, Global};
 
@@ -15,13 +16,14 @@ pub struct TwoPaths {
     pub staging: Items<u8>,
 }
 
-/// The packets of a scan and their folder: a path that ends in a slash or is empty. The own name is in their staging
-/// paths.
+/// The packets of a scan, what they are made of, and their folder: a path that ends in a slash or is empty. The own name
+/// is in their staging paths.
 #[derive(Clone, Copy)]
 pub(crate) struct Sending<'p> {
     pub outbound: &'p [u8],
     pub own: &'p [u8],
-    pub files: &'p [PacketFile],
+    pub planned: &'p [PlannedPacket],
+    pub source: Source<'p>,
 }
 
 /// The two paths of a packet of this name in this folder.
@@ -42,40 +44,40 @@ pub(crate) fn two_paths(
     })
 }
 
-/// The two paths of each file.
+/// The two paths of each packet.
 pub(crate) fn paths_of(
     alloc: Global,
     folder: &[u8],
     own: &[u8],
-    files: &[PacketFile],
+    planned: &[PlannedPacket],
 ) -> Result<Vec<TwoPaths>, AllocError>
-    ensures { IfOk result (λ all. all.items ≡ map (file_paths folder.now own.now) files.now) }
+    ensures { IfOk result (λ all. all.items ≡ map (planned_paths folder.now own.now) planned.now) }
 {
-    let mut all = Vec::with_capacity(alloc, files.len())?;
-    'files: for file in files {
-        let two = two_paths(alloc, folder, own, file.name.as_slice())?;
+    let mut all = Vec::with_capacity(alloc, planned.len())?;
+    'planned: for packet in planned {
+        let two = two_paths(alloc, folder, own, packet.name.as_slice())?;
         all.push(two)?;
     }
     Ok(all)
 }
 
-/// The packets of these files, at these paths.
+/// The planned packets, at these paths.
 pub(crate) fn outgoing_of<'a>(
     alloc: Global,
-    files: &'a [PacketFile],
+    planned: &[PlannedPacket],
     paths: &'a [TwoPaths],
 ) -> Result<Vec<Outgoing<'a>>, AllocError>
-    requires { length paths.now ≡ length files.now }
-    ensures { IfOk result (λ all. AreSent files.now paths.now all.items) }
+    requires { length paths.now ≡ length planned.now }
+    ensures { IfOk result (λ all. AreSent planned.now paths.now all.items) }
 {
-    let mut all = Vec::with_capacity(alloc, files.len())?;
-    'files: for i in 0..files.len() {
-        let file = &files[i];
+    let mut all = Vec::with_capacity(alloc, planned.len())?;
+    'planned: for i in 0..planned.len() {
+        let to = planned[i].to;
         let two = &paths[i];
         all.push(Outgoing {
             path: two.path.as_slice(),
             staging: two.staging.as_slice(),
-            file,
+            to,
         })?;
     }
     Ok(all)

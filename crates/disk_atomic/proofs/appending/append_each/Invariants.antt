@@ -1,10 +1,11 @@
 -- The files of the packets up to here have their pieces, and the others are as they were.
-use Rattle.std.proofs.Common.{◌≡◌, ◌<◌, ◌≤◌, ◌++◌, ℕ, get_or, length}
+use Rattle.std.proofs.Common.{◌≡◌, ◌<◌, ◌≤◌, ℕ, get_or, length}
 use Rattle.std.specs.Prelude.{All}
-use Rattle.disk_io.specs.Disk.{Honestly, bytes_in}
+use Rattle.std.specs.List.{AllWithin}
+use Rattle.disk_io.specs.Disk.{Honestly}
 use Rattle.disk_io.specs.Runs.{KeepsNamed}
 use Rattle.disk_atomic.specs.Changes.{ChangesOnly}
-use Rattle.disk_atomic.specs.Outgoing.{CanGrowStaging, IsStagingOne}
+use Rattle.disk_atomic.specs.Outgoing.{CanGrowStaging, IsLonger, IsStagingOne, SendsBytes}
 use Rattle.disk_atomic.specs.declared.outgoing.Outgoing.{Outgoing}
 use Rattle.disk_atomic.proofs.appending.append_each.Given as goal
 
@@ -13,9 +14,9 @@ invariant-packets g l = record {
   changes : ChangesOnly (IsStagingOne l.packets) (g.D.Disk.state l.fn.disk) (g.D.Disk.state l.disk);
   named : KeepsNamed (λ m. ⊥) (g.D.Disk.state l.fn.disk) (g.D.Disk.state l.disk);
   grow : All (CanGrowStaging (g.D.Disk.state l.disk)) l.packets;
-  longer : Honestly (g.D.Disk.state l.disk) ((k : ℕ) (p : Outgoing) → k < l.i → k < length l.packets
-      → bytes_in ((g.D.Disk.state l.disk).seen (get_or l.packets k p).staging.now) ≡ bytes_in ((g.D.Disk.state l.fn.disk).seen (get_or l.packets k p).staging.now) ++ g.P.Pieces.bytes l.pieces k);
-  same : (k : ℕ) (p : Outgoing) → l.i ≤ k → k < length l.packets
+  longer : Honestly (g.D.Disk.state l.disk) (AllWithin (IsLonger (g.P.Pieces.bytes l.pieces) (g.D.Disk.state l.fn.disk) (g.D.Disk.state l.disk)) l.packets 0 l.packet-index);
+  bytes : AllWithin (SendsBytes (λ p. g.P.Pieces.bytes l.pieces p.to)) l.packets 0 l.packet-index;
+  same : (k : ℕ) (p : Outgoing) → l.packet-index ≤ k → k < length l.packets
       → (g.D.Disk.state l.disk).seen (get_or l.packets k p).staging.now ≡ (g.D.Disk.state l.fn.disk).seen (get_or l.packets k p).staging.now;
   cause : g.D.Disk.failures l.fn.disk ≤ g.D.Disk.failures l.disk;
 }

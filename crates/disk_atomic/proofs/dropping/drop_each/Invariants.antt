@@ -11,5 +11,5 @@ invariant-packets g l = record {
   changes : ChangesOnly (IsStagingOne l.packets) (g.D.Disk.state l.fn.disk) (g.D.Disk.state l.disk);
   gone : Honestly (g.D.Disk.state l.disk) (AllWithin (IsStagingGone (g.D.Disk.state l.disk)) l.packets 0 l.packet-index);
   named : AllWithin (IsStagingNamed (g.D.Disk.state l.disk)) l.packets l.packet-index (length l.packets);
-  later : g.D.Disk.failures l.fn.disk ≤ g.D.Disk.failures l.disk;
+  cause : g.D.Disk.failures l.fn.disk ≤ g.D.Disk.failures l.disk;
 }

@@ -1,14 +1,11 @@
-use Rattle.std.proofs.Common.{◌≡◌, ◌<◌, ◌∙◌, get_or, false, inr, true, ⊎_elim, length, arith, subst}
+use Rattle.std.proofs.Common.{◌<◌, ◌∙◌, get_or, inr, ⊎_elim, length, arith}
 use Rattle.std.proofs.lemmas.Bool.{and_parts}
-use Rattle.disk_atomic.specs.Changes.{ChangesOnly}
-use Rattle.disk_atomic.specs.Naming.{HasItsPath, HasMoved, IsTaken, Names, NamesEach, StandsWhole, StaysThere}
-use Rattle.disk_io.specs.Runs.{LeavesOnly, OneStepOn}
-use Rattle.disk_atomic.specs.Outgoing.{AreApart, IsOfOne, IsStaged}
-use Rattle.disk_atomic.specs.declared.outgoing.Outgoing.{Outgoing}
+use Rattle.disk_atomic.specs.Naming.{HasItsPath, Names, NamesEach, StandsWhole}
+use Rattle.disk_atomic.specs.Outgoing.{AreApart, IsOfOne, IsStaged, staged_in}
 use Rattle.disk_atomic.proofs.Anchors.{anchor_stays, anchored_now, has_path, has_path_stays, IsAnchored, IsSameAt, same_stays, staged_stays, whole_now, whole_stays}
 use Rattle.disk_atomic.proofs.Changes.{then_only, then_steps}
 use Rattle.disk_atomic.proofs.Each.{ahead, among, behind, each, here}
-use Rattle.disk_atomic.proofs.Packets.{apart_back, AtBoth, of_one}
+use Rattle.disk_atomic.proofs.Packets.{apart_back, nobody, of_one}
 use Rattle.disk_atomic.proofs.Whole.{none_is_not_there, one_false}
 use Rattle.disk_atomic.proofs.naming.name_packets.Goals as goal
 
@@ -19,71 +16,71 @@ returns-in_err-all-clause-changes g c =
     let lt : i < length packets = omega arith in
     let d = g.D.Disk.state c.packets.disk in
     let e = g.D.Disk.state c.name_packet.new.disk in
-    let z = c.packet-item.result in
+    let z = nobody in
     then_only (IsOfOne packets) (g.D.Disk.state c.args.disk.now) d e c.packets.invariant.changes
-    (of_one packets (get_or packets i z) (among packets i z lt) d e (subst (λ (p : Outgoing). ChangesOnly (AtBoth p) d e) c.packet-item.is c.name_packet.ensures.changes))
+    (of_one packets (get_or packets i z) (among packets i z lt) d e c.name_packet.ensures.changes)
 
 pub returns-in_err-all-clause-any_moment : goal.returns-in_err-all-clause-any_moment
 returns-in_err-all-clause-any_moment g c honest =
     let packets = c.args.packets.now in
+    let of = staged_in (g.D.Disk.state c.args.disk.now).seen in
     let pairs = c.requires.placed.apart in
     let i = c.packets.packet-index in
     let lt : i < length packets = omega arith in
-    let z = c.packet-item.result in
+    let z = nobody in
     let x = get_or packets i z in
-    let is : z ≡ x = c.packet-item.is in
     let inv = c.packets.invariant in
     let d0 = g.D.Disk.state c.args.disk.now in
     let d = g.D.Disk.state c.packets.disk in
     let e = g.D.Disk.state c.name_packet.new.disk in
-    let moments = λ (honest : e.is_honest). subst (λ (p : Outgoing). LeavesOnly d e (OneStepOn (Names p.path.now p.staging.now) d)) is (c.name_packet.ensures.any_moment honest) in
-    let staged = here (IsStaged d) packets i z lt inv.staged in
+    let moments = c.name_packet.ensures.any_moment in
+    let staged = here (IsStaged of d) packets i z lt inv.staged in
     let h1 = c.name_packet.ensures.changes.honest honest in
-    then_steps d0 d e (NamesEach packets) (Names x.path.now x.staging.now) (NamesEach packets) (inv.any_moment h1) (moments honest) (λ a b r. r)
+    then_steps d0 d e (NamesEach of packets) (Names x.path.now x.staging.now) (NamesEach of packets) (inv.any_moment h1) (moments honest) (λ a b r. r)
     (λ a b f at left r q. record {
       others = λ m out. q.others m (λ o. out (x, among packets i z lt, o)) ∙ r.others m out;
-      whole = each AreApart apart_back packets pairs i z lt (IsAnchored d) (IsStaged d) (StandsWhole f) (λ y apart on. whole_stays x y apart d b f left q on) (λ y apart on. whole_stays x y apart d b f left q (inr on.file))
-          (whole_now x d e staged.file b f left q) (inv.anchored h1) inv.staged;
+      whole = each AreApart apart_back packets pairs i z lt (IsAnchored of d) (IsStaged of d) (StandsWhole of f) (λ y apart on. whole_stays of x y apart d b f left q on) (λ y apart on. whole_stays of x y apart d b f left q (inr on.file))
+          (whole_now of x d e staged.file b f left q) (inv.anchored h1) inv.staged;
     })
 
 pub packets-preserved : goal.packets-preserved
 packets-preserved g c =
     let packets = c.args.packets.now in
+    let of = staged_in (g.D.Disk.state c.args.disk.now).seen in
     let pairs = c.requires.placed.apart in
     let i = c.packets.packet-index in
     let lt : i < length packets = omega arith in
-    let z = c.packet-item.result in
+    let z = nobody in
     let x = get_or packets i z in
-    let is : z ≡ x = c.packet-item.is in
     let inv = c.packets.invariant in
     let d0 = g.D.Disk.state c.args.disk.now in
     let d = g.D.Disk.state c.packets.disk in
     let e = g.D.Disk.state c.name_packet.new.disk in
     let now = c.in_ok-all.ensures in
-    let one : ChangesOnly (AtBoth x) d e = subst (λ (p : Outgoing). ChangesOnly (AtBoth p) d e) is c.name_packet.ensures.changes in
-    let moved = λ (honest : e.is_honest). subst (λ (p : Outgoing). c.in_ok-all.field-0 ≡ true → HasMoved d e p.path.now p.staging.now) is (now.named honest) in
-    let stays = subst (λ (p : Outgoing). c.in_ok-all.field-0 ≡ false → StaysThere d e p.staging.now) is now.stays in
-    let taken = λ (honest : e.is_honest). subst (λ (p : Outgoing). c.in_ok-all.field-0 ≡ false → IsTaken d p.path.now p.staging.now) is (now.taken honest) in
-    let moments = λ (honest : e.is_honest). subst (λ (p : Outgoing). LeavesOnly d e (OneStepOn (Names p.path.now p.staging.now) d)) is (c.name_packet.ensures.any_moment honest) in
-    let staged = here (IsStaged d) packets i z lt inv.staged in
+    let one = c.name_packet.ensures.changes in
+    let moved = now.named in
+    let stays = now.stays in
+    let taken = now.taken in
+    let moments = c.name_packet.ensures.any_moment in
+    let staged = here (IsStaged of d) packets i z lt inv.staged in
     let was = here (IsSameAt d0 d) packets i z lt inv.same in
     record {
       changes = then_only (IsOfOne packets) d0 d e inv.changes (of_one packets x (among packets i z lt) d e one);
       any_moment = λ honest.
           let h1 = one.honest honest in
-          then_steps d0 d e (NamesEach packets) (Names x.path.now x.staging.now) (NamesEach packets) (inv.any_moment h1) (moments honest) (λ a b r. r)
+          then_steps d0 d e (NamesEach of packets) (Names x.path.now x.staging.now) (NamesEach of packets) (inv.any_moment h1) (moments honest) (λ a b r. r)
           (λ a b f at left r q. record {
             others = λ m out. q.others m (λ o. out (x, among packets i z lt, o)) ∙ r.others m out;
-            whole = each AreApart apart_back packets pairs i z lt (IsAnchored d) (IsStaged d) (StandsWhole f) (λ y apart on. whole_stays x y apart d b f left q on) (λ y apart on. whole_stays x y apart d b f left q (inr on.file))
-                (whole_now x d e staged.file b f left q) (inv.anchored h1) inv.staged;
+            whole = each AreApart apart_back packets pairs i z lt (IsAnchored of d) (IsStaged of d) (StandsWhole of f) (λ y apart on. whole_stays of x y apart d b f left q on) (λ y apart on. whole_stays of x y apart d b f left q (inr on.file))
+                (whole_now of x d e staged.file b f left q) (inv.anchored h1) inv.staged;
           });
-      anchored = λ honest. behind AreApart apart_back packets pairs i z lt (IsAnchored d) (IsAnchored e) (λ y apart. anchor_stays x y apart d e one)
-          (anchored_now x d e staged.file c.in_ok-all.field-0 (moved honest) stays) (inv.anchored (one.honest honest));
-      staged = ahead AreApart apart_back packets pairs i z lt (IsStaged d) (IsStaged e) (λ y apart. staged_stays x y apart d e one) inv.staged;
-      same = ahead AreApart apart_back packets pairs i z lt (IsSameAt d0 d) (IsSameAt d0 e) (λ y apart. same_stays x y apart d e one d0) inv.same;
+      anchored = λ honest. behind AreApart apart_back packets pairs i z lt (IsAnchored of d) (IsAnchored of e) (λ y apart. anchor_stays of x y apart d e one)
+          (anchored_now of x d e staged.file c.in_ok-all.field-0 (moved honest) stays) (inv.anchored (one.honest honest));
+      staged = ahead AreApart apart_back packets pairs i z lt (IsStaged of d) (IsStaged of e) (λ y apart. staged_stays of x y apart d e one) inv.staged;
+      same = ahead AreApart apart_back packets pairs i z lt (IsSameAt d0 d) (IsSameAt d0 e) (λ y apart. same_stays of x y apart d e one d0) inv.same;
       named = λ honest is.
           let both = and_parts c.packets.all c.in_ok-all.field-0 is in
-          behind AreApart apart_back packets pairs i z lt (HasItsPath d) (HasItsPath e) (λ y apart. has_path_stays x y apart d e one) (has_path x d e staged.file (moved honest both.1)) (inv.named (one.honest honest) both.0);
+          behind AreApart apart_back packets pairs i z lt (HasItsPath of d) (HasItsPath of e) (λ y apart. has_path_stays of x y apart d e one) (has_path of x d e staged.file (moved honest both.1)) (inv.named (one.honest honest) both.0);
       taken = λ honest is free.
           ⊎_elim (λ no. inv.taken (one.honest honest) no free) (λ no. none_is_not_there (d.seen x.path.now) (was ∙ free i z lt) (taken honest no).there) (one_false c.packets.all c.in_ok-all.field-0 is);
       cause = omega (arith, c.name_packet.ensures.cause.later, inv.cause);

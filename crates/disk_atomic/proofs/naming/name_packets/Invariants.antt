@@ -5,18 +5,18 @@ use Rattle.disk_io.specs.Disk.{Honestly}
 use Rattle.disk_io.specs.Runs.{LeavesOnly, OneStepOn}
 use Rattle.disk_atomic.specs.Changes.{ChangesOnly}
 use Rattle.disk_atomic.specs.Naming.{HasItsPath, NamesEach}
-use Rattle.disk_atomic.specs.Outgoing.{IsFree, IsOfOne, IsStaged}
+use Rattle.disk_atomic.specs.Outgoing.{IsFree, IsOfOne, IsStaged, staged_in}
 use Rattle.disk_atomic.proofs.Anchors.{IsAnchored, IsSameAt}
 use Rattle.disk_atomic.proofs.naming.name_packets.Given as goal
 
 abbrev pub invariant-packets : goal.invariant-packets
 invariant-packets g l = record {
   changes : ChangesOnly (IsOfOne l.packets) (g.D.Disk.state l.fn.disk) (g.D.Disk.state l.disk);
-  any_moment : Honestly (g.D.Disk.state l.disk) (LeavesOnly (g.D.Disk.state l.fn.disk) (g.D.Disk.state l.disk) (OneStepOn (NamesEach l.packets) (g.D.Disk.state l.fn.disk)));
-  anchored : Honestly (g.D.Disk.state l.disk) (AllWithin (IsAnchored (g.D.Disk.state l.disk)) l.packets 0 l.packet-index);
-  staged : AllWithin (IsStaged (g.D.Disk.state l.disk)) l.packets l.packet-index (length l.packets);
+  any_moment : Honestly (g.D.Disk.state l.disk) (LeavesOnly (g.D.Disk.state l.fn.disk) (g.D.Disk.state l.disk) (OneStepOn (NamesEach (staged_in (g.D.Disk.state l.fn.disk).seen) l.packets) (g.D.Disk.state l.fn.disk)));
+  anchored : Honestly (g.D.Disk.state l.disk) (AllWithin (IsAnchored (staged_in (g.D.Disk.state l.fn.disk).seen) (g.D.Disk.state l.disk)) l.packets 0 l.packet-index);
+  staged : AllWithin (IsStaged (staged_in (g.D.Disk.state l.fn.disk).seen) (g.D.Disk.state l.disk)) l.packets l.packet-index (length l.packets);
   same : AllWithin (IsSameAt (g.D.Disk.state l.fn.disk) (g.D.Disk.state l.disk)) l.packets l.packet-index (length l.packets);
-  named : Honestly (g.D.Disk.state l.disk) (l.all ≡ true → AllWithin (HasItsPath (g.D.Disk.state l.disk)) l.packets 0 l.packet-index);
+  named : Honestly (g.D.Disk.state l.disk) (l.all ≡ true → AllWithin (HasItsPath (staged_in (g.D.Disk.state l.fn.disk).seen) (g.D.Disk.state l.disk)) l.packets 0 l.packet-index);
   taken : Honestly (g.D.Disk.state l.disk) (l.all ≡ false → All (IsFree (g.D.Disk.state l.fn.disk)) l.packets → ⊥);
   cause : g.D.Disk.failures l.fn.disk ≤ g.D.Disk.failures l.disk;
 }

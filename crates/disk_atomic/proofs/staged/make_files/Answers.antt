@@ -1,12 +1,11 @@
-use Rattle.std.proofs.Common.{get_or, ◌≡◌, ◌<◌, length, arith, refl, subst, sym}
+use Rattle.std.proofs.Common.{get_or, ◌<◌, length, arith, refl}
 use Rattle.std.proofs.lemmas.List.Elements.{AllWithin-from_all, AllWithin-none}
 use Rattle.disk_io.specs.Steps.{TornMaking}
 use Rattle.disk_atomic.specs.Changes.{ChangesOnly}
 use Rattle.disk_atomic.specs.Outgoing.{AreApart, IsStagingOne, IsMade, IsStagingNamed}
-use Rattle.disk_atomic.specs.declared.outgoing.Outgoing.{Outgoing}
 use Rattle.disk_atomic.proofs.Changes.{only_call, only_start, then_only}
 use Rattle.disk_atomic.proofs.Each.{ahead, among, behind, here}
-use Rattle.disk_atomic.proofs.Packets.{apart_back, At, staging_one, made_stays, named_stays}
+use Rattle.disk_atomic.proofs.Packets.{apart_back, At, staging_one, made_stays, named_stays, nobody}
 use Rattle.disk_atomic.proofs.staged.make_files.Given as given
 use Rattle.disk_atomic.proofs.staged.make_files.Goals.{After-create}
 use Rattle.disk_atomic.proofs.staged.make_files.Goals as goal
@@ -23,26 +22,25 @@ packets-init g c =
     }
 
 made : (g : given.Over) (c : After-create g)
-    → ChangesOnly (At (get_or c.args.packets.now c.packets.packet-index c.packet-item.result)) (g.D.Disk.state c.packets.disk) (g.D.Disk.state c.create.new.self)
+    → ChangesOnly (At (get_or c.args.packets.now c.packets.packet-index nobody)) (g.D.Disk.state c.packets.disk) (g.D.Disk.state c.create.new.self)
 made g c =
     let packets = c.args.packets.now in
     let i = c.packets.packet-index in
-    let z = c.packet-item.result in
+    let z = nobody in
     let lt : i < length packets = omega arith in
     let d = g.D.Disk.state c.packets.disk in
     let e = g.D.Disk.state c.create.new.self in
     let now = c.create.ensures in
-    let named = subst (IsStagingNamed d) (sym c.packet-item.is) (here (IsStagingNamed d) packets i z lt c.packets.invariant.named) in
-    subst (λ (p : Outgoing). ChangesOnly (At p) d e) c.packet-item.is (only_call (At z) d e z.staging.now TornMaking refl named now.beside now.crash now.named now.flushed now.alone now.time)
+    let x = get_or packets i z in
+    only_call (At x) d e x.staging.now TornMaking refl (here (IsStagingNamed d) packets i z lt c.packets.invariant.named) now.beside now.crash now.named now.flushed now.alone now.time
 
 pub packets-preserved : goal.packets-preserved
 packets-preserved g c =
     let packets = c.args.packets.now in
     let pairs = c.requires.apart in
     let i = c.packets.packet-index in
-    let z = c.packet-item.result in
+    let z = nobody in
     let x = get_or packets i z in
-    let is : z ≡ x = c.packet-item.is in
     let lt : i < length packets = omega arith in
     let inv = c.packets.invariant in
     let d0 = g.D.Disk.state c.args.disk.now in
@@ -52,7 +50,7 @@ packets-preserved g c =
     let one = made g (goal.at.packets-preserved g c).After-create in
     record {
       changes = then_only (IsStagingOne packets) d0 d e inv.changes (staging_one packets x (among packets i z lt) d e one);
-      made = behind AreApart apart_back packets pairs i z lt (IsMade d) (IsMade e) (made_stays d e x one) (subst (IsMade e) is (record { empty = c.in_ok-create.ensures.made; alone = c.in_ok-create.ensures.own })) inv.made;
+      made = behind AreApart apart_back packets pairs i z lt (IsMade d) (IsMade e) (made_stays d e x one) (record { empty = c.in_ok-create.ensures.made; alone = c.in_ok-create.ensures.own }) inv.made;
       named = ahead AreApart apart_back packets pairs i z lt (IsStagingNamed d) (IsStagingNamed e) (named_stays d e x one) inv.named;
       cause = omega (arith, now.cause.later, inv.cause);
     }
@@ -61,7 +59,7 @@ pub returns-in_err-create-clause-changes : goal.returns-in_err-create-clause-cha
 returns-in_err-create-clause-changes g c =
     let packets = c.args.packets.now in
     let i = c.packets.packet-index in
-    let z = c.packet-item.result in
+    let z = nobody in
     let lt : i < length packets = omega arith in
     let d = g.D.Disk.state c.packets.disk in
     let e = g.D.Disk.state c.create.new.self in

@@ -1,8 +1,10 @@
-use Rattle.std.proofs.Common.{◌≡◌, refl, true, All}
+use Rattle.std.proofs.Common.{◌≡◌, refl, subst, true, All}
+use Rattle.disk_io.specs.Disk.{Files}
 use Rattle.disk_atomic.specs.Naming.{HasItsPath}
-use Rattle.disk_atomic.specs.Outgoing.{IsOfOne}
+use Rattle.disk_atomic.specs.Outgoing.{IsOfOne, staged_in}
 use Rattle.station_scan.proofs.Published.{own_not_of}
 use Rattle.station_scan.proofs.Through.{are_staged, have_their_paths, names_through, ok_gives}
+use Rattle.station_scan.proofs.Looked.{same_seen}
 use Rattle.station_scan.proofs.Lent.{held, used}
 use Rattle.station_scan.proofs.beneath.name_on.Goals as goal
 
@@ -43,7 +45,10 @@ returns-clause-named g c = λ honest.
     let d1 = g.D.Disk.state c.name_packets-done.new.disk in
     let e = (g.P.Kept.Store.state c.give_back-store.result).disk in
     let quiet = c.give_back-store.ensures.quiet in
-    ok_gives c.name_packets-done.result (λ all. all ≡ true → All (HasItsPath d1) packets) (λ all. all ≡ true → All (HasItsPath e) packets) (λ all gives is. have_their_paths d1 e quiet packets (gives is))
+    let s0 = g.P.Kept.Store.state c.args.store in
+    let d0 = g.D.Disk.state c.lend-disk.result.0 in
+    ok_gives c.name_packets-done.result (λ all. all ≡ true → All (HasItsPath (staged_in d0.seen) d1) packets) (λ all. all ≡ true → All (HasItsPath (staged_in s0.disk.seen) e) packets)
+    (λ all gives is. subst (λ (f : Files). All (HasItsPath (staged_in f) e) packets) (same_seen s0.disk d0 c.lend-disk.ensures.quiet) (have_their_paths d1 e quiet (staged_in d0.seen) packets (gives is)))
     (c.name_packets-done.ensures.named (quiet.honest honest))
 
 pub returns-clause-any_moment : goal.returns-clause-any_moment

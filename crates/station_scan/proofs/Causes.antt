@@ -1,0 +1,84 @@
+-- Why packets were not written.
+use Rattle.std.proofs.Common.{◌≡◌, ◌≤◌, ℕ, List, arith}
+use Rattle.std.specs.Prelude.{Bool, Err, IsErrOf, Ok, Result}
+use Rattle.disk_io.specs.Runs.{HasCause}
+use Rattle.disk_io.specs.declared.disk_error.DiskError.{DiskError}
+use Rattle.disk_io.specs.declared.disk_error.DiskError.TheVariants as disk
+use Rattle.base_store.specs.Store.{HasStoreCause, StoreState}
+use Rattle.base_store.specs.declared.store_error.StoreError.{StoreError}
+use Rattle.station.proofs.Failures.{failed_wider}
+use Rattle.station_scan.specs.Beneath.{IsUsedAt}
+use Rattle.station_scan.specs.Publishing.{HasStageCause}
+use Rattle.station_scan.specs.Writing.{HasStopCause, stop_stays, stop_told}
+use Rattle.station_scan.specs.declared.writing.StageStop.{StageStop}
+use Rattle.station_scan.specs.declared.writing.StageStop.TheVariants.{OfDisk, OfStore}
+
+module _ (s0 s1 : StoreState) (f0 f1 : ℕ) where
+  pub none_stops : {T : Type 0} (value : T) → f0 ≤ f1 → HasStopCause s0 s1 f0 f1 (Ok value)
+  none_stops value later = record { later = later; disk = λ e. absurd (cc e); store = λ e. absurd (cc e); damaged = λ honest e. absurd (cc e) }
+
+  pub disk_stops : {A T : Type 0} (cause : DiskError) → HasCause {T = A} f0 f1 (Err cause) → HasStopCause {T = T} s0 s1 f0 f1 (Err (OfDisk cause))
+  disk_stops cause was = record { later = was.later; disk = λ e. was.failed (cc e); store = λ e. absurd (cc e); damaged = λ honest e. absurd (cc e) }
+
+  pub store_stops : {A T : Type 0} (cause : StoreError) → HasStoreCause {T = A} s0 s1 f0 f1 (Err cause) → HasStopCause {T = T} s0 s1 f0 f1 (Err (OfStore cause))
+  store_stops cause was = record { later = was.later; disk = λ e. absurd (cc e); store = λ e. was.failed (cc e); damaged = λ honest e. was.damaged honest (cc e) }
+
+-- after a use of the disk
+pub later_stops : {T : Type 0} (paths : List ℕ → Type 0) (s0 s1 s2 : StoreState) (f0 f1 f2 : ℕ) (result : Result T StageStop) → IsUsedAt paths s0 s1 → f0 ≤ f1 → HasStopCause s1 s2 f1 f2 result → HasStopCause s0 s2 f0 f2 result
+later_stops paths s0 s1 s2 f0 f1 f2 result used first was = record {
+  later = omega (arith, first, was.later);
+  disk = λ e. failed_wider f0 f1 f2 f2 first (omega arith) (was.disk e);
+  store = λ e. failed_wider f0 f1 f2 f2 first (omega arith) (was.store e);
+  damaged = λ honest e base kept. was.damaged honest e base (used.holds.keeps base kept);
+}
+
+-- and then the staging files were removed, or were not
+module _ (s0 s1 s2 : StoreState) (f0 f1 f2 : ℕ) (run : s2.disk.is_honest → s1.disk.is_honest) where
+  pub told_cause : (stop : StageStop) → HasStopCause {T = Bool} s0 s1 f0 f1 (Err stop) → f1 ≤ f2 → HasStageCause {T = Bool} s0 s2 f0 f2 (Err (stop_told stop))
+  told_cause (OfDisk disk.Device) was more = record {
+    later = omega (arith, was.later, more);
+    packets = λ e. failed_wider f0 f0 f1 f2 (omega arith) more (was.disk cc);
+    staging = λ e. absurd (cc e);
+    reading = λ e. absurd (cc e);
+    unread = λ honest e. absurd (cc e);
+    free = λ e. cc e;
+    base = λ cause e. cc e;
+  }
+  told_cause (OfDisk disk.Memory) was more = record {
+    later = omega (arith, was.later, more);
+    packets = λ e. absurd (cc e);
+    staging = λ e. absurd (cc e);
+    reading = λ e. absurd (cc e);
+    unread = λ honest e. absurd (cc e);
+    free = λ e. cc e;
+    base = λ cause e. cc e;
+  }
+  told_cause (OfStore cause) was more = record {
+    later = omega (arith, was.later, more);
+    packets = λ e. absurd (cc e);
+    staging = λ e. absurd (cc e);
+    reading = λ e. failed_wider f0 f0 f1 f2 (omega arith) more (was.store (cc e));
+    unread = λ honest e. was.damaged (run honest) (cc e);
+    free = λ e. cc e;
+    base = λ why e. cc e;
+  }
+
+  pub stays_cause : (stop : StageStop) (left : DiskError) → HasStopCause {T = Bool} s0 s1 f0 f1 (Err stop) → HasCause {T = Unit {0}} f1 f2 (Err left) → HasStageCause {T = Bool} s0 s2 f0 f2 (Err (stop_stays stop left))
+  stays_cause (OfDisk cause) left was drop = record {
+    later = omega (arith, was.later, drop.later);
+    packets = λ e. absurd (cc e);
+    staging = λ e. failed_wider f0 f0 f1 f2 (omega arith) drop.later (was.disk (cc e));
+    reading = λ e. absurd (cc e);
+    unread = λ honest e. absurd (cc e);
+    free = λ e. cc e;
+    base = λ why e. cc e;
+  }
+  stays_cause (OfStore cause) left was drop = record {
+    later = omega (arith, was.later, drop.later);
+    packets = λ e. absurd (cc e);
+    staging = λ e. failed_wider f0 f1 f2 f2 was.later (omega arith) (drop.failed (cc e));
+    reading = λ e. absurd (cc e);
+    unread = λ honest e. absurd (cc e);
+    free = λ e. cc e;
+    base = λ why e. cc e;
+  }

@@ -1,0 +1,198 @@
+-- Packets that are written group by group, while their store is read.
+use Rattle.std.proofs.Common.{◌≡◌, ◌≤◌, ◌∙◌, inl, inr, ℕ, List, [], ◌++◌, ap, append_assoc, arith, drop, get_or, length, refl, subst, sym}
+use Rattle.std.specs.Prelude.{All, Bool, Err, IfOk, None, Ok, OnOk, Result, true}
+use Rattle.std.proofs.lemmas.List.{append-nil, drop_all}
+use Rattle.base_file.specs.Base.{Base}
+use Rattle.disk_io.specs.Disk.{DiskState, Honestly, IsIn, bytes_in}
+use Rattle.disk_io.specs.Fixed.{AreBytes}
+use Rattle.disk_io.specs.Runs.{ChangesNothing, KeepsNamed}
+use Rattle.disk_io.specs.declared.disk_error.DiskError.{DiskError}
+use Rattle.disk_atomic.specs.Changes.{ChangesOnly}
+use Rattle.disk_atomic.specs.Outgoing.{ArePlaced, CanGrowStaging, IsAtStaging, IsLonger, IsMade, IsFree, IsStagingGone, IsStagingOne, SendsBytes, staged_in}
+use Rattle.disk_atomic.specs.declared.outgoing.Outgoing.{Outgoing}
+use Rattle.disk_atomic.proofs.Changes.{only_nothing, only_start, then_only}
+use Rattle.disk_atomic.proofs.Growing.{are_both}
+use Rattle.disk_atomic.proofs.Packets.{path_not_staging}
+use Rattle.disk_atomic.proofs.Whole.{some_is_there}
+use Rattle.echo_addr.specs.declared.address.Address.{Address}
+use Rattle.echo_packet.specs.Header.{header_bytes, word}
+use Rattle.echo_packet.specs.Message.{messages_bytes}
+use Rattle.echo_filed.specs.Filed.{Filed}
+use Rattle.echo_links.specs.Links.{LinkFile}
+use Rattle.model_steps.specs.Scanning.{header_to}
+use Rattle.echo_toss.specs.Counts.{copies_out}
+use Rattle.echo_toss.specs.Exports.{Outgoing as Sent, sent_of}
+use Rattle.echo_toss.proofs.Counts.{copies_append, messages_append}
+use Rattle.base_store.specs.Store.{IsSameStore, LooksOn, StoreState}
+use Rattle.base_store.proofs.Runs.{same_store, same_twice}
+use Rattle.station.specs.Beneath.{AreSettledByOwn}
+use Rattle.station_scan.specs.Beneath.{IsUsedAt}
+use Rattle.station_scan.specs.Publishing.{AreGone, AreOpen, IsTriedWith, IsWritten}
+use Rattle.station_scan.specs.Writing.{HasCopies, IsBatchOff, IsBegun, IsOpen, IsWriting, content_for}
+use Rattle.station_scan.specs.declared.writing.Batch.{Batch}
+use Rattle.station_scan.specs.declared.pieces.Source.{Source}
+use Rattle.station_scan.proofs.Published.{holds_now, holds_still}
+use Rattle.station_scan.proofs.Staged.{tried_after}
+use Rattle.station_scan.proofs.Through.{open_through}
+
+-- ---- a store whose disk is used time and again
+
+module _ (paths : List ℕ → Type 0) where
+  pub used_none : (s : StoreState) → AreSettledByOwn s → s.is_ready → IsUsedAt paths s s
+  used_none s settled ready = record { settled = settled; same = same_store s; holds = holds_now s ready; changes = only_start paths s.disk }
+
+  pub used_twice : (s0 s1 s2 : StoreState) → IsUsedAt paths s0 s1 → IsUsedAt paths s1 s2 → IsUsedAt paths s0 s2
+  used_twice s0 s1 s2 one two = record {
+    settled = one.settled;
+    same = same_twice s0 s1 s2 one.same two.same;
+    holds = holds_still s0 s1 s2 one.holds two.holds;
+    changes = then_only paths s0.disk s1.disk s2.disk one.changes two.changes;
+  }
+
+  pub looked_used : (s0 s1 s2 : StoreState) → LooksOn s0 s1 → IsUsedAt paths s1 s2 → IsUsedAt paths s0 s2
+  looked_used s0 s1 s2 looks two = record {
+    settled = λ base before after same stands.
+        (looks.same.stands base after).0 (two.settled base before after (λ m own. same m ((looks.same.own m).0 own)) ((looks.same.stands base before).1 stands));
+    same = same_twice s0 s1 s2 looks.same two.same;
+    holds = record { ready = two.holds.ready; keeps = λ base h. two.holds.keeps base (looks.keeps base h); committed = λ base h. two.holds.committed base (looks.committed base h) };
+    changes = then_only paths s0.disk s1.disk s2.disk (only_nothing paths s0.disk s1.disk looks.quiet) two.changes;
+  }
+
+  pub used_settled : (s0 s1 : StoreState) → IsUsedAt paths s0 s1 → AreSettledByOwn s1
+  used_settled s0 s1 used base before after same stands =
+      (used.same.stands base after).1 (used.settled base before after (λ m own. same m ((used.same.own m).1 own)) ((used.same.stands base before).0 stands))
+
+pub looked_only : (paths : List ℕ → Type 0) (s0 s1 : StoreState) → AreSettledByOwn s0 → LooksOn s0 s1 → IsUsedAt paths s0 s1
+looked_only paths s0 s1 settled looks = record {
+  settled = settled;
+  same = looks.same;
+  holds = record { ready = looks.ready; keeps = looks.keeps; committed = looks.committed };
+  changes = only_nothing paths s0.disk s1.disk looks.quiet;
+}
+
+-- the packets still go to paths that it does not own
+pub off_still : (s0 s1 : StoreState) (batch : Batch) → IsSameStore s0 s1 → IsBatchOff s0 batch → IsBatchOff s1 batch
+off_still s0 s1 batch same going = record {
+  placed = going.placed;
+  apart = λ k z lt. record { path = λ o. (going.apart k z lt).path ((same.own _).0 o); staging = λ o. (going.apart k z lt).staging ((same.own _).0 o) };
+  is_trial = going.is_trial;
+  off = λ o. going.off ((same.own _).0 o);
+}
+
+pub writing_after : (paths : List ℕ → Type 0) (s0 s1 : StoreState) (batch : Batch) → IsBatchOff s0 batch → IsUsedAt paths s0 s1 → IsOpen batch s1.disk → IsWriting s1 batch
+writing_after paths s0 s1 batch off used opened = record { ready = used.holds.ready; off = off_still s0 s1 batch used.same off; settled = used_settled paths s0 s1 used; opened = opened }
+
+-- ---- staging files that grow
+
+module _ (outbound : List ℕ) (packets : List Outgoing) (placed : ArePlaced outbound packets) where
+  pub open_made : (d : DiskState) → All (IsMade d) packets → ((m : List ℕ) → IsIn outbound m → d.is_named m) → Honestly d (All (IsFree d) packets) → AreOpen outbound packets d
+  open_made d made named free = record {
+    grow = λ k z lt.
+        let one = made k z lt in
+        record { there = some_is_there (d.seen (get_or packets k z).staging.now) [] one.empty; named = named (get_or packets k z).staging.now (placed.each k z lt).staging_in; alone = one.alone };
+    named = named;
+    free = free;
+    bytes = λ honest k z lt. subst AreBytes (sym (ap bytes_in (made k z lt).empty)) (λ i. omega arith);
+  }
+
+  pub open_then : (more : Address → List ℕ) (d e : DiskState) → AreOpen outbound packets d → ChangesOnly (IsStagingOne packets) d e → KeepsNamed (λ m. ⊥) d e → All (CanGrowStaging e) packets
+      → Honestly e (All (IsLonger more d e) packets) → All (SendsBytes (λ p. more p.to)) packets → AreOpen outbound packets e
+  open_then more d e was run keeps grow longer bytes = record {
+    grow = grow;
+    named = λ m inside. keeps m (λ h. h) (was.named m inside);
+    free = λ honest k z lt. run.seen (get_or packets k z).path.now (path_not_staging outbound packets placed k z lt) ∙ was.free (run.honest honest) k z lt;
+    bytes = λ honest k z lt. subst AreBytes (sym (longer honest k z lt)) (are_both (staged_in d.seen (get_or packets k z)) (more (get_or packets k z).to) (was.bytes (run.honest honest) k z lt) (bytes k z lt));
+  }
+
+-- ---- what they have
+
+-- copies of no messages, and of more
+pub copies_none : (file : LinkFile) (messages : List Filed) (at : ℕ) (packets : List Outgoing) (d : DiskState) → HasCopies file messages at at packets d d
+copies_none file messages at packets d = record { sent = []; are = refl; longer = λ k z lt. sym (append-nil (staged_in d.seen (get_or packets k z))) }
+
+pub copies_more : (file : LinkFile) (messages : List Filed) (from at next : ℕ) (packets : List Outgoing) (d0 d1 d2 : DiskState) → HasCopies file messages from at packets d0 d1 → HasCopies file messages at next packets d1 d2
+    → HasCopies file messages from next packets d0 d2
+copies_more file messages from at next packets d0 d1 d2 one two =
+    let rest = sent_of file (drop next messages) in
+    record {
+      sent = one.sent ++ two.sent;
+      are = append_assoc one.sent two.sent rest ∙ ap (λ (l : List Sent). one.sent ++ l) two.are ∙ one.are;
+      longer = λ k z lt.
+          let p = get_or packets k z in
+          let first = messages_bytes (copies_out p.to one.sent) in
+          let second = messages_bytes (copies_out p.to two.sent) in
+          let both : messages_bytes (copies_out p.to (one.sent ++ two.sent)) ≡ first ++ second =
+          ap messages_bytes (copies_append p.to one.sent two.sent) ∙ messages_append (copies_out p.to one.sent) (copies_out p.to two.sent) in
+          two.longer k z lt ∙ ap (λ (l : List ℕ). l ++ second) (one.longer k z lt) ∙ append_assoc (staged_in d0.seen p) first second ∙ ap (λ (l : List ℕ). staged_in d0.seen p ++ l) (sym both);
+    }
+
+-- of all
+pub copies_end : (file : LinkFile) (messages : List Filed) (from at : ℕ) (packets : List Outgoing) (d0 d1 : DiskState) → length messages ≤ at → HasCopies file messages from at packets d0 d1 → HasCopies file messages from (length messages) packets d0 d1
+copies_end file messages from at packets d0 d1 past copies =
+    let nothing : drop (length messages) messages ≡ drop at messages = drop_all (length messages) messages (omega arith) ∙ sym (drop_all at messages past) in
+    record { sent = copies.sent; are = ap (λ (l : List Filed). copies.sent ++ sent_of file l) nothing ∙ copies.are; longer = copies.longer }
+
+-- of a group, which was read before
+pub copies_group : (file : LinkFile) (messages : List Filed) (at next : ℕ) (sent : List Sent) (packets : List Outgoing) (d0 d1 d2 : DiskState) → ((m : List ℕ) → d1.seen m ≡ d0.seen m)
+    → sent ++ sent_of file (drop next messages) ≡ sent_of file (drop at messages) → All (IsLonger (λ to. messages_bytes (copies_out to sent)) d1 d2) packets → HasCopies file messages at next packets d0 d2
+copies_group file messages at next sent packets d0 d1 d2 same are longer = record {
+  sent = sent;
+  are = are;
+  longer = λ k z lt.
+      let p = get_or packets k z in
+      longer k z lt ∙ ap (λ f. bytes_in f ++ messages_bytes (copies_out p.to sent)) (same p.staging.now);
+}
+
+-- the header, the copies of all messages, and the end
+pub all_written : (source : Source) (base : Base) (packets : List Outgoing) (d0 d1 d2 d3 : DiskState) → All (IsWritten (λ p. []) d0.seen) packets
+    → All (IsLonger (λ to. header_bytes (header_to source.links.now source.stamp to)) d0 d1) packets → HasCopies source.links.now base.messages source.from (length base.messages) packets d1 d2
+    → All (IsLonger (λ to. word 0) d2 d3) packets → All (IsWritten (content_for source base) d3.seen) packets
+all_written source base packets d0 d1 d2 d3 none headers copies ends k z lt =
+    let file = source.links.now in
+    let p = get_or packets k z in
+    let h = header_bytes (header_to file source.stamp p.to) in
+    let m = messages_bytes (copies_out p.to copies.sent) in
+    let all : copies.sent ≡ sent_of file (drop source.from base.messages) =
+    sym (append-nil copies.sent) ∙ ap (λ (l : List Filed). copies.sent ++ sent_of file l) (sym (drop_all (length base.messages) base.messages (omega arith))) ∙ copies.are in
+    let header : staged_in d1.seen p ≡ h = headers k z lt ∙ ap (λ (l : List ℕ). l ++ h) (none k z lt) in
+    ends k z lt ∙ ap (λ (l : List ℕ). l ++ word 0) (copies.longer k z lt ∙ ap (λ (l : List ℕ). l ++ m) header) ∙ append_assoc h m (word 0)
+    ∙ ap (λ (s : List Sent). h ++ (messages_bytes (copies_out p.to s) ++ word 0)) all
+
+-- it was tried once they were written
+pub tried_written : {D : Type 0} (state : D → DiskState) (packets : List Outgoing) (trial : List ℕ) (s0 s1 : StoreState) → IsUsedAt (IsAtStaging packets trial) s0 s1 → IsTriedWith state packets trial s1.disk
+    → IsTriedWith state packets trial s0.disk
+tried_written state packets trial s0 s1 used (inl none) = inl none
+tried_written state packets trial s0 s1 used (inr was) = inr (tried_after state (IsAtStaging packets trial) (IsAtStaging packets trial) trial s0.disk s1.disk (λ m is. is) used.changes.seen was)
+
+-- ---- what is so once the disk was given back
+
+pub begun_if : (batch : Batch) → ArePlaced batch.outbound.now batch.packets.now → (d e : DiskState) → ChangesNothing d e → (done : Result Bool DiskError) → IfOk done (λ free. free ≡ true → All (IsMade d) batch.packets.now)
+    → IfOk done (λ free. free ≡ true → (m : List ℕ) → IsIn batch.outbound.now m → d.is_named m) → Honestly d (IfOk done (λ free. free ≡ true → All (IsFree d) batch.packets.now)) → IfOk done (λ free. free ≡ true → IsBegun batch e)
+begun_if batch placed d e quiet (Ok free) made named none is = record {
+  opened = open_through d e quiet batch.outbound.now batch.packets.now (open_made batch.outbound.now batch.packets.now placed d (made is) (named is) (λ honest. none honest is));
+  none = λ k z lt. ap bytes_in (quiet.seen (get_or batch.packets.now k z).staging.now ∙ (made is k z lt).empty);
+}
+begun_if batch placed d e quiet (Err cause) made named none = tt
+
+pub opened_if : (outbound : List ℕ) (packets : List Outgoing) → ArePlaced outbound packets → (more : Address → List ℕ) (d0 d1 e : DiskState) → AreOpen outbound packets d0 → ChangesOnly (IsStagingOne packets) d0 d1 → KeepsNamed (λ m. ⊥) d0 d1 → ChangesNothing d1 e
+    → (done : Result (Unit {0}) DiskError) → OnOk done (All (CanGrowStaging d1) packets) → Honestly d1 (OnOk done (All (IsLonger more d0 d1) packets)) → OnOk done (All (SendsBytes (λ p. more p.to)) packets) → OnOk done (AreOpen outbound packets e)
+opened_if outbound packets placed more d0 d1 e was run keeps quiet (Ok done) grow longer bytes = open_through d1 e quiet outbound packets (open_then outbound packets placed more d0 d1 was run keeps grow longer bytes)
+opened_if outbound packets placed more d0 d1 e was run keeps quiet (Err cause) grow longer bytes = tt
+
+pub longer_through : (more : Address → List ℕ) (packets : List Outgoing) (a d0 d1 e : DiskState) → ChangesNothing a d0 → ChangesNothing d1 e → (done : Result (Unit {0}) DiskError) → OnOk done (All (IsLonger more d0 d1) packets)
+    → OnOk done (All (IsLonger more a e) packets)
+longer_through more packets a d0 d1 e before after (Ok done) longer = λ k z lt.
+    let p = get_or packets k z in
+    ap bytes_in (after.seen p.staging.now) ∙ longer k z lt ∙ ap (λ f. bytes_in f ++ more p.to) (before.seen p.staging.now)
+longer_through more packets a d0 d1 e before after (Err cause) longer = tt
+
+pub same_through : (packets : List Outgoing) (a d0 d1 e : DiskState) → ChangesNothing a d0 → ChangesNothing d1 e → (done : Result Bool DiskError) → OnOk done (All (IsWritten (staged_in d0.seen) d1.seen) packets)
+    → OnOk done (All (IsWritten (staged_in a.seen) e.seen) packets)
+same_through packets a d0 d1 e before after (Ok done) same = λ k z lt.
+    let p = get_or packets k z in
+    ap bytes_in (after.seen p.staging.now) ∙ same k z lt ∙ ap bytes_in (before.seen p.staging.now)
+same_through packets a d0 d1 e before after (Err cause) same = tt
+
+pub gone_through : (packets : List Outgoing) (trial : List ℕ) (d e : DiskState) → ChangesNothing d e → (done : Result (Unit {0}) DiskError) → OnOk done (All (IsStagingGone d) packets) → OnOk done (d.seen trial ≡ None) → OnOk done (AreGone packets trial e)
+gone_through packets trial d e quiet (Ok done) gone none = (λ k z lt. quiet.seen (get_or packets k z).staging.now ∙ gone k z lt, quiet.seen trial ∙ none)
+gone_through packets trial d e quiet (Err cause) gone none = tt

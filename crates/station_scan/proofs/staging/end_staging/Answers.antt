@@ -1,0 +1,77 @@
+use Rattle.std.proofs.Common.{◌≡◌, ◌≢◌, ◌∙◌, ℕ, List, ap, get_or, inr, true, subst, sym}
+use Rattle.std.specs.Prelude.{All, None}
+use Rattle.std.proofs.lemmas.List.Elements.{Contains-get_or}
+use Rattle.std.proofs.lemmas.Result.{IfOk-weaker}
+use Rattle.disk_io.specs.Disk.{Files, IsIn, bytes_in}
+use Rattle.disk_io.specs.Fixed.{AreBytes}
+use Rattle.disk_atomic.specs.Outgoing.{IsAtStaging, staged_in}
+use Rattle.disk_atomic.proofs.Changes.{only_nothing, then_only}
+use Rattle.station_scan.specs.Publishing.{AreStaged, IsTriedWith, IsWritten}
+use Rattle.station_scan.proofs.Looked.{same_seen}
+use Rattle.station_scan.proofs.Staged.{path_off, staged_now, synced, tried_quiet}
+use Rattle.disk_atomic.proofs.Whole.{on_ok_any}
+use Rattle.station_scan.proofs.staging.end_staging.Goals as goal
+
+pub sync_packets-requires : goal.sync_packets-requires
+sync_packets-requires g c honest k z lt = (c.requires.opened.grow k z lt).there
+
+pub try_first-requires-clause-staged : goal.try_first-requires-clause-staged
+try_first-requires-clause-staged g c =
+    synced c.args.outbound.now c.args.packets.now c.requires.placed (g.D.Disk.state c.args.disk.now) (g.D.Disk.state c.sync_packets.new.disk) c.requires.opened c.sync_packets.ensures.quiet c.in_ok-sync_packets.ensures.flushed
+
+pub try_first-requires-clause-named : goal.try_first-requires-clause-named
+try_first-requires-clause-named g c = c.sync_packets.ensures.quiet.named c.args.trial.now (λ h. h) (c.requires.opened.named c.args.trial.now c.requires.trial.inside)
+
+pub returns-in_err-sync_packets-clause-changes : goal.returns-in_err-sync_packets-clause-changes
+returns-in_err-sync_packets-clause-changes g c =
+    only_nothing (IsAtStaging c.args.packets.now c.args.trial.now) (g.D.Disk.state c.args.disk.now) (g.D.Disk.state c.sync_packets.new.disk) c.sync_packets.ensures.quiet
+
+pub returns-clause-changes : goal.returns-clause-changes
+returns-clause-changes g c =
+    let at = IsAtStaging c.args.packets.now c.args.trial.now in
+    let d0 = g.D.Disk.state c.args.disk.now in
+    let d1 = g.D.Disk.state c.sync_packets.new.disk in
+    then_only at d0 d1 (g.D.Disk.state c.try_first.new.disk) (only_nothing at d0 d1 c.sync_packets.ensures.quiet) c.try_first.ensures.changes
+
+pub returns-clause-tried : goal.returns-clause-tried
+returns-clause-tried g c =
+    let packets = c.args.packets.now in
+    let trial = c.args.trial.now in
+    let d0 = g.D.Disk.state c.args.disk.now in
+    let d1 = g.D.Disk.state c.sync_packets.new.disk in
+    IfOk-weaker c.try_first.result (λ b. b ≡ true → IsTriedWith g.D.Disk.state packets trial d1) (λ b. b ≡ true → IsTriedWith g.D.Disk.state packets trial d0)
+    (λ b was is. tried_quiet g.D.Disk.state packets trial d0 d1 c.sync_packets.ensures.quiet (was is)) c.try_first.ensures.tried
+
+pub returns-clause-same : goal.returns-clause-same
+returns-clause-same g c =
+    let packets = c.args.packets.now in
+    let d0 = g.D.Disk.state c.args.disk.now in
+    let d1 = g.D.Disk.state c.sync_packets.new.disk in
+    let e = g.D.Disk.state c.try_first.new.disk in
+    on_ok_any c.try_first.result
+    (subst (λ (f : Files). All (IsWritten (staged_in f) e.seen) packets) (same_seen d0 d1 c.sync_packets.ensures.quiet) (staged_now (staged_in d1.seen) packets e c.try_first.ensures.staged).0)
+
+pub returns-clause-staged : goal.returns-clause-staged
+returns-clause-staged g c =
+    let folder = c.args.outbound.now in
+    let packets = c.args.packets.now in
+    let trial = c.args.trial.now in
+    let d1 = g.D.Disk.state c.sync_packets.new.disk in
+    let e = g.D.Disk.state c.try_first.new.disk in
+    let run = c.try_first.ensures.changes in
+    let quiet = c.sync_packets.ensures.quiet in
+    let off = path_off folder trial packets c.requires.placed c.requires.trial in
+    let now = staged_now (staged_in d1.seen) packets e c.try_first.ensures.staged in
+    IfOk-weaker c.try_first.result (λ b. b ≡ true → (m : List ℕ) → IsIn folder m → m ≢ trial → e.seen m ≡ None → e.is_flushed m) (λ b. b ≡ true → AreStaged packets e)
+    (λ b gone is. record {
+      staged = now.1;
+      bytes = λ honest k z lt. subst AreBytes (sym (now.0 k z lt)) (subst AreBytes (sym (ap bytes_in (quiet.seen (get_or packets k z).staging.now))) (c.requires.opened.bytes (quiet.honest (run.honest honest)) k z lt));
+      clear = λ honest k z lt.
+          let path = (get_or packets k z).path.now in
+          let none : e.seen path ≡ None = run.seen path (off k z lt) ∙ quiet.seen path ∙ c.requires.opened.free (quiet.honest (run.honest honest)) k z lt in
+          record {
+            none = none;
+            named = (c.try_first.ensures.staged k z lt).named;
+            flushed = gone is path (c.requires.placed.each k z lt).path_in (λ e. c.requires.trial.off (get_or packets k z, Contains-get_or packets k z lt, inr (sym e))) none;
+          };
+    }) c.try_first.ensures.gone

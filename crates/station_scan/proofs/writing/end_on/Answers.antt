@@ -1,0 +1,65 @@
+use Rattle.std.proofs.Common.{◌≡◌, refl, true}
+use Rattle.disk_atomic.specs.Outgoing.{IsAtStaging}
+use Rattle.station_scan.specs.Publishing.{AreStaged, IsTriedWith}
+use Rattle.station_scan.proofs.Lent.{held, used}
+use Rattle.station_scan.proofs.Published.{own_not_staging}
+use Rattle.station_scan.proofs.Staged.{tried_quiet}
+use Rattle.station_scan.proofs.Through.{ok_gives, open_through, staged_through}
+use Rattle.station_scan.proofs.Written.{same_through}
+use Rattle.station_scan.proofs.writing.end_on.Goals as goal
+
+pub give_back-store-requires : goal.give_back-store-requires
+give_back-store-requires g c κs =
+    let s0 = g.P.Kept.Store.state c.args.store in
+    let batch = c.args.batch in
+    let disk = c.lend-disk.result.0 in
+    let rest = c.lend-disk.result.1 in
+    let back = c.end_staging-done.new.disk in
+    let a = g.P.LendStation.store_on rest disk in
+    let b = g.P.LendStation.store_on rest back in
+    let d0 = g.D.Disk.state disk in
+    let d1 = g.D.Disk.state back in
+    let lent = c.lend-disk.ensures in
+    let at = IsAtStaging batch.packets.now batch.trial.now in
+    ((refl, tt), (held at s0 a b d0 d1 lent.looks lent.quiet (lent.back back) (own_not_staging s0 batch.outbound.now batch.trial.now batch.packets.now c.requires.off) c.end_staging-done.ensures.changes).ready)
+
+pub returns-clause-used : goal.returns-clause-used
+returns-clause-used g c =
+    let s0 = g.P.Kept.Store.state c.args.store in
+    let batch = c.args.batch in
+    let disk = c.lend-disk.result.0 in
+    let rest = c.lend-disk.result.1 in
+    let back = c.end_staging-done.new.disk in
+    let a = g.P.LendStation.store_on rest disk in
+    let b = g.P.LendStation.store_on rest back in
+    let d0 = g.D.Disk.state disk in
+    let d1 = g.D.Disk.state back in
+    let lent = c.lend-disk.ensures in
+    let at = IsAtStaging batch.packets.now batch.trial.now in
+    used at s0 a b d0 d1 lent.looks lent.quiet (lent.back back) (own_not_staging s0 batch.outbound.now batch.trial.now batch.packets.now c.requires.off) c.end_staging-done.ensures.changes (g.P.Kept.Store.state c.give_back-store.result) c.give_back-store.ensures.looks
+    c.give_back-store.ensures.quiet
+
+pub end_staging-done-requires-clause-opened : goal.end_staging-done-requires-clause-opened
+end_staging-done-requires-clause-opened g c =
+    open_through (g.P.Kept.Store.state c.args.store).disk (g.D.Disk.state c.lend-disk.result.0) c.lend-disk.ensures.quiet c.args.batch.outbound.now c.args.batch.packets.now c.requires.opened
+
+pub returns-clause-staged : goal.returns-clause-staged
+returns-clause-staged g c =
+    let packets = c.args.batch.packets.now in
+    let d1 = g.D.Disk.state c.end_staging-done.new.disk in
+    let e = (g.P.Kept.Store.state c.give_back-store.result).disk in
+    ok_gives c.end_staging-done.result (λ tried. tried ≡ true → AreStaged packets d1) (λ tried. tried ≡ true → AreStaged packets e) (λ tried gives is. staged_through d1 e c.give_back-store.ensures.quiet packets (gives is))
+    c.end_staging-done.ensures.staged
+
+pub returns-clause-same : goal.returns-clause-same
+returns-clause-same g c =
+    same_through c.args.batch.packets.now (g.P.Kept.Store.state c.args.store).disk (g.D.Disk.state c.lend-disk.result.0) (g.D.Disk.state c.end_staging-done.new.disk) (g.P.Kept.Store.state c.give_back-store.result).disk
+    c.lend-disk.ensures.quiet c.give_back-store.ensures.quiet c.end_staging-done.result c.end_staging-done.ensures.same
+
+pub returns-clause-tried : goal.returns-clause-tried
+returns-clause-tried g c =
+    let batch = c.args.batch in
+    let s0 = (g.P.Kept.Store.state c.args.store).disk in
+    let d0 = g.D.Disk.state c.lend-disk.result.0 in
+    ok_gives c.end_staging-done.result (λ tried. tried ≡ true → IsTriedWith g.D.Disk.state batch.packets.now batch.trial.now d0) (λ tried. tried ≡ true → IsTriedWith g.D.Disk.state batch.packets.now batch.trial.now s0)
+    (λ tried was is. tried_quiet g.D.Disk.state batch.packets.now batch.trial.now s0 d0 c.lend-disk.ensures.quiet (was is)) c.end_staging-done.ensures.tried
