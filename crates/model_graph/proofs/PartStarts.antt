@@ -88,16 +88,16 @@ roots_start rows levels graph size f a = (
   λ starts. (
     starts.later,
     (let (m, level) = f.all a starts.within in
-    let (r, root, walk) = to_root (linked rows) (length rows) (length rows) levels f m a level in
-    let back = Reaches-sym (linked rows) (Simple-from_graph rows graph) a r walk in
-    elim (cases_eq r a) [
-      | inl same ↦ ap (level_of levels) (sym same) ∙ root
-      | inr differ ↦
-          elim (cases_lt r a) [
-            | inl lt ↦ absurd (starts.first r lt back)
-            | inr le ↦ absurd (f.first r a root (omega arith) walk)
-          ]
-    ]),
+        let (r, root, walk) = to_root (linked rows) (length rows) (length rows) levels f m a level in
+        let back = Reaches-sym (linked rows) (Simple-from_graph rows graph) a r walk in
+        elim (cases_eq r a) [
+          | inl same ↦ ap (level_of levels) (sym same) ∙ root
+          | inr differ ↦
+              elim (cases_lt r a) [
+                | inl lt ↦ absurd (starts.first r lt back)
+                | inr le ↦ absurd (f.first r a root (omega arith) walk)
+              ]
+        ]),
   ),
 )
 
