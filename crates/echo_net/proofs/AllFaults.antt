@@ -205,7 +205,7 @@ nothing_named (No (OneSided a b)) fails = absurd cc
 nothing_named (No (SameNetNode a b)) fails = absurd cc
 
 -- whether it is a fault of the files or their links
-is_of_links : NetFault → Bool
+abbrev is_of_links : NetFault → Bool
 is_of_links (Apart a b) = false
 is_of_links (Loop loop) = false
 is_of_links _ = true
@@ -298,10 +298,10 @@ module _ (files : List LinkFile) (tag : List ℕ) (all : List NetFault) (r : Are
       let all_known = no_unknown sound.known in
       let all_answered = no_one_sided sound.both in
       let no_twins = no_links (AppliesTo files tag kinds.SameNetNode) r.same_net_nodes r.are_same_net_nodes (λ l h.
-          let same = sound.apart l.from l.to h.one h.other h.same in
-          let low = h.in_order in
-          let up = not_before_itself l.from l.to same in
-          cc) in
+      let same = sound.apart l.from l.to h.one h.other h.same in
+      let low = h.in_order in
+      let up = not_before_itself l.from l.to same in
+      cc) in
       r.whole ∙ (λ i. in_preference (some i) (none_twice i) (none_self i) (all_known i) (all_answered i) (no_twins i))
 
 -- what is added behind the faults of files and links
@@ -339,8 +339,8 @@ module _ (files : List LinkFile) (tag : List ℕ) (all : List NetFault) (r : Are
       let none = none_of_sound files tag r.of_links r.are_of_links h.0 in
       let (rest, is) = starts (AppliesTo files tag kinds.Apart) r.apart (link a b) r.are_apart (apart_first files tag a b h)
       (λ m at_m.
-          let (late, later) = apart_later files tag a b h m at_m in
-          neither (address_before m.from a) (same_address m.from a) (address_before m.to b) late later) in
+      let (late, later) = apart_later files tag a b h m at_m in
+      neither (address_before m.from a) (same_address m.from a) (address_before m.to b) late later) in
       (map (fault_of kinds.Apart) rest, r.whole ∙ (λ i. none i ++ map (fault_of kinds.Apart) (is i)))
   first_named (Loop loop) h = (all, refl)
 

@@ -35,7 +35,6 @@ pub fn area_graph(
     requires links { IsStrictlySortedBy ⟦<Link as Ord>⟧.cmp links.now }
     requires members { (a : Address) → Contains carriers.now a ↔ IsTrue (carries files.now tag.now a) }
     requires listed { (l : Link) → Contains links.now l ↔ IsTrue (lists files.now tag.now l.from l.to) }
-    ensures in_order { AreInOrder (Carries files.now tag.now) carriers.now }
     ensures members { IfOk result (λ graph. length graph ≡ length carriers.now) }
     ensures links { IfOk result (λ graph. linked graph ≡ numbered carriers.now (lists files.now tag.now)) }
 {
@@ -103,7 +102,11 @@ pub fn parts_apart(
 }
 
 /// The first carrier with each of those at these places.
-fn from_first(alloc: Global, carriers: &[Address], places: &[usize]) -> Result<Vec<Link>, AllocError>
+fn from_first(
+    alloc: Global,
+    carriers: &[Address],
+    places: &[usize],
+) -> Result<Vec<Link>, AllocError>
     requires { All (λ place. place < length carriers.now) places.now }
     ensures { IfOk result (λ pairs. pairs.items ≡ map (λ place. link (system_at carriers.now 0) (system_at carriers.now place)) places.now) }
 {
