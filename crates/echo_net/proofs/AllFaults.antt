@@ -20,15 +20,16 @@ use Rattle.echo_net.specs.declared.verdict.NetFault.{NetFault}
 use Rattle.echo_net.specs.declared.verdict.NetFault.TheVariants.{NoSuchArea, TwoFiles, SelfLink, Unknown, OneSided, SameNetNode, Apart, Loop}
 use Rattle.echo_net.specs.declared.verdict.Verdict.{Verdict}
 use Rattle.echo_net.specs.declared.verdict.Verdict.TheVariants.{Yes, No}
-use Rattle.echo_net.specs.AllFaults.{AddsLinkFaults, AddsTwoFiles, AppliesTo, AreAllFaults, AreFurther, fault_named, fault_of, fault_where, in_preference, is_one_sided, is_self_link, is_unknown, names_fault}
+use Rattle.echo_net.specs.AllFaults.{AddsApart, AddsLinkFaults, AddsTwoFiles, AppliesTo, AreAllFaults, AreFurther, AreLinkFaults, fault_named, fault_of, fault_where, in_preference, is_one_sided, is_self_link, is_unknown, names_fault}
 use Rattle.echo_net.specs.Drawn.{AreLinksInOrder, back, has_address, has_link}
-use Rattle.echo_net.specs.Faults.{AllAreAnswered, AllAreKnown, HaveOneFileEach, IfNo, IsFirstFault, NoneListsItself}
+use Rattle.echo_net.specs.Faults.{AllAreAnswered, AllAreKnown, AreSoundLinks, HaveOneFileEach, IfNo, IsFirstFault, NoneListsItself}
 use Rattle.echo_net.specs.Firsts.{HasTwin, pair_before}
 use Rattle.echo_net.specs.Nets.{link, systems}
+use Rattle.echo_net.proofs.Apart.{apart_first, apart_later}
 use Rattle.echo_net.proofs.Drawings.{carriers_held, links_held, links_in_order}
 use Rattle.echo_net.proofs.Faulty.{is_carried, not_carried, twin_from, twin_to}
 use Rattle.echo_net.proofs.Graphs.{Different-apart}
-use Rattle.echo_net.proofs.Orders.{link_order, same_exact, same_itself}
+use Rattle.echo_net.proofs.Orders.{link_order, not_before_itself, same_exact, same_itself}
 
 -- one more item of a list that is filtered
 module _ {X : Type 0} (p : X → Bool) (xs : List X) (i : ℕ) (d : X) (inside : i < length xs) (all next : List X) (before : all ≡ filter p (take i xs)) where
@@ -126,7 +127,7 @@ module _ (files : List LinkFile) (tag : List ℕ) (carriers : List Address) (lin
 
   -- the faults of an area that were added one kind after the other
   pub all_of : IsStrictlySortedBy link_order links → (none one two all : List NetFault) → none ≡ [] → one ≡ none ++ fault_where (not (length carriers == 0)) →
-      AddsTwoFiles (systems files) one two → AddsLinkFaults carriers links two all → AreAllFaults files tag all
+      AddsTwoFiles (systems files) one two → AddsLinkFaults carriers links two all → AreLinkFaults files tag all
   all_of up none one two all nothing begun shared added = record {
     two_files = shared.found;
     self_links = filter is_self_link links;
@@ -189,12 +190,12 @@ one_named (SelfLink a) passes = refl
 one_named (Unknown a b) passes = refl
 one_named (OneSided a b) passes = refl
 one_named (SameNetNode a b) passes = refl
-one_named (Apart a b) passes = absurd cc
+one_named (Apart a b) passes = refl
 one_named (Loop loop) passes = absurd cc
 
 nothing_named : (verdict : Verdict) → names_fault verdict ≡ false → fault_named verdict ≡ []
 nothing_named (Yes s l) fails = refl
-nothing_named (No (Apart a b)) fails = refl
+nothing_named (No (Apart a b)) fails = absurd cc
 nothing_named (No (Loop loop)) fails = refl
 nothing_named (No NoSuchArea) fails = absurd cc
 nothing_named (No (TwoFiles a)) fails = absurd cc
@@ -203,8 +204,14 @@ nothing_named (No (Unknown a b)) fails = absurd cc
 nothing_named (No (OneSided a b)) fails = absurd cc
 nothing_named (No (SameNetNode a b)) fails = absurd cc
 
--- the first of all faults is the one that a verdict names
-module _ (files : List LinkFile) (tag : List ℕ) (all : List NetFault) (r : AreAllFaults files tag all) where
+-- whether it is a fault of the files or their links
+abbrev is_of_links : NetFault → Bool
+is_of_links (Apart a b) = false
+is_of_links (Loop loop) = false
+is_of_links _ = true
+
+-- the first of all faults of files and links is the one that a verdict names
+module _ (files : List LinkFile) (tag : List ℕ) (all : List NetFault) (r : AreLinkFaults files tag all) where
   no_two_files : HaveOneFileEach files → r.two_files ≡ []
   no_two_files one_file = no_links (AppliesTo files tag kinds.TwoFiles) r.two_files r.are_two_files (λ l h.
       let (i, j, lt, at_i, at_j) = h.1 in Different-apart (systems files) one_file i j l.from lt at_i at_j)
@@ -230,20 +237,20 @@ module _ (files : List LinkFile) (tag : List ℕ) (all : List NetFault) (r : Are
   abbrev behind_two_files : List NetFault
   behind_two_files = map (fault_of kinds.SelfLink) r.self_links ++ behind_self_links
 
-  first_named : (fault : NetFault) → IsFirstFault files tag fault → (rest : List NetFault) × (all ≡ fault_named (No fault) ++ rest)
-  first_named NoSuchArea h =
+  pub first_of_links : (fault : NetFault) → IsFirstFault files tag fault → is_of_links fault ≡ true → (rest : List NetFault) × (all ≡ fault ∷ rest)
+  first_of_links NoSuchArea h passes =
       let none : list_any (λ file. has_area file tag) files ≡ false = not_true (list_any (λ file. has_area file tag) files) h in (
         map (fault_of kinds.TwoFiles) r.two_files ++ behind_two_files,
         r.whole ∙ ap (λ (b : Bool). in_preference b r.two_files r.self_links r.unknown r.one_sided r.same_net_nodes) none,
       )
-  first_named (TwoFiles a) h =
+  first_of_links (TwoFiles a) h passes =
       let some : list_any (λ file. has_area file tag) files ≡ true = h.0 in
       let (rest, is) = starts (AppliesTo files tag kinds.TwoFiles) r.two_files (link a a) r.are_two_files (refl, h.1.holds)
       (λ m at_m. alone_first a m at_m.0 (h.1.first m.from at_m.1)) in (
         map (fault_of kinds.TwoFiles) rest ++ behind_two_files,
         r.whole ∙ (λ i. in_preference (some i) (is i) r.self_links r.unknown r.one_sided r.same_net_nodes),
       )
-  first_named (SelfLink a) h =
+  first_of_links (SelfLink a) h passes =
       let some : list_any (λ file. has_area file tag) files ≡ true = h.0 in
       let none_twice = no_two_files h.1 in
       let (rest, is) = starts (AppliesTo files tag kinds.SelfLink) r.self_links (link a a) r.are_self_links (refl, h.2.holds)
@@ -251,7 +258,7 @@ module _ (files : List LinkFile) (tag : List ℕ) (all : List NetFault) (r : Are
         map (fault_of kinds.SelfLink) rest ++ behind_self_links,
         r.whole ∙ (λ i. in_preference (some i) (none_twice i) (is i) r.unknown r.one_sided r.same_net_nodes),
       )
-  first_named (Unknown a b) h =
+  first_of_links (Unknown a b) h passes =
       let some : list_any (λ file. has_area file tag) files ≡ true = h.0 in
       let none_twice = no_two_files h.1 in
       let none_self = no_self_links h.2 in
@@ -259,7 +266,7 @@ module _ (files : List LinkFile) (tag : List ℕ) (all : List NetFault) (r : Are
         map (fault_of kinds.Unknown) rest ++ behind_unknown,
         r.whole ∙ (λ i. in_preference (some i) (none_twice i) (none_self i) (is i) r.one_sided r.same_net_nodes),
       )
-  first_named (OneSided a b) h =
+  first_of_links (OneSided a b) h passes =
       let some : list_any (λ file. has_area file tag) files ≡ true = h.0 in
       let none_twice = no_two_files h.1 in
       let none_self = no_self_links h.2 in
@@ -269,7 +276,7 @@ module _ (files : List LinkFile) (tag : List ℕ) (all : List NetFault) (r : Are
         map (fault_of kinds.OneSided) rest ++ behind_one_sided,
         r.whole ∙ (λ i. in_preference (some i) (none_twice i) (none_self i) (all_known i) (is i) r.same_net_nodes),
       )
-  first_named (SameNetNode a b) h =
+  first_of_links (SameNetNode a b) h passes =
       let some : list_any (λ file. has_area file tag) files ≡ true = h.0 in
       let none_twice = no_two_files h.1 in
       let none_self = no_self_links h.2 in
@@ -279,7 +286,62 @@ module _ (files : List LinkFile) (tag : List ℕ) (all : List NetFault) (r : Are
         map (fault_of kinds.SameNetNode) rest,
         r.whole ∙ (λ i. in_preference (some i) (none_twice i) (none_self i) (all_known i) (all_answered i) (is i)),
       )
-  first_named (Apart a b) h = (all, refl)
+  first_of_links (Apart a b) h passes = absurd cc
+  first_of_links (Loop loop) h passes = absurd cc
+
+  -- there is none where the links are sound
+  pub none_of_sound : AreSoundLinks files tag → all ≡ []
+  none_of_sound sound =
+      let some : list_any (λ file. has_area file tag) files ≡ true = sound.some in
+      let none_twice = no_two_files sound.one_file in
+      let none_self = no_self_links sound.no_self in
+      let all_known = no_unknown sound.known in
+      let all_answered = no_one_sided sound.both in
+      let no_twins = no_links (AppliesTo files tag kinds.SameNetNode) r.same_net_nodes r.are_same_net_nodes (λ l h.
+      let same = sound.apart l.from l.to h.one h.other h.same in
+      let low = h.in_order in
+      let up = not_before_itself l.from l.to same in
+      cc) in
+      r.whole ∙ (λ i. in_preference (some i) (none_twice i) (none_self i) (all_known i) (all_answered i) (no_twins i))
+
+-- what is added behind the faults of files and links
+module _ (files : List LinkFile) (tag : List ℕ) (all : List NetFault) (r : AreLinkFaults files tag all) where
+  pub with_apart : (new : List NetFault) → AddsApart files tag all new → AreAllFaults files tag new
+  with_apart new added = record { of_links = all; are_of_links = r; apart = added.found; are_apart = added.in_order; whole = added.whole }
+
+  pub without_apart : ¬ (all ≡ []) → AreAllFaults files tag all
+  without_apart some = record {
+    of_links = all;
+    are_of_links = r;
+    apart = [];
+    are_apart = record {
+      ascending = λ i j d lt inside. absurd (omega (arith, inside));
+      members = λ l. (λ (k, lt, is). absurd (omega (arith, lt)), λ h. absurd (some (none_of_sound files tag all r h.sound)));
+    };
+    whole = sym (append-nil all);
+  }
+
+-- the first of all faults is the one that a verdict names
+module _ (files : List LinkFile) (tag : List ℕ) (all : List NetFault) (r : AreAllFaults files tag all) where
+  of_links_first : (fault : NetFault) → IsFirstFault files tag fault → is_of_links fault ≡ true → (rest : List NetFault) × (all ≡ fault ∷ rest)
+  of_links_first fault h passes =
+      let (rest, is) = first_of_links files tag r.of_links r.are_of_links fault h passes in
+      (rest ++ map (fault_of kinds.Apart) r.apart, r.whole ∙ ap (λ (l : List NetFault). l ++ map (fault_of kinds.Apart) r.apart) is)
+
+  first_named : (fault : NetFault) → IsFirstFault files tag fault → (rest : List NetFault) × (all ≡ fault_named (No fault) ++ rest)
+  first_named NoSuchArea h = of_links_first NoSuchArea h refl
+  first_named (TwoFiles a) h = of_links_first (TwoFiles a) h refl
+  first_named (SelfLink a) h = of_links_first (SelfLink a) h refl
+  first_named (Unknown a b) h = of_links_first (Unknown a b) h refl
+  first_named (OneSided a b) h = of_links_first (OneSided a b) h refl
+  first_named (SameNetNode a b) h = of_links_first (SameNetNode a b) h refl
+  first_named (Apart a b) h =
+      let none = none_of_sound files tag r.of_links r.are_of_links h.0 in
+      let (rest, is) = starts (AppliesTo files tag kinds.Apart) r.apart (link a b) r.are_apart (apart_first files tag a b h)
+      (λ m at_m.
+      let (late, later) = apart_later files tag a b h m at_m in
+      neither (address_before m.from a) (same_address m.from a) (address_before m.to b) late later) in
+      (map (fault_of kinds.Apart) rest, r.whole ∙ (λ i. none i ++ map (fault_of kinds.Apart) (is i)))
   first_named (Loop loop) h = (all, refl)
 
   -- all but the first are the further ones

@@ -11,4 +11,5 @@ pub mod Numbers
 pub mod Graphs
 pub mod Absences
 pub mod Drawings
+pub mod Apart
 pub mod AllFaults

@@ -1,18 +1,20 @@
-//! Every fault of the files of an area and of their links.
+//! Every fault of an area: of its files, their links, and the parts of its graph.
 
-ghost use Rattle.std.specs.Prelude.{◌≡◌, ◌++◌, ◌∷◌, ◌==◌, ℕ, List, IfOk, OnOk, filter, length, map, not};
+ghost use Rattle.std.specs.Prelude.{◌≡◌, ◌++◌, ◌∷◌, ◌==◌, ◌↔◌, ℕ, List, Contains, IfOk, IsTrue, OnOk, filter, length, map, not};
 ghost use Rattle.std.specs.List.Sorted.{IsStrictlySortedBy};
 ghost use Rattle.echo_addr.specs.declared.address.Address.{Address};
 ghost use Rattle.echo_links.specs.Links.{LinkFile};
+ghost use Rattle.model_run.specs.Tidy.{carries, lists};
 ghost use Rattle.echo_net.specs.declared.each_fault.Kind.TheVariants as kinds;
 ghost use Rattle.echo_net.specs.declared.link.Link.{Link};
 ghost use Rattle.echo_net.specs.declared.verdict.NetFault.{NetFault};
-ghost use Rattle.echo_net.specs.AllFaults.{AddsLinkFaults, AddsTwoFiles, AreAllFaults, AreFurther, fault_of, fault_where, is_one_sided, is_self_link, is_unknown, names_fault};
-ghost use Rattle.echo_net.specs.Faults.{IfNo, IsFirstFault};
+ghost use Rattle.echo_net.specs.AllFaults.{AddsApart, AddsLinkFaults, AddsTwoFiles, AreAllFaults, AreFurther, AreLinkFaults, fault_of, fault_where, is_one_sided, is_self_link, is_unknown, names_fault};
+ghost use Rattle.echo_net.specs.Faults.{AreSoundLinks, IfNo, IsFirstFault};
 
-use crate::area::area_of;
+use crate::area::{Area, area_of};
 use crate::carriers::systems;
 use crate::drawing::{back, has_address, has_link};
+use crate::graph_faults::{area_graph, parts_apart};
 use crate::link::Link;
 use crate::owners::all_shared;
 use crate::same_net_node::all_same_net_node;
@@ -21,7 +23,7 @@ use echo_addr::Address;
 use echo_links::LinkFile;
 use std::alloc::{AllocError, Global};
 
-/// The kinds of faults that files and their links have.
+/// The kinds of faults that two systems have.
 #[derive(Clone, Copy)]
 pub enum Kind {
     TwoFiles,
@@ -29,10 +31,12 @@ pub enum Kind {
     Unknown,
     OneSided,
     SameNetNode,
+    Apart,
 }
 
-/// Every fault of the files and of their links in the area: all but `Apart` and `Loop`. They come in the order of
-/// `NetFault`, those of one kind by ascending addresses, each once. Fails only when out of memory.
+/// Every fault of the area but `Loop`, in the order of `NetFault`, those of one kind by ascending addresses, each once.
+/// Where files and links have no fault, each part of the area that its smallest system is not in has one `Apart`.
+/// Fails only when out of memory.
 pub fn all_faults(
     alloc: Global,
     files: &[LinkFile],
@@ -41,12 +45,54 @@ pub fn all_faults(
     ensures { IfOk result (λ all. AreAllFaults files.now tag.now all.items) }
 {
     let area = area_of(alloc, files, tag)?;
+    let mut all = link_faults(alloc, files, tag, &area.carriers, &area.links)?;
+    if all.is_empty() {
+        push_apart(alloc, &mut all, files, tag, &area.carriers, &area.links)?;
+    }
+    Ok(all)
+}
+
+/// Every fault of the files and of these links of their carriers.
+fn link_faults(
+    alloc: Global,
+    files: &[LinkFile],
+    tag: &[u8],
+    carriers: &[Address],
+    links: &[Link],
+) -> Result<Vec<NetFault>, AllocError>
+    requires carriers { IsStrictlySortedBy ⟦<Address as Ord>⟧.cmp carriers.now }
+    requires links { IsStrictlySortedBy ⟦<Link as Ord>⟧.cmp links.now }
+    requires members { (a : Address) → Contains carriers.now a ↔ IsTrue (carries files.now tag.now a) }
+    requires listed { (l : Link) → Contains links.now l ↔ IsTrue (lists files.now tag.now l.from l.to) }
+    ensures { IfOk result (λ all. AreLinkFaults files.now tag.now all.items) }
+{
     let systems = systems(alloc, files)?;
     let mut all = Vec::new(alloc);
-    push_no_such_area(&mut all, &area.carriers)?;
+    push_no_such_area(&mut all, carriers)?;
     push_two_files(alloc, &mut all, &systems)?;
-    push_link_faults(alloc, &mut all, &area.carriers, &area.links)?;
+    push_link_faults(alloc, &mut all, carriers, links)?;
     Ok(all)
+}
+
+/// Adds the parts of an area whose links have no fault.
+fn push_apart(
+    alloc: Global,
+    all: &mut Vec<NetFault>,
+    files: &[LinkFile],
+    tag: &[u8],
+    carriers: &[Address],
+    links: &[Link],
+) -> Result<(), AllocError>
+    requires sound { AreSoundLinks files.now tag.now }
+    requires carriers { IsStrictlySortedBy ⟦<Address as Ord>⟧.cmp carriers.now }
+    requires links { IsStrictlySortedBy ⟦<Link as Ord>⟧.cmp links.now }
+    requires members { (a : Address) → Contains carriers.now a ↔ IsTrue (carries files.now tag.now a) }
+    requires listed { (l : Link) → Contains links.now l ↔ IsTrue (lists files.now tag.now l.from l.to) }
+    ensures { OnOk result (AddsApart files.now tag.now all.old.items all.new.items) }
+{
+    let graph = area_graph(alloc, files, tag, carriers, links)?;
+    let found = parts_apart(alloc, files, tag, carriers, &graph)?;
+    push_faults(all, Kind::Apart, &found)
 }
 
 /// Those of all these faults that the verdict does not name.
@@ -61,13 +107,12 @@ pub fn further<'a>(all: &'a [NetFault], verdict: &Verdict) -> &'a [NetFault]
     }
 }
 
-/// Does the verdict name a fault of the files or their links?
+/// Does the verdict name one of these faults?
 fn names_fault(verdict: &Verdict) -> bool
     ensures { result ≡ names_fault verdict.now }
 {
     match verdict {
         Verdict::Yes { .. } => false,
-        Verdict::No(NetFault::Apart(..)) => false,
         Verdict::No(NetFault::Loop(_)) => false,
         Verdict::No(_) => true,
     }
@@ -236,5 +281,6 @@ fn fault_of(kind: Kind, link: Link) -> NetFault
         Kind::Unknown => NetFault::Unknown(link.from, link.to),
         Kind::OneSided => NetFault::OneSided(link.from, link.to),
         Kind::SameNetNode => NetFault::SameNetNode(link.from, link.to),
+        Kind::Apart => NetFault::Apart(link.from, link.to),
     }
 }

@@ -5,15 +5,42 @@ ghost use Rattle.std.specs.List.{All};
 ghost use Rattle.std.specs.List.Sorted.{IsStrictlySortedBy};
 ghost use Rattle.echo_addr.specs.declared.address.Address.{Address};
 ghost use Rattle.model_graph.specs.Rows.{linked};
-ghost use Rattle.model_run.specs.Tidy.{Carries, Tidy, lists};
+ghost use Rattle.model_run.specs.Tidy.{Carries, Tidy, carries, lists};
+ghost use Rattle.echo_net.specs.declared.each_fault.Kind.TheVariants as kinds;
+ghost use Rattle.echo_net.specs.declared.link.Link.{Link};
+ghost use Rattle.echo_net.specs.AllFaults.{AppliesTo};
+ghost use Rattle.echo_net.specs.Drawn.{AreLinksInOrder};
 ghost use Rattle.echo_net.specs.Faults.{AreInOrder, AreSoundLinks, IsFirstFault, numbered};
+ghost use Rattle.echo_net.specs.Nets.{link};
 ghost use Rattle.echo_net.specs.Rows.{system_at};
 
+use crate::link::Link;
+use crate::rows::rows;
 use crate::verdict::NetFault;
 use echo_addr::{Address, Items};
 use echo_links::LinkFile;
-use model_graph::{Graph, loop_of, unreached};
+use model_graph::{Graph, loop_of, other_parts, unreached};
 use std::alloc::{AllocError, Global};
+
+/// The graph of an area whose links have no fault. Its members are the places of the carriers.
+pub fn area_graph(
+    alloc: Global,
+    files: &[LinkFile],
+    tag: &[u8],
+    carriers: &[Address],
+    links: &[Link],
+) -> Result<Graph, AllocError>
+    requires sound { AreSoundLinks files.now tag.now }
+    requires carriers { IsStrictlySortedBy ⟦<Address as Ord>⟧.cmp carriers.now }
+    requires links { IsStrictlySortedBy ⟦<Link as Ord>⟧.cmp links.now }
+    requires members { (a : Address) → Contains carriers.now a ↔ IsTrue (carries files.now tag.now a) }
+    requires listed { (l : Link) → Contains links.now l ↔ IsTrue (lists files.now tag.now l.from l.to) }
+    ensures members { IfOk result (λ graph. length graph ≡ length carriers.now) }
+    ensures links { IfOk result (λ graph. linked graph ≡ numbered carriers.now (lists files.now tag.now)) }
+{
+    let rows = rows(alloc, carriers, links)?;
+    Ok(Graph::new(rows))
+}
 
 /// The first fault of the graph, where there is one. The members of the graph are the places of the
 /// carriers.
@@ -54,4 +81,40 @@ fn systems_at(
     ensures { IfOk result (λ systems. systems.items ≡ map (system_at carriers.now) places.now) }
 {
     places.iter().map(|place| carriers[*place]).collect(alloc)
+}
+
+/// The smallest carrier with the smallest of each part that it is not in, ascending.
+pub fn parts_apart(
+    alloc: Global,
+    files: &[LinkFile],
+    tag: &[u8],
+    carriers: &[Address],
+    graph: &Graph,
+) -> Result<Vec<Link>, AllocError>
+    requires sound { AreSoundLinks files.now tag.now }
+    requires in_order { AreInOrder (Carries files.now tag.now) carriers.now }
+    requires members { length graph.now ≡ length carriers.now }
+    requires links { linked graph.now ≡ numbered carriers.now (lists files.now tag.now) }
+    ensures { IfOk result (λ found. AreLinksInOrder (AppliesTo files.now tag.now kinds.Apart) found.items) }
+{
+    let places = other_parts(alloc, graph)?;
+    from_first(alloc, carriers, &places)
+}
+
+/// The first carrier with each of those at these places.
+fn from_first(
+    alloc: Global,
+    carriers: &[Address],
+    places: &[usize],
+) -> Result<Vec<Link>, AllocError>
+    requires { All (λ place. place < length carriers.now) places.now }
+    ensures { IfOk result (λ pairs. pairs.items ≡ map (λ place. link (system_at carriers.now 0) (system_at carriers.now place)) places.now) }
+{
+    places
+        .iter()
+        .map(|place| Link {
+            from: carriers[0],
+            to: carriers[*place],
+        })
+        .collect(alloc)
 }

@@ -19,6 +19,7 @@ pub mod Renaming
 pub mod RenamedLoops
 pub mod Kinship
 pub mod ForestGrowth
+pub mod PartStarts
 pub mod Parents
 pub mod GraphTests
 pub mod Siblings

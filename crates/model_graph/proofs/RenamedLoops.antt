@@ -141,7 +141,7 @@ map-back : {A B : Type 0} (name : A → B) (back : B → A) (xs : List B) → ((
 map-back name back [] h = refl
 map-back {A} {B} name back (x ∷ xs) h = ap (λ (y : B). y ∷ map name (map back xs)) (h x (inl refl)) ∙ ap (λ (ys : List B). x ∷ ys) (map-back name back xs (λ y among. h y (inr among)))
 
-Among-of_names : {A B : Type 0} (name : A → B) (xs : List A) (x : B) → Among x (map name xs) → (y : A) × (name y ≡ x) × Among y xs
+pub Among-of_names : {A B : Type 0} (name : A → B) (xs : List A) (x : B) → Among x (map name xs) → (y : A) × (name y ≡ x) × Among y xs
 Among-of_names name [] x among = absurd among
 Among-of_names name (y ∷ ys) x among =
     elim among [

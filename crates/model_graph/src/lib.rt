@@ -1,7 +1,7 @@
 //! Graphs: members joined by links that go both ways, with no link from a member to itself.
 //!
 //! Promise, for graphs of members 0, 1, 2 and so on: `unreached` answers the first member that no
-//! walk reaches, or that a walk joins any two. `loop_of` answers a cycle with two members that are
+//! walk reaches, or that a walk joins any two. `other_parts` answers where the other parts begin. `loop_of` answers a cycle with two members that are
 //! not linked, or that there is none. `laws` says what this gives. Every cycle is fully linked
 //! exactly where a member parts any two of its links that are not linked with each other. In such a
 //! graph each member has one way to any other.
@@ -49,5 +49,5 @@ pub use laws::{
     other_names, polygons_where_parted,
 };
 pub use polygons::loop_of;
-pub use reach::unreached;
+pub use reach::{other_parts, unreached};
 pub use sound::is_graph;

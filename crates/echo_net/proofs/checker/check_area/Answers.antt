@@ -19,20 +19,8 @@ returns-in-Some-clause-tidy c = (
       (MatchOption-at_some (AreSoundLinks c.args.files.now c.args.tag.now) (IsFirstFault c.args.files.now c.args.tag.now) c.in-Some.fault c.in-Some.is c.in_ok-wrong_link.ensures),
 )
 
-pub rows-requires-clause-known : goal.rows-requires-clause-known
-rows-requires-clause-known c =
-    let sound = at_none (AreSoundLinks c.args.files.now c.args.tag.now) (IsFirstFault c.args.files.now c.args.tag.now) c.in_ok-wrong_link.wrong_link c.in_default.not-Some c.in_ok-wrong_link.ensures in
-    let known = all_carry c.args.files.now c.args.tag.now c.in_ok-area.area.carriers.items c.in_ok-area.area.links.items c.in_ok-area.ensures.members c.in_ok-area.ensures.listed sound in
-    subst (λ (ls : List Link). (l : Link) → Contains ls l → Contains c.deref-3.result.now l.to) (sym c.deref-4.ensures.value)
-    (subst (λ (as' : List Address). (l : Link) → Contains c.in_ok-area.area.links.items l → Contains as' l.to) (sym c.deref-3.ensures.value) known)
-
-pub new-graph-requires : goal.new-graph-requires
-new-graph-requires c =
-    let sound = at_none (AreSoundLinks c.args.files.now c.args.tag.now) (IsFirstFault c.args.files.now c.args.tag.now) c.in_ok-wrong_link.wrong_link c.in_default.not-Some c.in_ok-wrong_link.ensures in
-    let order = in_order_from_sorted (Carries c.args.files.now c.args.tag.now) c.in_ok-area.area.carriers.items c.in_ok-area.ensures.carriers c.in_ok-area.ensures.members in
-    let are = subst (λ (ls : List Link). AreRows c.in_ok-area.area.carriers.items ls c.in_ok-rows.field-0.items) c.deref-4.ensures.value
-    (subst (λ (all : List Address). AreRows all c.deref-4.result.now c.in_ok-rows.field-0.items) c.deref-3.ensures.value c.in_ok-rows.ensures) in
-    is_graph c.args.files.now c.args.tag.now c.in_ok-area.area.carriers.items c.in_ok-area.area.links.items c.in_ok-rows.field-0.items c.in_ok-area.ensures.listed order sound are
+pub area_graph-requires-clause-sound : goal.area_graph-requires-clause-sound
+area_graph-requires-clause-sound c = at_none (AreSoundLinks c.args.files.now c.args.tag.now) (IsFirstFault c.args.files.now c.args.tag.now) c.in_ok-wrong_link.wrong_link c.in_default.not-Some c.in_ok-wrong_link.ensures
 
 pub graph_fault-requires-clause-in_order : goal.graph_fault-requires-clause-in_order
 graph_fault-requires-clause-in_order c =
@@ -41,13 +29,8 @@ graph_fault-requires-clause-in_order c =
 
 pub graph_fault-requires-clause-links : goal.graph_fault-requires-clause-links
 graph_fault-requires-clause-links c =
-    let sound = at_none (AreSoundLinks c.args.files.now c.args.tag.now) (IsFirstFault c.args.files.now c.args.tag.now) c.in_ok-wrong_link.wrong_link c.in_default.not-Some c.in_ok-wrong_link.ensures in
-    let order = in_order_from_sorted (Carries c.args.files.now c.args.tag.now) c.in_ok-area.area.carriers.items c.in_ok-area.ensures.carriers c.in_ok-area.ensures.members in
-    let are = subst (λ (ls : List Link). AreRows c.in_ok-area.area.carriers.items ls c.in_ok-rows.field-0.items) c.deref-4.ensures.value
-    (subst (λ (all : List Address). AreRows all c.deref-4.result.now c.in_ok-rows.field-0.items) c.deref-3.ensures.value c.in_ok-rows.ensures) in
-    let same = same_links c.args.files.now c.args.tag.now c.in_ok-area.area.carriers.items c.in_ok-area.area.links.items c.in_ok-rows.field-0.items c.in_ok-area.ensures.listed order sound are in
-    ap (λ (rows : List (List ℕ)). linked rows) c.new-graph.ensures
-    ∙ (same ∙ ap (λ (all : List Address). numbered all (lists c.args.files.now c.args.tag.now)) (sym c.deref-5.ensures.value))
+    c.in_ok-graph.ensures.links
+    ∙ ap (λ (all : List Address). numbered all (lists c.args.files.now c.args.tag.now)) (c.deref-3.ensures.value ∙ sym c.deref-5.ensures.value)
 
 pub returns-in-Some-wrong_graph-clause-tidy : goal.returns-in-Some-wrong_graph-clause-tidy
 returns-in-Some-wrong_graph-clause-tidy c = (
