@@ -18,7 +18,7 @@ const NUMBERS: u8 = 10;
 
 /// Replaces each file of a base folder that has a second path by a copy. So no command changes a snapshot of hard
 /// links. The files have `path` before their names. In a folder that is no base nothing is changed.
-pub(crate) fn break_hard_links<'a>(
+pub fn break_hard_links<'a>(
     rt: &HostRuntime,
     base: &'a str,
     path: &str,
