@@ -16,7 +16,7 @@ use Rattle.base_log.specs.declared.log.CommitRecord.{CommitRecord}
 use Rattle.base_log.proofs.Paths.{keys_in, log_in, messages_in}
 use Rattle.base_log.proofs.Same.{AreThere-same, TellsBase-same}
 use Rattle.base_folder_store.specs.Held.{HoldsBase}
-use Rattle.base_folder_store.specs.Opened.{IsOpen, and_waiting, committed_by, held_by, path_of}
+use Rattle.base_folder_store.specs.Opened.{and_waiting, held_by, path_of}
 use Rattle.base_folder_store.specs.State.{IsUsable, state_of}
 use Rattle.base_folder_store.specs.declared.folder.Folder.{Folder}
 use Rattle.disk_atomic.specs.Changes.{ChangesOnly, DifferAt}

@@ -2,13 +2,13 @@
 use Rattle.std.proofs.Common.{◌≡◌, ◌≢◌, ◌↔◌, ◌++◌, ℕ, Bool, true, false, IsTrue, List, [], length, drop, inl, inr, ⊎_elim, sym, ◌∙◌, ap, refl, subst}
 use Rattle.std.proofs.lemmas.List.{drop_at}
 use Rattle.base_file.specs.Base.{Base}
-use Rattle.disk_io.specs.Disk.{DiskState, Files}
+use Rattle.disk_io.specs.Disk.{DiskState}
 use Rattle.disk_io.specs.Runs.{OneStepOn}
 use Rattle.disk_io.proofs.Moments.{left_now}
 use Rattle.disk_atomic.specs.Changes.{ChangesOnly, DifferAt}
 use Rattle.station.specs.Paths.{staging_path}
 use Rattle.cmd_status.specs.Inputs.{IsBaseGiven}
-use Rattle.station.specs.Beneath.{HoldsAsBefore, IsGivenBack}
+use Rattle.station.specs.Beneath.{IsGivenBack}
 use Rattle.station_bases.specs.InFile.{IsInFile, IsOfFile, file_state}
 
 module _ (path own : List ℕ) (base : Base) (place : ℕ) (d e : DiskState) where

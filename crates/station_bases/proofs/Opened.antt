@@ -1,11 +1,11 @@
 -- A base file opened as a store.
-use Rattle.std.proofs.Common.{◌≡◌, ◌≤◌, ◌⊎◌, inl, inr, ⊎_elim, ◌∙◌, ℕ, List, [], Some, Result, Ok, Err, ap, sym, subst}
+use Rattle.std.proofs.Common.{◌≡◌, ◌≤◌, inl, inr, ⊎_elim, ℕ, List, [], Result, Ok, Err, ap, sym, subst}
 use Rattle.std.specs.Prelude.{All, ◌≢◌, IfOk}
 use Rattle.base_file.specs.Base.{Base}
 use Rattle.base_file.specs.BaseFile.{Loaded}
 use Rattle.base_file.specs.Loading.{AnswersLoad}
 use Rattle.base_file.specs.declared.fault.BaseFault.{BaseFault}
-use Rattle.disk_io.specs.Disk.{DiskState, Files, Honestly}
+use Rattle.disk_io.specs.Disk.{DiskState, Honestly}
 use Rattle.disk_io.specs.Runs.{ChangesNothing}
 use Rattle.disk_io.proofs.Moments.{weaker_run}
 use Rattle.echo_links.specs.Links.{LinkFile}
@@ -15,7 +15,7 @@ use Rattle.station.specs.Faults.{FailsAt}
 use Rattle.station.specs.Links.{AreLinks, NoLinks}
 use Rattle.station.specs.Opening.{IsNotOpened, IsOpenFor, IsOpened}
 use Rattle.station.specs.Place.{IsOfPlace, KeepsElsewhere, StandsOrWasLeft}
-use Rattle.station_bases.specs.InFile.{IsOfFile, StandsInFile, file_state}
+use Rattle.station_bases.specs.InFile.{StandsInFile, file_state}
 use Rattle.station_bases.specs.Reading.{IsFileShut, IsSettled, IsShutFor, IsUnreadFor, file_place}
 
 abbrev base_in : Result Loaded BaseFault → Base

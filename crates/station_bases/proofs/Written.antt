@@ -1,5 +1,5 @@
 -- A base that was put in the place of its file.
-use Rattle.std.proofs.Common.{◌≡◌, ◌≢◌, inl, inr, ⊎_elim, ◌∙◌, ℕ, List, Some, All, subst, sym, refl}
+use Rattle.std.proofs.Common.{◌≡◌, inl, inr, ⊎_elim, ◌∙◌, ℕ, List, Some, subst, sym, refl}
 use Rattle.base_file.specs.Base.{Base}
 use Rattle.disk_io.specs.Disk.{DiskState, Files}
 use Rattle.disk_io.specs.Runs.{LeavesOnly, OneStepOn}
@@ -8,7 +8,7 @@ use Rattle.disk_atomic.specs.Changes.{ChangesOnly, HasOnDisk}
 use Rattle.disk_atomic.specs.Replacing.{Replaces}
 use Rattle.station.specs.Paths.{staging_path}
 use Rattle.cmd_status.specs.Inputs.{IsBaseGiven}
-use Rattle.base_store.specs.Store.{CommitsNothing, MayCommit, LeavesCommitted, LeavesEither}
+use Rattle.base_store.specs.Store.{MayCommit, LeavesEither}
 use Rattle.station_bases.specs.InFile.{IsInFile, IsOfFile, PutsBase, StandsInFile, file_state}
 
 -- no step yet

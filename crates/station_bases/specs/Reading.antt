@@ -1,5 +1,5 @@
 -- The files of a station with its base in a file are read.
-use Rattle.std.specs.Prelude.{◌≡◌, ◌⊎◌, ℕ, List, Some}
+use Rattle.std.specs.Prelude.{◌⊎◌, ℕ, List}
 use Rattle.disk_io.specs.Disk.{DiskState}
 use Rattle.disk_io.specs.Runs.{ChangesNothing}
 use Rattle.station.specs.Faults.{FailsAt}

@@ -125,12 +125,13 @@ impl<'a, D: Disk, S: BuildHasher> Store for FileStore<'a, D, S> {
     }
 
     fn commit(&mut self) -> Result<(), StoreError> {
+        let rest = &self.rest;
         write_file(
             self.alloc,
             &mut self.disk,
-            &self.rest.base,
-            self.rest.path,
-            self.rest.own.as_slice(),
+            &rest.base,
+            rest.path,
+            rest.own.as_slice(),
         )
     }
 }
