@@ -1,5 +1,5 @@
 //! Files read and made whole, on a file system of which each call fails in turn.
-mod disk;
+pub(crate) mod disk;
 
 use disk::{Disk, State};
 use disk_io::{Trial, Watched};

@@ -30,6 +30,8 @@ pub struct State {
     to: u64,
     /// The call that flushed the folder last.
     pub flushed_at: Option<u64>,
+    /// Before this call another program cuts all files to so many bytes.
+    pub cut: Option<(u64, usize)>,
 }
 
 impl State {
@@ -42,6 +44,7 @@ impl State {
             from,
             to,
             flushed_at: None,
+            cut: None,
         }
     }
 
@@ -93,10 +96,21 @@ impl State {
         }
     }
 
+    fn cut_all(&mut self, len: usize) {
+        for kept in self.files.iter_mut() {
+            kept.bytes.truncate(len);
+        }
+    }
+
     // Counts a call, and answers whether it fails.
     fn count(&mut self) -> io::Result<()> {
         let call = self.calls;
         self.calls = call.saturating_add(1);
+        if let Some((at, len)) = self.cut {
+            if call == at {
+                self.cut_all(len);
+            }
+        }
         if self.from <= call && call < self.to {
             return Err(io::Error::from(ErrorKind::Other));
         }
