@@ -1,5 +1,5 @@
 -- Roots of a forest begin the parts of its graph.
-use Rattle.std.proofs.Common.{◌≡◌, ◌+◌, ◌<◌, ◌≤◌, ◌↔◌, ◌⊎◌, ◌++◌, ℕ, zero, suc, Bool, Option, Some, None, List, [], ◌∷◌, length, get_or, refl, sym, ap, ◌∙◌, subst, arith, inl, inr}
+use Rattle.std.proofs.Common.{◌≡◌, ◌+◌, ◌<◌, ◌≤◌, ◌↔◌, ◌++◌, ℕ, zero, suc, Bool, Option, Some, None, List, [], ◌∷◌, length, get_or, refl, sym, ap, ◌∙◌, subst, arith, inl, inr}
 use Rattle.std.specs.Prelude.{Contains}
 use Rattle.std.proofs.lemmas.Bool.{cases_eq, cases_lt}
 use Rattle.std.proofs.lemmas.Grind.{get_or_default_zero}
@@ -11,7 +11,6 @@ use Rattle.model_graph.specs.Rows.{linked, IsAscending, IsGraph}
 use Rattle.model_graph.specs.Levels.{level_of}
 use Rattle.model_graph.specs.Forest.{IsForest}
 use Rattle.model_graph.specs.Reach.{StartsPart}
-use Rattle.model_graph.proofs.Floods.{one_level}
 use Rattle.model_graph.proofs.PinchSearch.{Simple-from_graph}
 use Rattle.model_graph.proofs.Walks.{Reaches-sym, Reaches-trans}
 
@@ -34,7 +33,7 @@ RootsBefore-passed levels before roots none h = record {
 }
 
 -- the items of an ascending list are below a member that comes behind it
-push_ascending : (xs : List ℕ) (n : ℕ) → IsAscending xs → ((a : ℕ) → Contains xs a → a < n) → IsAscending (xs ++ n ∷ [])
+pub push_ascending : (xs : List ℕ) (n : ℕ) → IsAscending xs → ((a : ℕ) → Contains xs a → a < n) → IsAscending (xs ++ n ∷ [])
 push_ascending xs n up below i j lt inside =
     let size = length_push xs n in
     let left : get_or (xs ++ n ∷ []) i 0 ≡ get_or xs i 0 = get_or_append_left xs (n ∷ []) 0 i (omega (arith, size)) in

@@ -27,22 +27,30 @@
 //! ```
 #![tactic(auto)]
 
+mod block_loops;
 mod blocks;
+mod by_block;
+mod by_pairs;
 mod depth;
 mod division;
 mod forest;
 mod fullness;
 mod graph;
+mod in_block;
 mod kin;
 mod laws;
 mod levels;
+mod numbering;
 mod pinching;
 mod polygons;
 mod reach;
 mod ring;
 mod sound;
+mod subgraph;
+mod wholeness;
 mod writing;
 
+pub use block_loops::{BlockLoop, loops_of_blocks};
 pub use graph::{Graph, Links};
 pub use laws::{
     along_ways, cycle_written_anew, family_of_levels, first_step, further_out, one_way,
