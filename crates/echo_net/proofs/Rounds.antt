@@ -1,12 +1,11 @@
 -- The loops of the blocks of an area, by the places of its carriers, and the one that a verdict names.
-use Rattle.std.proofs.Common.{◌≡◌, ◌≢◌, ◌+◌, ◌<◌, ◌↔◌, ◌++◌, ◌||◌, ◌&&◌, ◌⊎◌, ℕ, Bool, true, false, IsTrue, List, [], ◌∷◌, length, map, take, get_or, refl, sym, ap, subst, ◌∙◌, arith, inl, inr}
+use Rattle.std.proofs.Common.{◌≡◌, ◌≢◌, ◌<◌, ◌&&◌, ◌⊎◌, ℕ, Bool, true, IsTrue, List, [], ◌∷◌, length, map, get_or, refl, sym, ap, subst, ◌∙◌, arith, inl, inr}
 use Rattle.std.specs.Prelude.{Contains}
 use Rattle.std.specs.List.{All}
 use Rattle.std.proofs.lemmas.Bool.{and_from, and_parts, cases_Bool, cases_lt, or_cases, or_left, or_right}
-use Rattle.std.proofs.lemmas.List.{get_or-map, length-map, get_or_default}
+use Rattle.std.proofs.lemmas.List.{get_or-map, length-map}
 use Rattle.std.proofs.lemmas.List.Elements.{Contains-get_or}
 use Rattle.echo_addr.specs.declared.address.Address.{Address}
-use Rattle.echo_links.specs.LinkLines.{no_address}
 use Rattle.echo_links.specs.Links.{LinkFile, same_address}
 use Rattle.echo_filed.specs.Sets.{address_before}
 use Rattle.model_graph.specs.declared.block_loops.BlockLoop.{BlockLoop}
@@ -18,16 +17,16 @@ use Rattle.model_graph.proofs.Around.{Around-itself}
 use Rattle.model_graph.proofs.Members.{Among-from_Contains, Contains-from_Among}
 use Rattle.model_graph.proofs.RenamedLoops.{Among-of_names, FirstInBlock-renamed, LoopOfBlock-renamed}
 use Rattle.model_graph.proofs.Renaming.{Among-map, IsRenaming-swap}
-use Rattle.model_run.specs.Tidy.{Carries, Joined, lists}
+use Rattle.model_run.specs.Tidy.{Carries, lists}
 use Rattle.echo_net.specs.declared.link.Link.{Link}
 use Rattle.echo_net.specs.declared.verdict.NetFault.{NetFault}
 use Rattle.echo_net.specs.AllFaults.{AreRounds, Round, loop_fault, round_of}
-use Rattle.echo_net.specs.Faults.{AreInOrder, AreSoundLinks, IsNamedLoop, numbered}
+use Rattle.echo_net.specs.Faults.{AreInOrder, AreSoundLinks, numbered}
 use Rattle.echo_net.specs.Firsts.{pair_before}
 use Rattle.echo_net.specs.Nets.{link}
 use Rattle.echo_net.specs.Rows.{system_at}
 use Rattle.echo_net.proofs.Graphs.{loop_within}
-use Rattle.echo_net.proofs.Numbers.{back, before_back, carried, keeps, keeps_back, lister_carries, name, name_back, number, parts, renaming, simple, simple_numbers}
+use Rattle.echo_net.proofs.Numbers.{back, before_back, keeps, keeps_back, lister_carries, name, name_back, parts, renaming, simple, simple_numbers}
 use Rattle.echo_net.proofs.Orders.{not_before_itself, same_exact, same_itself}
 
 -- an item of a list that has one
