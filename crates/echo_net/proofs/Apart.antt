@@ -23,7 +23,7 @@ use Rattle.echo_net.specs.declared.verdict.NetFault.TheVariants.{Apart}
 use Rattle.echo_net.specs.AllFaults.{AppliesTo, AreLinkFaults, IsApart, fault_of, fault_where}
 use Rattle.echo_net.specs.Drawn.{AreLinksInOrder}
 use Rattle.echo_net.specs.Faults.{AreInOrder, AreSoundLinks, IsFirstFault, numbered}
-use Rattle.echo_net.specs.Firsts.{HasTwin, IsSmallest, pair_before}
+use Rattle.echo_net.specs.Firsts.{IsSmallest, pair_before}
 use Rattle.echo_net.specs.Nets.{link, systems}
 use Rattle.echo_net.specs.Rows.{system_at}
 use Rattle.echo_net.proofs.Numbers.{carried, no_later, number, reaches, reaches_back}

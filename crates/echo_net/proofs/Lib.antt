@@ -12,4 +12,5 @@ pub mod Graphs
 pub mod Absences
 pub mod Drawings
 pub mod Apart
+pub mod Rounds
 pub mod AllFaults

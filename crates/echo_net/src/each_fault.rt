@@ -1,26 +1,28 @@
-//! Every fault of an area: of its files, their links, and the parts of its graph.
+//! Every fault of an area: of its files, their links, and its graph.
 
 ghost use Rattle.std.specs.Prelude.{◌≡◌, ◌++◌, ◌∷◌, ◌==◌, ◌↔◌, ℕ, List, Contains, IfOk, IsTrue, OnOk, filter, length, map, not};
 ghost use Rattle.std.specs.List.Sorted.{IsStrictlySortedBy};
 ghost use Rattle.echo_addr.specs.declared.address.Address.{Address};
 ghost use Rattle.echo_links.specs.Links.{LinkFile};
-ghost use Rattle.model_run.specs.Tidy.{carries, lists};
+ghost use Rattle.model_graph.specs.Rows.{linked};
+ghost use Rattle.model_run.specs.Tidy.{Carries, carries, lists};
 ghost use Rattle.echo_net.specs.declared.each_fault.Kind.TheVariants as kinds;
 ghost use Rattle.echo_net.specs.declared.link.Link.{Link};
 ghost use Rattle.echo_net.specs.declared.verdict.NetFault.{NetFault};
-ghost use Rattle.echo_net.specs.AllFaults.{AddsApart, AddsLinkFaults, AddsTwoFiles, AreAllFaults, AreFurther, AreLinkFaults, fault_of, fault_where, is_one_sided, is_self_link, is_unknown, names_fault};
-ghost use Rattle.echo_net.specs.Faults.{AreSoundLinks, IfNo, IsFirstFault};
+ghost use Rattle.echo_net.specs.AllFaults.{AddsApart, AddsLinkFaults, AddsRounds, AddsTwoFiles, AreAllFaults, AreFurther, AreLinkFaults, fault_of, fault_where, is_one_sided, is_self_link, is_unknown, names_fault};
+ghost use Rattle.echo_net.specs.Faults.{AreInOrder, AreSoundLinks, IfNo, IsFirstFault, numbered};
 
 use crate::area::{Area, area_of};
 use crate::carriers::systems;
 use crate::drawing::{back, has_address, has_link};
-use crate::graph_faults::{area_graph, parts_apart};
+use crate::graph_faults::{area_graph, parts_apart, push_loops};
 use crate::link::Link;
 use crate::owners::all_shared;
 use crate::same_net_node::all_same_net_node;
 use crate::verdict::{NetFault, Verdict};
 use echo_addr::Address;
 use echo_links::LinkFile;
+use model_graph::Graph;
 use std::alloc::{AllocError, Global};
 
 /// The kinds of faults that two systems have.
@@ -34,9 +36,9 @@ pub enum Kind {
     Apart,
 }
 
-/// Every fault of the area but `Loop`, in the order of `NetFault`, those of one kind by ascending addresses, each once.
-/// Where files and links have no fault, each part of the area that its smallest system is not in has one `Apart`.
-/// Fails only when out of memory.
+/// Every fault of the area, in the order of `NetFault`, those of one kind by ascending addresses, each once. Where files
+/// and links have no fault, each part of the area that its smallest system is not in has one `Apart`, and each block with
+/// a cycle that is not fully linked one `Loop`. Fails only when out of memory.
 pub fn all_faults(
     alloc: Global,
     files: &[LinkFile],
@@ -47,7 +49,7 @@ pub fn all_faults(
     let area = area_of(alloc, files, tag)?;
     let mut all = link_faults(alloc, files, tag, &area.carriers, &area.links)?;
     if all.is_empty() {
-        push_apart(alloc, &mut all, files, tag, &area.carriers, &area.links)?;
+        push_graph_faults(alloc, &mut all, files, tag, &area.carriers, &area.links)?;
     }
     Ok(all)
 }
@@ -74,8 +76,8 @@ fn link_faults(
     Ok(all)
 }
 
-/// Adds the parts of an area whose links have no fault.
-fn push_apart(
+/// Adds the parts and the loops of an area whose links have no fault.
+fn push_graph_faults(
     alloc: Global,
     all: &mut Vec<NetFault>,
     files: &[LinkFile],
@@ -88,10 +90,29 @@ fn push_apart(
     requires links { IsStrictlySortedBy ⟦<Link as Ord>⟧.cmp links.now }
     requires members { (a : Address) → Contains carriers.now a ↔ IsTrue (carries files.now tag.now a) }
     requires listed { (l : Link) → Contains links.now l ↔ IsTrue (lists files.now tag.now l.from l.to) }
-    ensures { OnOk result (AddsApart files.now tag.now all.old.items all.new.items) }
+    ensures { OnOk result ((parts : List NetFault) × AddsApart files.now tag.now all.old.items parts × AddsRounds files.now tag.now parts all.new.items) }
 {
     let graph = area_graph(alloc, files, tag, carriers, links)?;
-    let found = parts_apart(alloc, files, tag, carriers, &graph)?;
+    push_apart(alloc, all, files, tag, carriers, &graph)?;
+    push_loops(alloc, all, files, tag, carriers, &graph)
+}
+
+/// Adds the parts of the graph.
+fn push_apart(
+    alloc: Global,
+    all: &mut Vec<NetFault>,
+    files: &[LinkFile],
+    tag: &[u8],
+    carriers: &[Address],
+    graph: &Graph,
+) -> Result<(), AllocError>
+    requires sound { AreSoundLinks files.now tag.now }
+    requires in_order { AreInOrder (Carries files.now tag.now) carriers.now }
+    requires members { length graph.now ≡ length carriers.now }
+    requires links { linked graph.now ≡ numbered carriers.now (lists files.now tag.now) }
+    ensures { OnOk result (AddsApart files.now tag.now all.old.items all.new.items) }
+{
+    let found = parts_apart(alloc, files, tag, carriers, graph)?;
     push_faults(all, Kind::Apart, &found)
 }
 
@@ -113,7 +134,6 @@ fn names_fault(verdict: &Verdict) -> bool
 {
     match verdict {
         Verdict::Yes { .. } => false,
-        Verdict::No(NetFault::Loop(_)) => false,
         Verdict::No(_) => true,
     }
 }

@@ -1,14 +1,10 @@
-use Rattle.std.proofs.Common.{◌∙◌, ℕ, List, sym, subst, ap}
-use Rattle.std.specs.Prelude.{Contains}
+use Rattle.std.proofs.Common.{◌∙◌, List, sym, subst, ap}
 use Rattle.std.proofs.lemmas.Option.{MatchOption-at_some}
 use Rattle.echo_addr.specs.declared.address.Address.{Address}
-use Rattle.model_graph.specs.Rows.{linked}
 use Rattle.model_run.specs.Tidy.{Carries, Tidy, lists}
-use Rattle.echo_net.specs.declared.link.Link.{Link}
 use Rattle.echo_net.specs.Faults.{AreInOrder, AreSoundLinks, IsFirstFault, numbered}
-use Rattle.echo_net.specs.Rows.{AreRows}
-use Rattle.echo_net.proofs.Faulty.{all_carry, at_none, files_fit}
-use Rattle.echo_net.proofs.Graphs.{is_graph, not_tidy, same_links}
+use Rattle.echo_net.proofs.Faulty.{at_none, files_fit}
+use Rattle.echo_net.proofs.Graphs.{not_tidy}
 use Rattle.echo_net.proofs.Numbers.{in_order_from_sorted}
 use Rattle.echo_net.proofs.checker.check_area.Goals as goal
 
