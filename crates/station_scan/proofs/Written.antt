@@ -168,7 +168,7 @@ tried_written state packets trial s0 s1 used (inr was) = inr (tried_after state 
 
 pub begun_if : (batch : Batch) → ArePlaced batch.outbound.now batch.packets.now → (d e : DiskState) → ChangesNothing d e → (done : Result Bool DiskError) → IfOk done (λ free. free ≡ true → All (IsMade d) batch.packets.now)
     → IfOk done (λ free. free ≡ true → (m : List ℕ) → IsIn batch.outbound.now m → d.is_named m) → Honestly d (IfOk done (λ free. free ≡ true → All (IsFree d) batch.packets.now)) → IfOk done (λ free. free ≡ true → IsBegun batch e)
-begun_if batch placed d e quiet (Ok free) made named none is = record {
+begun_if batch placed d e quiet (Ok free) made named none = λ is. record {
   opened = open_through d e quiet batch.outbound.now batch.packets.now (open_made batch.outbound.now batch.packets.now placed d (made is) (named is) (λ honest. none honest is));
   none = λ k z lt. ap bytes_in (quiet.seen (get_or batch.packets.now k z).staging.now ∙ (made is k z lt).empty);
 }
