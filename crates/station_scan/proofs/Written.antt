@@ -31,7 +31,7 @@ use Rattle.station_scan.specs.Publishing.{AreGone, AreOpen, IsTriedWith, IsWritt
 use Rattle.station_scan.specs.Writing.{HasCopies, IsBatchOff, IsBegun, IsOpen, IsWriting, content_for}
 use Rattle.station_scan.specs.declared.writing.Batch.{Batch}
 use Rattle.station_scan.specs.declared.pieces.Source.{Source}
-use Rattle.station_scan.proofs.Published.{holds_now, holds_still}
+use Rattle.station_scan.proofs.Published.{apart_still, holds_now, holds_still}
 use Rattle.station_scan.proofs.Staged.{tried_after}
 use Rattle.station_scan.proofs.Through.{open_through}
 
@@ -74,7 +74,7 @@ looked_only paths s0 s1 settled looks = record {
 pub off_still : (s0 s1 : StoreState) (batch : Batch) → IsSameStore s0 s1 → IsBatchOff s0 batch → IsBatchOff s1 batch
 off_still s0 s1 batch same going = record {
   placed = going.placed;
-  apart = λ k z lt. record { path = λ o. (going.apart k z lt).path ((same.own _).0 o); staging = λ o. (going.apart k z lt).staging ((same.own _).0 o) };
+  apart = apart_still batch.packets.now s0 s1 same going.apart;
   is_trial = going.is_trial;
   off = λ o. going.off ((same.own _).0 o);
 }

@@ -1,20 +1,44 @@
-use Rattle.std.proofs.Common.{rules, ◌≡◌, ◌≤◌, ◌<◌, true, false, length, All, IfErr, IfOk, OnOk, ℕ, ◌+◌, ◌-◌, ◌*◌, ◌/◌, ◌%◌, Bool, nat_eq, nat_lt, List, [], ◌∷◌, ◌++◌, slice_index_or, slice_set, bit_and, bit_or, Fits, w8, w32, w64, Bor, MutBor}
-use Rattle.disk_io.specs.Disk.{Honestly}
-use Rattle.base_file.specs.Base.{Base}
-use Rattle.disk_atomic.specs.Outgoing.{IsAtStaging, IsFree}
-use Rattle.station_scan.specs.Beneath.{IsUsedAt}
-use Rattle.station_scan.specs.Publishing.{AreStaged, HasStageCause, IsTriedWith, IsWritten, NoneStays}
-use Rattle.station_scan.specs.Writing.{HasCopies, HasStopCause, IsBatchOff, IsBegun, IsOpen, IsWriting, content_for, stop_stays, stop_told}
+use Rattle.std.proofs.Common.{ℕ, arith, subst}
+use Rattle.std.specs.Prelude.{IfOk, OnOk, Result}
+use Rattle.disk_atomic.specs.Outgoing.{IsAtStaging}
+use Rattle.station_scan.specs.Writing.{HasCopies, IsOpen}
+use Rattle.station_scan.specs.declared.writing.StageStop.{StageStop}
+use Rattle.station_scan.proofs.Written.{copies_more, copies_none, used_none, used_twice, writing_after}
 use Rattle.station_scan.proofs.filling.groups_on.Goals as goal
 
--- src/filling.rt:80:5
 pub groups-init : goal.groups-init
-groups-init g c = ?
+groups-init g c =
+    let batch = c.args.batch in
+    let s0 = g.P.Kept.Store.state c.args.store in
+    record {
+      used = used_none (IsAtStaging batch.packets.now batch.trial.now) s0 c.requires.writing.settled c.requires.writing.ready;
+      writing = c.requires.writing;
+      count = λ honest base kept. c.len-end.ensures.count honest base kept;
+      copies = λ honest base kept. copies_none c.args.source.links.now base.messages c.args.source.from batch.packets.now s0.disk;
+      later = omega arith;
+    }
 
--- src/filling.rt:80:5
 pub groups-preserved : goal.groups-preserved
-groups-preserved g c = ?
+groups-preserved g c =
+    let batch = c.args.batch in
+    let source = c.args.source in
+    let at = IsAtStaging batch.packets.now batch.trial.now in
+    let s0 = g.P.Kept.Store.state c.args.store in
+    let s = g.P.Kept.Store.state c.groups.store in
+    let e = g.P.Kept.Store.state c.group_on-back.result.store in
+    let inv = c.groups.invariant in
+    let now = c.group_on-back.ensures in
+    record {
+      used = used_twice at s0 s e inv.used now.used;
+      writing = writing_after at s e batch inv.writing.off now.used (subst (λ (r : Result ℕ StageStop). OnOk r (IsOpen batch e.disk)) c.in-Ok.is now.opened);
+      count = λ honest base kept. c.len-end-in-Ok.ensures.count honest base kept;
+      copies = λ honest base kept.
+          copies_more source.links.now base.messages source.from c.groups.at c.in-Ok.next batch.packets.now s0.disk s.disk e.disk (inv.copies (now.used.changes.honest honest) base kept)
+          (subst (λ (r : Result ℕ StageStop). IfOk r (λ next. HasCopies source.links.now base.messages c.groups.at next batch.packets.now s.disk e.disk)) c.in-Ok.is (now.copies honest base (inv.used.holds.keeps base kept)));
+      later = omega (arith, inv.later, now.cause.later);
+    }
 
--- src/filling.rt:89:17
 pub returns-in-Err-clause-used : goal.returns-in-Err-clause-used
-returns-in-Err-clause-used g c = ?
+returns-in-Err-clause-used g c =
+    used_twice (IsAtStaging c.args.batch.packets.now c.args.batch.trial.now) (g.P.Kept.Store.state c.args.store) (g.P.Kept.Store.state c.groups.store) (g.P.Kept.Store.state c.group_on-back.result.store) c.groups.invariant.used
+    c.group_on-back.ensures.used
