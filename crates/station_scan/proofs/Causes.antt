@@ -15,20 +15,20 @@ use Rattle.station_scan.specs.declared.writing.StageStop.TheVariants.{OfDisk, Of
 
 module _ (s0 s1 : StoreState) (f0 f1 : ℕ) where
   pub none_stops : {T : Type 0} (value : T) → f0 ≤ f1 → HasStopCause s0 s1 f0 f1 (Ok value)
-  none_stops value later = record { later = later; disk = λ e. absurd (cc e); store = λ e. absurd (cc e); damaged = λ honest e. absurd (cc e) }
+  none_stops value later = record { later = later; of_disk = λ e. absurd (cc e); of_store = λ e. absurd (cc e); damaged = λ honest e. absurd (cc e) }
 
   pub disk_stops : {A T : Type 0} (cause : DiskError) → HasCause {T = A} f0 f1 (Err cause) → HasStopCause {T = T} s0 s1 f0 f1 (Err (OfDisk cause))
-  disk_stops cause was = record { later = was.later; disk = λ e. was.failed (cc e); store = λ e. absurd (cc e); damaged = λ honest e. absurd (cc e) }
+  disk_stops cause was = record { later = was.later; of_disk = λ e. was.failed (cc e); of_store = λ e. absurd (cc e); damaged = λ honest e. absurd (cc e) }
 
   pub store_stops : {A T : Type 0} (cause : StoreError) → HasStoreCause {T = A} s0 s1 f0 f1 (Err cause) → HasStopCause {T = T} s0 s1 f0 f1 (Err (OfStore cause))
-  store_stops cause was = record { later = was.later; disk = λ e. absurd (cc e); store = λ e. was.failed (cc e); damaged = λ honest e. was.damaged honest (cc e) }
+  store_stops cause was = record { later = was.later; of_disk = λ e. absurd (cc e); of_store = λ e. was.failed (cc e); damaged = λ honest e. was.damaged honest (cc e) }
 
 -- after a use of the disk
 pub later_stops : {T : Type 0} (paths : List ℕ → Type 0) (s0 s1 s2 : StoreState) (f0 f1 f2 : ℕ) (result : Result T StageStop) → IsUsedAt paths s0 s1 → f0 ≤ f1 → HasStopCause s1 s2 f1 f2 result → HasStopCause s0 s2 f0 f2 result
 later_stops paths s0 s1 s2 f0 f1 f2 result used first was = record {
   later = omega (arith, first, was.later);
-  disk = λ e. failed_wider f0 f1 f2 f2 first (omega arith) (was.disk e);
-  store = λ e. failed_wider f0 f1 f2 f2 first (omega arith) (was.store e);
+  of_disk = λ e. failed_wider f0 f1 f2 f2 first (omega arith) (was.of_disk e);
+  of_store = λ e. failed_wider f0 f1 f2 f2 first (omega arith) (was.of_store e);
   damaged = λ honest e base kept. was.damaged honest e base (used.holds.keeps base kept);
 }
 
@@ -37,7 +37,7 @@ module _ (s0 s1 s2 : StoreState) (f0 f1 f2 : ℕ) (run : s2.disk.is_honest → s
   pub told_cause : (stop : StageStop) → HasStopCause {T = Bool} s0 s1 f0 f1 (Err stop) → f1 ≤ f2 → HasStageCause {T = Bool} s0 s2 f0 f2 (Err (stop_told stop))
   told_cause (OfDisk disk.Device) was more = record {
     later = omega (arith, was.later, more);
-    packets = λ e. failed_wider f0 f0 f1 f2 (omega arith) more (was.disk cc);
+    packets = λ e. failed_wider f0 f0 f1 f2 (omega arith) more (was.of_disk cc);
     staging = λ e. absurd (cc e);
     reading = λ e. absurd (cc e);
     unread = λ honest e. absurd (cc e);
@@ -57,7 +57,7 @@ module _ (s0 s1 s2 : StoreState) (f0 f1 f2 : ℕ) (run : s2.disk.is_honest → s
     later = omega (arith, was.later, more);
     packets = λ e. absurd (cc e);
     staging = λ e. absurd (cc e);
-    reading = λ e. failed_wider f0 f0 f1 f2 (omega arith) more (was.store (cc e));
+    reading = λ e. failed_wider f0 f0 f1 f2 (omega arith) more (was.of_store (cc e));
     unread = λ honest e. was.damaged (run honest) (cc e);
     free = λ e. cc e;
     base = λ why e. cc e;
@@ -67,7 +67,7 @@ module _ (s0 s1 s2 : StoreState) (f0 f1 f2 : ℕ) (run : s2.disk.is_honest → s
   stays_cause (OfDisk cause) left was drop = record {
     later = omega (arith, was.later, drop.later);
     packets = λ e. absurd (cc e);
-    staging = λ e. failed_wider f0 f0 f1 f2 (omega arith) drop.later (was.disk (cc e));
+    staging = λ e. failed_wider f0 f0 f1 f2 (omega arith) drop.later (was.of_disk (cc e));
     reading = λ e. absurd (cc e);
     unread = λ honest e. absurd (cc e);
     free = λ e. cc e;

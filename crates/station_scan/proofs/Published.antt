@@ -13,7 +13,7 @@ use Rattle.disk_atomic.specs.Naming.{HasItsPath, NamesEach, StandsWhole}
 use Rattle.disk_atomic.specs.Outgoing.{IsAtStaging, IsFilled, IsOfOne, IsStaged, SendsBytes, staged_in}
 use Rattle.disk_atomic.specs.Publishing.{IsApartFrom}
 use Rattle.disk_atomic.specs.declared.outgoing.Outgoing.{Outgoing}
-use Rattle.base_store.specs.Store.{Commits, MayCommit, LeavesEither, StoreState}
+use Rattle.base_store.specs.Store.{Commits, IsSameStore, MayCommit, LeavesEither, StoreState}
 use Rattle.base_store.proofs.Runs.{same_twice}
 use Rattle.station.specs.Beneath.{HoldsAsBefore}
 use Rattle.station_scan.specs.Beneath.{IsUsedAt}
@@ -30,6 +30,10 @@ own_not_of s packets apart m own (p, is, at) =
 
 pub own_not_staging : (s : StoreState) (outbound trial : List ℕ) (packets : List Outgoing) → AreGoing s.is_own outbound trial packets → (m : List ℕ) → s.is_own m → IsAtStaging packets trial m → ⊥
 own_not_staging s outbound trial packets going m own at = ⊎_elim (λ b. own_not_of s packets going.apart m own (b.0, b.1, inl b.2)) (λ e. going.off (subst s.is_own e own)) at
+
+-- nor of the store as it is later
+pub apart_still : (packets : List Outgoing) (s0 s1 : StoreState) → IsSameStore s0 s1 → All (IsApartFrom s0.is_own) packets → All (IsApartFrom s1.is_own) packets
+apart_still packets s0 s1 same apart k z lt = record { path = λ o. (apart k z lt).path ((same.own _).0 o); staging = λ o. (apart k z lt).staging ((same.own _).0 o) }
 
 -- ---- what stands still
 

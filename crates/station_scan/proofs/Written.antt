@@ -31,7 +31,7 @@ use Rattle.station_scan.specs.Publishing.{AreGone, AreOpen, IsTriedWith, IsWritt
 use Rattle.station_scan.specs.Writing.{HasCopies, IsBatchOff, IsBegun, IsOpen, IsWriting, content_for}
 use Rattle.station_scan.specs.declared.writing.Batch.{Batch}
 use Rattle.station_scan.specs.declared.pieces.Source.{Source}
-use Rattle.station_scan.proofs.Published.{holds_now, holds_still}
+use Rattle.station_scan.proofs.Published.{apart_still, holds_now, holds_still}
 use Rattle.station_scan.proofs.Staged.{tried_after}
 use Rattle.station_scan.proofs.Through.{open_through}
 
@@ -74,7 +74,7 @@ looked_only paths s0 s1 settled looks = record {
 pub off_still : (s0 s1 : StoreState) (batch : Batch) → IsSameStore s0 s1 → IsBatchOff s0 batch → IsBatchOff s1 batch
 off_still s0 s1 batch same going = record {
   placed = going.placed;
-  apart = λ k z lt. record { path = λ o. (going.apart k z lt).path ((same.own _).0 o); staging = λ o. (going.apart k z lt).staging ((same.own _).0 o) };
+  apart = apart_still batch.packets.now s0 s1 same going.apart;
   is_trial = going.is_trial;
   off = λ o. going.off ((same.own _).0 o);
 }
@@ -168,7 +168,7 @@ tried_written state packets trial s0 s1 used (inr was) = inr (tried_after state 
 
 pub begun_if : (batch : Batch) → ArePlaced batch.outbound.now batch.packets.now → (d e : DiskState) → ChangesNothing d e → (done : Result Bool DiskError) → IfOk done (λ free. free ≡ true → All (IsMade d) batch.packets.now)
     → IfOk done (λ free. free ≡ true → (m : List ℕ) → IsIn batch.outbound.now m → d.is_named m) → Honestly d (IfOk done (λ free. free ≡ true → All (IsFree d) batch.packets.now)) → IfOk done (λ free. free ≡ true → IsBegun batch e)
-begun_if batch placed d e quiet (Ok free) made named none is = record {
+begun_if batch placed d e quiet (Ok free) made named none = λ is. record {
   opened = open_through d e quiet batch.outbound.now batch.packets.now (open_made batch.outbound.now batch.packets.now placed d (made is) (named is) (λ honest. none honest is));
   none = λ k z lt. ap bytes_in (quiet.seen (get_or batch.packets.now k z).staging.now ∙ (made is k z lt).empty);
 }

@@ -58,8 +58,8 @@ pub record HasCopies (file : LinkFile) (messages : List Filed) (from next : ℕ)
 -- no base.
 pub record HasStopCause {T : Type 0} (old new : StoreState) (before now : ℕ) (result : Result T StageStop) : Type 0 where
   pub later : before ≤ now
-  pub disk : IsErrOf result (OfDisk disk.Device) → Failed before now
-  pub store : IsErrOf result (OfStore store.Device) → Failed before now
+  pub of_disk : IsErrOf result (OfDisk disk.Device) → Failed before now
+  pub of_store : IsErrOf result (OfStore store.Device) → Failed before now
   pub damaged : Honestly new.disk (IsErrOf result (OfStore store.Damaged) → (base : Base) → old.keeps base → ⊥)
 
 -- Why packets were not written, with no staging file left.

@@ -3,6 +3,7 @@ use Rattle.echo_toss.specs.Counts.{bytes_for}
 use Rattle.disk_atomic.specs.declared.outgoing.Outgoing.{Outgoing}
 use Rattle.station_scan.specs.Fitting.{AreFitting}
 use Rattle.station_scan.proofs.Sends.{fit_going, fit_keeps, fit_moments, fit_sent, fit_taken, fit_tried}
+use Rattle.station_scan.proofs.Sent.{unfit_taken}
 use Rattle.station_scan.proofs.Through.{on_ok_gives}
 use Rattle.station_scan.proofs.outgoing.publish_packets.Goals as goal
 
@@ -65,3 +66,9 @@ returns-clause-taken g c = λ base honest is.
     let trial = c.deref-3.result.now in
     let at_end = c.deref-3.ensures.value ∙ c.in-Ok-staging_path.ensures in
     fit_taken Own to.outbound.now to.own.now (bytes_for to.source.links.now to.source.stamp to.source.from base.messages) to.planned.now packets fit trial at_end (g.P.Kept.Store.state c.args.store).disk (c.publish.ensures.taken honest is)
+
+pub returns-in-Err-fitting_packets-clause-taken : goal.returns-in-Err-fitting_packets-clause-taken
+returns-in-Err-fitting_packets-clause-taken g c = λ base honest is.
+    let to = c.args.sending in
+    unfit_taken to.outbound.now to.own.now (bytes_for to.source.links.now to.source.stamp to.source.from base.messages) (g.P.Paths.OwnPaths.is_own c.args.paths.now) to.planned.now c.in-Err-fitting_packets.why
+    (g.P.Kept.Store.state c.args.store).disk.seen c.in-Err-fitting_packets.ensures.err (cc is)

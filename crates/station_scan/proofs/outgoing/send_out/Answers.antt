@@ -1,4 +1,5 @@
 use Rattle.std.proofs.Common.{◌⊎◌, ◌≤◌, [], Result, arith, inl, inr, refl, subst}
+use Rattle.base_file.specs.Base.{Base}
 use Rattle.disk_io.specs.Device.{Failed}
 use Rattle.disk_atomic.specs.declared.placing_error.PlacingError.{PlacingError}
 use Rattle.station.proofs.Failures.{failed_wider}
@@ -58,6 +59,6 @@ returns-in-Err-clause-sends g c = λ honest first next was is.
 pub returns-in-Ok-clause-keeps : goal.returns-in-Ok-clause-keeps
 returns-in-Ok-clause-keeps g c =
     let to = c.args.sending in
-    let none = record { messages = []; cursor = 0 } in
+    let none : Base = record { messages = []; cursor = 0 } in
     out_keeps (g.P.Paths.OwnPaths.is_own c.args.paths.now) to.outbound.now to.own.now (files_for to.source to.planned.now none) (g.P.Kept.Store.state c.args.store) (g.P.Kept.Store.state c.finish_on-store.result.store)
     (g.P.Kept.Store.state c.publish_files-store.result.store) c.finish_on-store.ensures.used (c.publish_files-store.ensures.keeps none)

@@ -1,4 +1,5 @@
-use Rattle.station_scan.proofs.Published.{all_filled, commits_still, naming, published_if, same_staged, staged_still}
+use Rattle.std.proofs.Common.{refl}
+use Rattle.station_scan.proofs.Published.{all_filled, apart_still, commits_still, naming, published_if, same_staged, staged_still}
 use Rattle.station_scan.proofs.publishing.commit_staged.Goals as goal
 
 pub returns-in-Ok-clause-published : goal.returns-in-Ok-clause-published
@@ -23,6 +24,9 @@ pub returns-in-Err-clause-left : goal.returns-in-Err-clause-left
 returns-in-Err-clause-left g c =
     all_filled c.args.packets.now (g.P.Kept.Store.state c.args.store) c.requires.apart (g.P.Kept.Store.state c.commit.new.self) c.commit.ensures.either c.requires.staged
 
-pub name_on-store-requires-clause-staged : goal.name_on-store-requires-clause-staged
-name_on-store-requires-clause-staged g c =
-    staged_still c.args.packets.now (g.P.Kept.Store.state c.args.store) c.requires.apart (g.P.Kept.Store.state c.commit.new.self) c.commit.ensures.either c.requires.staged
+pub name_on-store-requires : goal.name_on-store-requires
+name_on-store-requires g c κs =
+    let s0 = g.P.Kept.Store.state c.args.store in
+    let s1 = g.P.Kept.Store.state c.commit.new.self in
+    let may = c.commit.ensures.either in
+    ((refl, tt), (c.in-Ok.ensures.committed.ready, (c.requires.placed, (apart_still c.args.packets.now s0 s1 may.same c.requires.apart, staged_still c.args.packets.now s0 c.requires.apart s1 may c.requires.staged))))

@@ -1,6 +1,6 @@
 use Rattle.std.specs.Prelude.{All, Bool, IfErr, IfOk, Result, true}
-use Rattle.std.proofs.Common.{◌≡◌, Err, Ok, inl, refl, subst}
-use Rattle.station_scan.specs.Publishing.{AreStaged, IsTriedWith, IsWritten, NoneStays}
+use Rattle.std.proofs.Common.{◌≡◌, subst}
+use Rattle.station_scan.specs.Publishing.{IsWritten, NoneStays}
 use Rattle.station_scan.specs.Writing.{content_for}
 use Rattle.station_scan.specs.declared.publish_error.PublishError.{PublishError}
 use Rattle.station_scan.proofs.Published.{publish_keeps, published_from, publishing, staging_keeps, stopping, stops_before, stops_from}
@@ -14,7 +14,7 @@ returns-in-Ok-true-clause-published g c =
     let s1 = g.P.Kept.Store.state c.stage_on-store.result.store in
     let did = c.stage_on-store.ensures in
     published_from batch.outbound.now batch.trial.now (content_for source) batch.packets.now s0 s1 (g.P.Kept.Store.state c.commit_staged.result.store) did.used c.commit_staged.ensures.keeps.keeps.honest
-    (λ honest base kept. subst (λ (r : Result Bool PublishError). IfOk r (λ free. free ≡ true → All (IsWritten (content_for source base) s1.disk.seen) batch.packets.now)) c.in-Ok-true.is (did.written honest base kept) refl)
+    (λ honest base kept. subst (λ (r : Result Bool PublishError). IfOk r (λ free. free ≡ true → All (IsWritten (content_for source base) s1.disk.seen) batch.packets.now)) c.in-Ok-true.is (did.written honest base kept) c.in-Ok-true.field-0-test)
     c.commit_staged.result.done c.commit_staged.ensures.published
 
 pub returns-in-Ok-true-clause-left : goal.returns-in-Ok-true-clause-left
@@ -25,7 +25,7 @@ returns-in-Ok-true-clause-left g c honest =
     let s1 = g.P.Kept.Store.state c.stage_on-store.result.store in
     let did = c.stage_on-store.ensures in
     stops_from batch.outbound.now batch.trial.now (content_for source) batch.packets.now s0 s1 (g.P.Kept.Store.state c.commit_staged.result.store) did.used c.commit_staged.ensures.keeps.keeps.honest
-    (λ at base kept. subst (λ (r : Result Bool PublishError). IfOk r (λ free. free ≡ true → All (IsWritten (content_for source base) s1.disk.seen) batch.packets.now)) c.in-Ok-true.is (did.written at base kept) refl)
+    (λ at base kept. subst (λ (r : Result Bool PublishError). IfOk r (λ free. free ≡ true → All (IsWritten (content_for source base) s1.disk.seen) batch.packets.now)) c.in-Ok-true.is (did.written at base kept) c.in-Ok-true.field-0-test)
     honest c.commit_staged.result.done c.commit_staged.ensures.left
 
 pub returns-in-Ok-true-clause-any_moment : goal.returns-in-Ok-true-clause-any_moment
@@ -38,7 +38,7 @@ returns-in-Ok-true-clause-any_moment g c = λ honest first next was is.
     let did = c.commit_staged.ensures in
     let honest1 = did.keeps.keeps.honest honest in
     publishing batch.outbound.now batch.trial.now (content_for source next) batch.packets.now s0 c.requires.off c.requires.ready s1 used (g.P.Kept.Store.state c.commit_staged.result.store) honest1 first next was
-    (subst (λ (r : Result Bool PublishError). IfOk r (λ free. free ≡ true → All (IsWritten (content_for source next) s1.disk.seen) batch.packets.now)) c.in-Ok-true.is (c.stage_on-store.ensures.written honest1 next is) refl)
+    (subst (λ (r : Result Bool PublishError). IfOk r (λ free. free ≡ true → All (IsWritten (content_for source next) s1.disk.seen) batch.packets.now)) c.in-Ok-true.is (c.stage_on-store.ensures.written honest1 next is) c.in-Ok-true.field-0-test)
     (did.any_moment honest first next (used.holds.committed first was) (used.holds.keeps next is))
 
 pub returns-in-Ok-true-clause-keeps : goal.returns-in-Ok-true-clause-keeps

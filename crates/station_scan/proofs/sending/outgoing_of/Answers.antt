@@ -26,7 +26,7 @@ planned-preserved c =
           let low_paths : i < length paths = omega arith in
           let one = ap (λ (q : ℕ). get_or all q p) at ∙ pushed.by_index.1 p refl in
           let two = c.index-paths-i.is ∙ get_or_default paths i c.index-paths-i.result t low_paths ∙ ap (λ (q : ℕ). get_or paths q t) (sym same) in
-          let file = c.index-planned-i.is ∙ get_or_default planned i c.index-planned-i.result f low ∙ ap (λ (q : ℕ). get_or planned q f) (sym same) in
+          let file = get_or_default planned i c.index-planned-i.result f low ∙ ap (λ (q : ℕ). get_or planned q f) (sym same) in
           record {
             path = ap (λ (o : Outgoing). o.path.now) one ∙ c.as_slice.ensures ∙ ap (λ (w : TwoPaths). w.path) two;
             staging = ap (λ (o : Outgoing). o.staging.now) one ∙ c.as_slice-in-planned.ensures ∙ ap (λ (w : TwoPaths). w.staging) two;

@@ -1,6 +1,8 @@
-use Rattle.std.proofs.Common.{◌≡◌, ◌≢◌, ◌⊎◌, ◌<◌, ◌∙◌, inl, inr, true, length, arith, refl, sym}
+use Rattle.std.proofs.Common.{◌≡◌, ◌≢◌, ◌⊎◌, ◌<◌, ◌∙◌, get_or, inl, inr, true, length, arith, refl, sym}
 use Rattle.std.proofs.lemmas.Bool.{eqb-false, eqb-true}
 use Rattle.std.proofs.lemmas.Result.{IfOk-weaker}
+use Rattle.std.proofs.lemmas.List.{get_or_default}
+use Rattle.disk_atomic.proofs.Packets.{nobody}
 use Rattle.disk_atomic.proofs.Whole.{some_is_there}
 use Rattle.disk_atomic.specs.Trying.{WasTried}
 use Rattle.disk_atomic.specs.Outgoing.{IsAtStaging, staged_in}
@@ -11,34 +13,38 @@ use Rattle.station_scan.proofs.staging.try_first.Goals as goal
 pub try_link-requires-clause-other : goal.try_link-requires-clause-other
 try_link-requires-clause-other g c =
     let packets = c.args.packets.now in
-    let x = c.index-packets-0.result in
+    let x = get_or packets 0 nobody in
     let has = staged_in (g.D.Disk.state c.args.disk.now).seen in
     let some : 0 < length packets = let not : length packets ≢ 0 = eqb-false _ _ (sym c.is_empty.ensures ∙ c.if-is_empty.false) in omega arith in
-    first_other c.args.outbound.now c.args.trial.now packets c.requires.placed c.requires.trial has x c.index-packets-0.is some
+    let is : x ≡ get_or packets 0 x = get_or_default packets 0 nobody x some in
+    first_other c.args.outbound.now c.args.trial.now packets c.requires.placed c.requires.trial has x is some
 
 pub try_link-requires-clause-there : goal.try_link-requires-clause-there
 try_link-requires-clause-there g c honest =
     let packets = c.args.packets.now in
-    let x = c.index-packets-0.result in
+    let x = get_or packets 0 nobody in
     let has = staged_in (g.D.Disk.state c.args.disk.now).seen in
     let some : 0 < length packets = let not : length packets ≢ 0 = eqb-false _ _ (sym c.is_empty.ensures ∙ c.if-is_empty.false) in omega arith in
-    some_is_there _ _ (first_staged c.args.outbound.now c.args.trial.now packets c.requires.placed c.requires.trial has x c.index-packets-0.is some (g.D.Disk.state c.args.disk.now) c.requires.staged).file.seen
+    let is : x ≡ get_or packets 0 x = get_or_default packets 0 nobody x some in
+    some_is_there _ _ (first_staged c.args.outbound.now c.args.trial.now packets c.requires.placed c.requires.trial has x is some (g.D.Disk.state c.args.disk.now) c.requires.staged).file.seen
 
 pub try_link-requires-clause-durable : goal.try_link-requires-clause-durable
 try_link-requires-clause-durable g c =
     let packets = c.args.packets.now in
-    let x = c.index-packets-0.result in
+    let x = get_or packets 0 nobody in
     let has = staged_in (g.D.Disk.state c.args.disk.now).seen in
     let some : 0 < length packets = let not : length packets ≢ 0 = eqb-false _ _ (sym c.is_empty.ensures ∙ c.if-is_empty.false) in omega arith in
-    (first_staged c.args.outbound.now c.args.trial.now packets c.requires.placed c.requires.trial has x c.index-packets-0.is some (g.D.Disk.state c.args.disk.now) c.requires.staged).file.flushed
+    let is : x ≡ get_or packets 0 x = get_or_default packets 0 nobody x some in
+    (first_staged c.args.outbound.now c.args.trial.now packets c.requires.placed c.requires.trial has x is some (g.D.Disk.state c.args.disk.now) c.requires.staged).file.flushed
 
 pub try_link-requires-clause-from_named : goal.try_link-requires-clause-from_named
 try_link-requires-clause-from_named g c =
     let packets = c.args.packets.now in
-    let x = c.index-packets-0.result in
+    let x = get_or packets 0 nobody in
     let has = staged_in (g.D.Disk.state c.args.disk.now).seen in
     let some : 0 < length packets = let not : length packets ≢ 0 = eqb-false _ _ (sym c.is_empty.ensures ∙ c.if-is_empty.false) in omega arith in
-    (first_staged c.args.outbound.now c.args.trial.now packets c.requires.placed c.requires.trial has x c.index-packets-0.is some (g.D.Disk.state c.args.disk.now) c.requires.staged).file.named
+    let is : x ≡ get_or packets 0 x = get_or_default packets 0 nobody x some in
+    (first_staged c.args.outbound.now c.args.trial.now packets c.requires.placed c.requires.trial has x is some (g.D.Disk.state c.args.disk.now) c.requires.staged).file.named
 
 pub returns-then-is_empty-clause-tried : goal.returns-then-is_empty-clause-tried
 returns-then-is_empty-clause-tried g c is = inl (eqb-true _ _ (sym c.is_empty.ensures ∙ c.if-is_empty.true))
@@ -46,25 +52,28 @@ returns-then-is_empty-clause-tried g c is = inl (eqb-true _ _ (sym c.is_empty.en
 pub returns-clause-tried : goal.returns-clause-tried
 returns-clause-tried g c =
     let packets = c.args.packets.now in
-    let x = c.index-packets-0.result in
+    let x = get_or packets 0 nobody in
     let has = staged_in (g.D.Disk.state c.args.disk.now).seen in
     let some : 0 < length packets = let not : length packets ≢ 0 = eqb-false _ _ (sym c.is_empty.ensures ∙ c.if-is_empty.false) in omega arith in
+    let is : x ≡ get_or packets 0 x = get_or_default packets 0 nobody x some in
     let d = g.D.Disk.state c.args.disk.now in
     IfOk-weaker c.try_link.result (λ b. b ≡ true → WasTried g.D.Disk.state (λ m. (m ≡ x.staging.now) ⊎ (m ≡ c.args.trial.now)) c.args.trial.now d) (λ b. b ≡ true → IsTriedWith g.D.Disk.state packets c.args.trial.now d)
-    (λ b was is. inr (tried_after g.D.Disk.state (λ m. (m ≡ x.staging.now) ⊎ (m ≡ c.args.trial.now)) (IsAtStaging packets c.args.trial.now) c.args.trial.now d d (at_staging c.args.outbound.now c.args.trial.now packets c.requires.placed c.requires.trial has x c.index-packets-0.is some) (λ m out. refl) (was is))) c.try_link.ensures.tried
+    (λ b was yes. inr (tried_after g.D.Disk.state (λ m. (m ≡ x.staging.now) ⊎ (m ≡ c.args.trial.now)) (IsAtStaging packets c.args.trial.now) c.args.trial.now d d (at_staging c.args.outbound.now c.args.trial.now packets c.requires.placed c.requires.trial has x is some) (λ m out. refl) (was yes))) c.try_link.ensures.tried
 
 pub returns-clause-staged : goal.returns-clause-staged
 returns-clause-staged g c =
     let packets = c.args.packets.now in
-    let x = c.index-packets-0.result in
+    let x = get_or packets 0 nobody in
     let has = staged_in (g.D.Disk.state c.args.disk.now).seen in
     let some : 0 < length packets = let not : length packets ≢ 0 = eqb-false _ _ (sym c.is_empty.ensures ∙ c.if-is_empty.false) in omega arith in
-    still_staged c.args.outbound.now c.args.trial.now packets c.requires.placed c.requires.trial has x c.index-packets-0.is some (g.D.Disk.state c.args.disk.now) (g.D.Disk.state c.try_link.new.disk) c.try_link.ensures.tries c.requires.staged
+    let is : x ≡ get_or packets 0 x = get_or_default packets 0 nobody x some in
+    still_staged c.args.outbound.now c.args.trial.now packets c.requires.placed c.requires.trial has x is some (g.D.Disk.state c.args.disk.now) (g.D.Disk.state c.try_link.new.disk) c.try_link.ensures.tries c.requires.staged
 
 pub returns-clause-changes : goal.returns-clause-changes
 returns-clause-changes g c =
     let packets = c.args.packets.now in
-    let x = c.index-packets-0.result in
+    let x = get_or packets 0 nobody in
     let has = staged_in (g.D.Disk.state c.args.disk.now).seen in
     let some : 0 < length packets = let not : length packets ≢ 0 = eqb-false _ _ (sym c.is_empty.ensures ∙ c.if-is_empty.false) in omega arith in
-    tried_changes c.args.outbound.now c.args.trial.now packets c.requires.placed c.requires.trial has x c.index-packets-0.is some (g.D.Disk.state c.args.disk.now) (g.D.Disk.state c.try_link.new.disk) c.try_link.ensures.tries
+    let is : x ≡ get_or packets 0 x = get_or_default packets 0 nobody x some in
+    tried_changes c.args.outbound.now c.args.trial.now packets c.requires.placed c.requires.trial has x is some (g.D.Disk.state c.args.disk.now) (g.D.Disk.state c.try_link.new.disk) c.try_link.ensures.tries
