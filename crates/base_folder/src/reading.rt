@@ -1,5 +1,5 @@
 //! One message of a base folder that was read.
-ghost use Rattle.std.specs.Prelude.{◌≡◌, ◌<◌, ◌/◌, ◌↔◌, [], ◌∷◌, length, IfOk, IsTrue, OnOk};
+ghost use Rattle.std.specs.Prelude.{◌≡◌, ◌<◌, ◌/◌, ◌↔◌, [], ◌∷◌, length, IfOk, IsErrOf, IsTrue, OnOk};
 ghost use Rattle.echo_filed.specs.Filed.{Filed};
 ghost use Rattle.echo_filed.specs.Stored.{Stored, message_in};
 ghost use Rattle.echo_filed.specs.declared.stored.Version.TheVariants.{Second};
@@ -23,6 +23,8 @@ impl FolderSnapshot {
         ensures message { (bytes : BaseBytes) (s : Stored) → IsThere self.now bytes i s → HasDigest H.keyed bytes i s
             → Answers (λ alone. alone.messages ≡ message_in Second s ∷ []) result }
         ensures vouched { OnOk result (IsVouched H.keyed self.now i) }
+        ensures device { IsErrOf result StoreError.Device → ⊥ }
+        ensures few { IsErrOf result StoreError.TooMany → ⊥ }
     {
         let alone = self.alone_at(alloc, i)?;
         if self.is_vouched::<H>(alloc, &alone, i)? {
@@ -35,7 +37,9 @@ impl FolderSnapshot {
     // The same, whatever its digest.
     fn alone_at(&self, alloc: Global, i: usize) -> Result<Alone, StoreError>
         requires { i < length self.now.keys.items / 16 }
-        ensures { (bytes : BaseBytes) (s : Stored) → IsThere self.now bytes i s → Answers (λ alone. alone.messages ≡ message_in Second s ∷ []) result }
+        ensures message { (bytes : BaseBytes) (s : Stored) → IsThere self.now bytes i s → Answers (λ alone. alone.messages ≡ message_in Second s ∷ []) result }
+        ensures device { IsErrOf result StoreError.Device → ⊥ }
+        ensures few { IsErrOf result StoreError.TooMany → ⊥ }
     {
         let begins = place_of(&self.keys, i) as usize;
         let ends = end_of(&self.keys, i, self.all as u64) as usize;

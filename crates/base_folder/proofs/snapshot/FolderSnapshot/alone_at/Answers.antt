@@ -3,8 +3,8 @@ use Rattle.base_store.specs.Keys.{place_at, place_behind}
 use Rattle.base_folder.proofs.Files.{part_is}
 use Rattle.base_folder.proofs.snapshot.FolderSnapshot.alone_at.Goals as goal
 
-pub returns : goal.returns
-returns c = λ bytes s is.
+pub returns-clause-message : goal.returns-clause-message
+returns-clause-message c = λ bytes s is.
     let keys : c.deref.result.now ≡ bytes.keys = c.deref.ensures.value ∙ is.read.keys in
     let same : c.deref-2.result.now ≡ bytes.keys = c.deref-2.ensures.value ∙ is.read.keys in
     let begins = c.place_of-begins.result in
