@@ -21,6 +21,7 @@ IsForest-passed links members root m levels f has = record {
   lower = f.lower;
   near = f.near;
   one_root = f.one_root;
+  first = f.first;
 }
 
 -- with a member's level go levels of all that it reaches
@@ -78,5 +79,14 @@ IsForest-flooded rows root levels new graph f none flooded =
                   | inl old_b ↦ absurd (apart b old_b (subst (Reaches links b) is_a (Reaches-sym links simple a b walk)))
                   | inr is_b ↦ is_a ∙ sym is_b
                 ]
+          ];
+      first = λ a b e lt walk.
+          elim (at_root a e) [
+            | inl old ↦ f.first a b old lt walk
+            | inr is ↦
+                let (m, level) = f.all b (omega (arith, lt, is)) in
+                let (rest, along) = subst (Reaches links b) is walk in
+                let found = levels_reached rows levels graph f.near rest b root m along level in
+                none-some found.0 (sym none ∙ found.1)
           ];
     }

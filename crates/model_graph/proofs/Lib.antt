@@ -19,8 +19,16 @@ pub mod Renaming
 pub mod RenamedLoops
 pub mod Kinship
 pub mod ForestGrowth
+pub mod PartStarts
 pub mod Parents
 pub mod GraphTests
 pub mod Siblings
 pub mod BlockWalks
 pub mod BlockTests
+pub mod BlockView
+pub mod BlockNames
+pub mod BlockNumbers
+pub mod BlockLists
+pub mod Places
+pub mod BlockJudged
+pub mod BlockPairs

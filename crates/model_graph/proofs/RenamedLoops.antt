@@ -1,7 +1,8 @@
 -- The named loop of a graph whose members get other names, where the names keep the order.
-use Rattle.std.proofs.Common.{◌≡◌, ◌-◌, ◌++◌, inl, inr, refl, sym, ap, subst, ◌∙◌, arith, ℕ, zero, suc, Bool, IsTrue, List, [], ◌∷◌, length, map, take, drop, reverse}
+use Rattle.std.proofs.Common.{◌≡◌, ◌-◌, ◌++◌, ◌⊎◌, inl, inr, refl, sym, ap, subst, ◌∙◌, arith, ℕ, zero, suc, Bool, IsTrue, List, [], ◌∷◌, length, map, take, drop, reverse}
 use Rattle.std.proofs.lemmas.List.{length-map, map-append, take-map, drop-map}
 use Rattle.model_graph.specs.Walk.{Simple, Among, IsAt, Walk}
+use Rattle.model_graph.specs.BlockLoops.{AreInOneBlock, FirstInBlockBy, IsLoopOfBlockBy}
 use Rattle.model_graph.specs.Cycle.{IsCycle}
 use Rattle.model_graph.specs.Loops.{FirstWalkBy, HasUnlinked, IsWrittenBy, NamedLoopBy, NoLaterBy, turned}
 use Rattle.model_graph.specs.Pinches.{FirstPinchBy, IsPinchBy, NotAfter}
@@ -141,7 +142,7 @@ map-back : {A B : Type 0} (name : A → B) (back : B → A) (xs : List B) → ((
 map-back name back [] h = refl
 map-back {A} {B} name back (x ∷ xs) h = ap (λ (y : B). y ∷ map name (map back xs)) (h x (inl refl)) ∙ ap (λ (ys : List B). x ∷ ys) (map-back name back xs (λ y among. h y (inr among)))
 
-Among-of_names : {A B : Type 0} (name : A → B) (xs : List A) (x : B) → Among x (map name xs) → (y : A) × (name y ≡ x) × Among y xs
+pub Among-of_names : {A B : Type 0} (name : A → B) (xs : List A) (x : B) → Among x (map name xs) → (y : A) × (name y ≡ x) × Among y xs
 Among-of_names name [] x among = absurd among
 Among-of_names name (y ∷ ys) x among =
     elim among [
@@ -157,31 +158,72 @@ module _ {A B : Type 0} (linked : A → A → Bool) (joined : B → B → Bool) 
   swapped : IsRenaming joined linked back name
   swapped = IsRenaming-swap linked joined name back renaming
 
-  FirstPinch-renamed : (b a c : A) → FirstPinchBy Before linked b a c → FirstPinchBy Earlier joined (name b) (name a) (name c)
+  -- of two pinches, by their names
+  earlier_named : (b a c : A) (e d f : B) → IsPinchBy Before linked b a c → IsPinchBy Earlier joined e d f →
+      Before b (back e) ⊎ ((b ≡ back e) × (Before a (back d) ⊎ ((a ≡ back d) × NotAfter Before c (back f)))) →
+      Earlier (name b) e ⊎ ((name b ≡ e) × (Earlier (name a) d ⊎ ((name a ≡ d) × NotAfter Earlier (name c) f)))
+  earlier_named b a c e d f here pinch h =
+      let moved = IsPinch-renamed joined linked back name swapped simple_names Earlier Before keeps_back e d f pinch in
+      let is_e : name (back e) ≡ e = renaming.name_back e d pinch.one in
+      let is_d : name (back d) ≡ d = renaming.name_back d e (simple_names.both_ways e d pinch.one) in
+      let is_f : name (back f) ≡ f = renaming.name_back f e (simple_names.both_ways e f pinch.other) in
+      elim h [
+        | inl before ↦ inl (subst (λ (w : B). Earlier (name b) w) is_e (keeps b (back e) a (back d) here.one moved.one before))
+        | inr at_b ↦ inr (
+          ap name at_b.0 ∙ is_e,
+          elim at_b.1 [
+            | inl before ↦ inl (subst (λ (w : B). Earlier (name a) w) is_d
+                (keeps a (back d) b (back e) (simple.both_ways b a here.one) (simple.both_ways (back e) (back d) moved.one) before))
+            | inr at_a ↦ inr (
+              ap name at_a.0 ∙ is_d,
+              subst (λ (w : B). NotAfter Earlier (name c) w) is_f
+                  (NotAfter-renamed linked joined name back renaming simple Before Earlier keeps c (back f) b (back e)
+                  (simple.both_ways b c here.other) (simple.both_ways (back e) (back f) moved.other) at_a.1),
+            )
+          ],
+        )
+      ]
+
+  pub FirstPinch-renamed : (b a c : A) → FirstPinchBy Before linked b a c → FirstPinchBy Earlier joined (name b) (name a) (name c)
   FirstPinch-renamed b a c found = record {
     pinch = IsPinch-renamed linked joined name back renaming simple Before Earlier keeps b a c found.pinch;
     first = λ e d f pinch.
-        let moved = IsPinch-renamed joined linked back name swapped simple_names Earlier Before keeps_back e d f pinch in
-        let here = found.pinch in
-        let is_e : name (back e) ≡ e = renaming.name_back e d pinch.one in
-        let is_d : name (back d) ≡ d = renaming.name_back d e (simple_names.both_ways e d pinch.one) in
-        let is_f : name (back f) ≡ f = renaming.name_back f e (simple_names.both_ways e f pinch.other) in
-        elim (found.first (back e) (back d) (back f) moved) [
-          | inl before ↦ inl (subst (λ (w : B). Earlier (name b) w) is_e (keeps b (back e) a (back d) here.one moved.one before))
-          | inr at_b ↦ inr (
-            ap name at_b.0 ∙ is_e,
-            elim at_b.1 [
-              | inl before ↦ inl (subst (λ (w : B). Earlier (name a) w) is_d
-                  (keeps a (back d) b (back e) (simple.both_ways b a here.one) (simple.both_ways (back e) (back d) moved.one) before))
-              | inr at_a ↦ inr (
-                ap name at_a.0 ∙ is_d,
-                subst (λ (w : B). NotAfter Earlier (name c) w) is_f
-                    (NotAfter-renamed linked joined name back renaming simple Before Earlier keeps c (back f) b (back e)
-                    (simple.both_ways b c here.other) (simple.both_ways (back e) (back f) moved.other) at_a.1),
-              )
-            ],
-          )
-        ];
+        earlier_named b a c e d f found.pinch pinch
+        (found.first (back e) (back d) (back f) (IsPinch-renamed joined linked back name swapped simple_names Earlier Before keeps_back e d f pinch));
+  }
+
+  -- links of names that no member parts
+  together_back : (b a : A) → IsTrue (linked b a) → (e d : B) → AreInOneBlock joined (name b) (name a) e d → AreInOneBlock linked b a (back e) (back d)
+  together_back b a link e d together z =
+      let (x, y, at_x, at_y, (rest, walk, clear)) = together (name z) in
+      let other : (u : B) × IsTrue (joined x u) = elim at_x [
+        | inl is ↦ (name a, link_from joined (name b) x (name a) (sym is) (renaming.links b a link))
+        | inr is ↦ (name b, link_from joined (name a) x (name b) (sym is) (renaming.links a b (simple.both_ways b a link)))
+      ] in (
+        back x,
+        back y,
+        elim at_x [
+          | inl is ↦ inl (ap back is ∙ renaming.back_name b a link)
+          | inr is ↦ inr (ap back is ∙ renaming.back_name a b (simple.both_ways b a link))
+        ],
+        elim at_y [ inl is ↦ inl (ap back is) | inr is ↦ inr (ap back is) ],
+        (
+          map back rest,
+          Walk-renamed joined linked back name swapped x rest y walk,
+          λ among.
+              let (w, is, there) = Among-of_names back (x ∷ rest) z among in
+              let (v, link_w) = walk_owns joined linked back name swapped simple_names Earlier Before keeps_back x rest y walk other.0 other.1 w there in
+              clear (subst (λ (m : B). Among m (x ∷ rest)) (sym (renaming.name_back w v link_w) ∙ ap name is) there),
+        ),
+      )
+
+  pub FirstInBlock-renamed : (b a c : A) → FirstInBlockBy Before linked b a c → FirstInBlockBy Earlier joined (name b) (name a) (name c)
+  FirstInBlock-renamed b a c found = record {
+    pinch = IsPinch-renamed linked joined name back renaming simple Before Earlier keeps b a c found.pinch;
+    first = λ e d f pinch together.
+        earlier_named b a c e d f found.pinch pinch
+        (found.first (back e) (back d) (back f) (IsPinch-renamed joined linked back name swapped simple_names Earlier Before keeps_back e d f pinch)
+        (together_back b a found.pinch.one e d together));
   }
 
   -- a walk of names is one of members, as long
@@ -208,7 +250,7 @@ module _ {A B : Type 0} (linked : A → A → Bool) (joined : B → B → Bool) 
         (not_passed joined linked back name swapped simple_names Earlier Before keeps_back (name b) (name a) (name c) (name a) (name b) other
         (renaming.links b a link_a) (renaming.links a b (simple.both_ways b a link_a)) walk around))
 
-    FirstWalk-renamed : (rest : List A) → FirstWalkBy Before linked b a c rest → FirstWalkBy Earlier joined (name b) (name a) (name c) (map name rest)
+    pub FirstWalk-renamed : (rest : List A) → FirstWalkBy Before linked b a c rest → FirstWalkBy Earlier joined (name b) (name a) (name c) (map name rest)
     FirstWalk-renamed rest found =
         let link_back = simple.both_ways b a link_a in
         record {
@@ -258,4 +300,26 @@ module _ {A B : Type 0} (linked : A → A → Bool) (joined : B → B → Bool) 
               (λ x among. (let (y, is_y, there) = Among-of_names name ring x among in (y, is_y, there, member y there)))
               written,
         );
+      }
+
+  -- so is the loop of a block
+  pub LoopOfBlock-renamed : (b a : A) (loop : List A) → IsLoopOfBlockBy Before linked b a loop → IsLoopOfBlockBy Earlier joined (name b) (name a) (map name loop)
+  LoopOfBlock-renamed b a loop named =
+      let pinch = named.first.pinch in
+      let member : (y : A) → Among y (b ∷ a ∷ named.rest) → (z : A) × IsTrue (linked y z) =
+      λ y among.
+      elim among [
+        | inl same ↦ (a, link_from linked b y a (sym same) pinch.one)
+        | inr on ↦ walk_owns linked joined name back renaming simple Before Earlier keeps a named.rest named.other named.walk.walk b (simple.both_ways b a pinch.one) y on
+      ] in
+      record {
+        other = name named.other;
+        rest = map name named.rest;
+        first = FirstInBlock-renamed b a named.other named.first;
+        walk = FirstWalk-renamed b a named.other pinch.one pinch.other named.rest named.walk;
+        written = IsWritten-renamed linked joined name back renaming simple Before Earlier keeps (b ∷ a ∷ named.rest) loop named.cycle
+            (λ x among. (let (y, is_y, there) = Among-of_names name (b ∷ a ∷ named.rest) x among in (y, is_y, there, member y there)))
+            named.written;
+        cycle = IsCycle-renamed linked joined name back renaming simple Before Earlier keeps loop named.cycle;
+        unlinked = HasUnlinked-renamed linked joined name back renaming simple Before Earlier keeps loop named.cycle named.unlinked;
       }

@@ -5,7 +5,7 @@ use Rattle.std.proofs.lemmas.List.{append-nil, get_or_default, reverse-append, l
 use Rattle.model_graph.specs.Walk.{Among, Different, IsAt, Simple}
 use Rattle.model_graph.specs.Cycle.{Cycle, IsCycle}
 use Rattle.model_graph.specs.Pinches.{IsPinch, FirstPinch}
-use Rattle.model_graph.specs.Loops.{FirstWalk, turned, IsWritten, NamedLoop}
+use Rattle.model_graph.specs.Loops.{FirstWalk, HasUnlinked, turned, IsWritten, NamedLoop}
 use Rattle.model_graph.proofs.Members.{Among-index, Among-get_or, Among-append_left, Among-append_right, Among-append_cases, Different-push}
 use Rattle.model_graph.proofs.Walks.{walk_ends}
 use Rattle.model_graph.proofs.Turns.{IsCycle-rotated, IsCycle-turned, Cycle-reversed}
@@ -76,23 +76,27 @@ Among-written x ring loop written among =
       | inr same ↦ subst (Among x) (sym same) (Among-reverse x (turned written.goes_round.0 ring) round)
     ]
 
--- the loop of the first pinch, as it is written, is the one that is named
-pub NamedLoop-written : (links : ℕ → ℕ → Bool) → Simple links → (b a c : ℕ) (rest ring loop : List ℕ) → FirstPinch links b a c → FirstWalk links b a c rest → ring ≡ b ∷ a ∷ rest → IsWritten ring loop → NamedLoop links loop
-NamedLoop-written links simple b a c rest ring loop first walk is written =
-    let pinch = first.pinch in
-    let order = pinch.in_order in
-    record {
-      cycle = IsCycle-written links simple ring loop written (subst (IsCycle links) (sym is) (Cycle-from_pinch links simple b a c rest pinch walk));
-      unlinked = (
+-- the loop of a pinch, as it is written, is a cycle with two members that are not linked
+pub loop_cycle : (links : ℕ → ℕ → Bool) → Simple links → (b a c : ℕ) (rest ring loop : List ℕ) → IsPinch links b a c → FirstWalk links b a c rest → ring ≡ b ∷ a ∷ rest → IsWritten ring loop →
+    IsCycle links loop × HasUnlinked links loop
+loop_cycle links simple b a c rest ring loop pinch walk is written =
+    let order = pinch.in_order in (
+      IsCycle-written links simple ring loop written (subst (IsCycle links) (sym is) (Cycle-from_pinch links simple b a c rest pinch walk)),
+      (
         a,
         c,
         Among-written a ring loop written (subst (Among a) (sym is) (inr (inl refl))),
         Among-written c ring loop written (subst (Among c) (sym is) (inr (walk_ends links a rest c walk.walk))),
         (λ (same : a ≡ c). absurd (omega arith)),
         pinch.not_linked,
-      );
-      named = (ring, (b, a, c, rest, first, walk, is), written);
-    }
+      ),
+    )
+
+-- that of the first pinch is the one that is named
+pub NamedLoop-written : (links : ℕ → ℕ → Bool) → Simple links → (b a c : ℕ) (rest ring loop : List ℕ) → FirstPinch links b a c → FirstWalk links b a c rest → ring ≡ b ∷ a ∷ rest → IsWritten ring loop → NamedLoop links loop
+NamedLoop-written links simple b a c rest ring loop first walk is written =
+    let (cycle, unlinked) = loop_cycle links simple b a c rest ring loop first.pinch walk is written in
+    record { cycle = cycle; unlinked = unlinked; named = (ring, (b, a, c, rest, first, walk, is), written) }
 
 -- of two different ends of a list, the greater is second, or else first when it is reversed
 reversed_smaller : (x : ℕ) (xs : List ℕ) → Different (x ∷ xs) → 0 < length xs → get_or (x ∷ xs) (length xs) 0 ≤ x → get_or (reverse (x ∷ xs)) 0 0 < get_or (reverse (x ∷ xs)) (length xs) 0
@@ -174,3 +178,10 @@ IsWritten-back ring forth loop k long different lt least forth_is greater is =
           (subst (λ n. get_or (m ∷ rest) n 0 ≤ get_or (m ∷ rest) 1 0) (let e : length ring - 1 ≡ length rest = omega arith in e)
           (subst (λ (xs : List ℕ). get_or xs (length ring - 1) 0 ≤ get_or xs 1 0) forth_own greater))));
     }
+
+-- the members of a ring are three or more, all different
+pub ring_is_cycle : (links : ℕ → ℕ → Bool) (b a c : ℕ) (rest ring : List ℕ) → Simple links → IsPinch links b a c → FirstWalk links b a c rest → ring ≡ b ∷ a ∷ rest → (3 ≤ length ring) × Different ring
+ring_is_cycle links b a c rest ring simple pinch walk is =
+    let cycle = Cycle-from_pinch links simple b a c rest pinch walk in
+    let long : 2 ≤ length (a ∷ rest) = cycle.long in
+    (omega (arith, ap length is), subst Different (sym is) cycle.different)

@@ -1,9 +1,9 @@
 -- Links as rows, and members as places in a row.
-use Rattle.std.proofs.Common.{◌≡◌, ◌==◌, ◌<◌, ℕ, zero, suc, true, IsTrue, List, [], ◌∷◌, length, get_or, subst, arith, inl, inr}
+use Rattle.std.proofs.Common.{◌≡◌, ◌==◌, ◌<◌, ◌≤◌, ℕ, zero, suc, true, IsTrue, List, [], ◌∷◌, length, get_or, subst, arith, inl, inr}
 use Rattle.std.specs.List.{list_any}
-use Rattle.std.proofs.lemmas.Bool.{eq-eqb, eqb-true, or_cases, or_left, or_right, false≢true, cases_lt}
+use Rattle.std.proofs.lemmas.Bool.{eq-eqb, eqb-true, or_cases, or_left, or_right, false≢true, cases_eq, cases_lt}
 use Rattle.std.proofs.lemmas.List.{get_or_past}
-use Rattle.model_graph.specs.Rows.{linked}
+use Rattle.model_graph.specs.Rows.{linked, IsAscending}
 
 -- a number at a place of the row is among its links
 pub holds_at : (row : List ℕ) (x k : ℕ) → k < length row → get_or row k 0 ≡ x → IsTrue (list_any (λ link. link == x) row)
@@ -27,4 +27,12 @@ linked_within rows a b h =
       | inl lt ↦ lt
       | inr past ↦
           absurd (false≢true (subst (λ (row : List ℕ). list_any (λ link. link == b) row ≡ true) (get_or_past rows a [] past) h))
+    ]
+
+-- what stands later in an ascending list is not smaller
+pub rising : (row : List ℕ) → IsAscending row → (i j : ℕ) → i ≤ j → j < length row → get_or row i 0 ≤ get_or row j 0
+rising row up i j le lt =
+    elim (cases_eq i j) [
+      | inl e ↦ let P : ℕ → Type 0 = λ k. get_or row i 0 ≤ get_or row k 0 in subst P e (omega arith)
+      | inr differ ↦ omega (arith, up i j (omega arith) lt)
     ]

@@ -4,12 +4,13 @@ use Rattle.model_graph.specs.Walk.{Reaches}
 use Rattle.model_graph.specs.Levels.{level_of}
 use Rattle.model_graph.specs.Floods.{IsSettledFlood}
 
--- the members before `upto` have levels, which begin at one root for all that a walk joins
+-- the members before `upto` have levels, which begin at one root for all that a walk joins, the first of them
 pub record IsForest (linked : ℕ → ℕ → Bool) (members upto : ℕ) (levels : List (Option ℕ)) : Type 0 where
   pub all : (a : ℕ) → a < upto → (m : ℕ) × (level_of levels a ≡ Some m)
   pub lower : (a m : ℕ) → level_of levels a ≡ Some (suc m) → (b : ℕ) × IsTrue (linked a b) × (level_of levels b ≡ Some m)
   pub near : IsSettledFlood linked members levels
   pub one_root : (a b : ℕ) → level_of levels a ≡ Some 0 → level_of levels b ≡ Some 0 → Reaches linked a b → a ≡ b
+  pub first : (a b : ℕ) → level_of levels a ≡ Some 0 → b < a → ¬ Reaches linked b a
 
 -- the parent of a member, where it has one
 abbrev pub parent_of : List (Option ℕ) → ℕ → Option ℕ

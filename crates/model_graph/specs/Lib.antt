@@ -13,3 +13,4 @@ pub mod Family
 pub mod Renaming
 pub mod Forest
 pub mod Blocks
+pub mod BlockLoops

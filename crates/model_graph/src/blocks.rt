@@ -2,6 +2,7 @@
 
 ghost use Rattle.std.specs.Prelude.{◌≡◌, ℕ, ◌↔◌, IsTrue, slice_index_or};
 ghost use Rattle.model_graph.specs.Blocks.{block_of, top_of, rank_of, full_of, InOneBlock, OnOneSide, IsInFull};
+ghost use Rattle.model_graph.specs.BlockLoops.{IsBlockOfLink};
 
 /// A block and its top for each member. A link joins two members of one block, or the top of a block
 /// with a member of it.
@@ -74,8 +75,15 @@ impl Blocks {
     pub fn is_in_full(&self, at: usize, one: usize) -> bool
         ensures { IsTrue result ↔ IsInFull (block_of self.now) (top_of self.now) (full_of self.now) at one }
     {
+        self.is_full(self.block_of_link(at, one))
+    }
+
+    /// The number of the block of the link from `at` to `one`.
+    pub fn block_of_link(&self, at: usize, one: usize) -> usize
+        ensures { IsBlockOfLink (block_of self.now) (top_of self.now) at one result }
+    {
         let below = if self.top(one) == at { one } else { at };
-        self.is_full(self.block(below))
+        self.block(below)
     }
 }
 

@@ -1,5 +1,5 @@
-//! Blocks found by a search in depth. The search itself is not proved: `division` tests its result before use,
-//! so no answer depends on it.
+//! A search in depth, and the blocks that it finds. The search itself is not proved: `division` and `wholeness` test its
+//! results before use, so no answer depends on it.
 
 use crate::blocks::{Blocks, value_or};
 use crate::graph::Graph;
@@ -7,13 +7,13 @@ use std::alloc::{AllocError, Global};
 
 /// The state of the search.
 #[derive(Drop)]
-struct Search {
+pub struct Search {
     /// The blocks found. Ranks count visits from 1, and are 0 for members not visited.
-    found: Blocks,
+    pub found: Blocks,
     /// From where each member was reached; a root from itself.
-    parents: Vec<usize>,
+    pub parents: Vec<usize>,
     /// The lowest rank that a link leads to, from each member or from those reached through it.
-    lowest: Vec<usize>,
+    pub lowest: Vec<usize>,
     /// How many links of each member were followed.
     followed: Vec<usize>,
     /// The members that have no block yet, in the order of visits.
@@ -24,6 +24,11 @@ struct Search {
 
 /// The blocks of the graph, not one marked as full.
 pub fn blocks_in_depth(alloc: Global, graph: &Graph) -> Result<Blocks, AllocError> {
+    Ok(search_in_depth(alloc, graph)?.found)
+}
+
+/// A search through the whole graph.
+pub fn search_in_depth(alloc: Global, graph: &Graph) -> Result<Search, AllocError> {
     let members = graph.len();
     let mut search = Search {
         found: Blocks {
@@ -44,7 +49,7 @@ pub fn blocks_in_depth(alloc: Global, graph: &Graph) -> Result<Blocks, AllocErro
             search.search_from(graph, root)?;
         }
     }
-    Ok(search.found)
+    Ok(search)
 }
 
 impl Search {
@@ -134,7 +139,7 @@ impl Search {
 }
 
 /// Writes the value at this index, if there is such an index.
-fn put(values: &mut [usize], index: usize, value: usize) {
+pub fn put(values: &mut [usize], index: usize, value: usize) {
     if index < values.len() {
         values[index] = value;
     }

@@ -1,11 +1,12 @@
 //! The full blocks of a graph: all members are linked with each other and with the top.
 
-ghost use Rattle.std.specs.Prelude.{◌≡◌, ◌<◌, ℕ, false, IfOk, IsTrue, None, length, vec_len, slice_index_or};
+ghost use Rattle.std.specs.Prelude.{◌≡◌, ◌<◌, ℕ, false, IfOk, IsTrue, None, length, slice_index_or};
 ghost use Rattle.model_graph.specs.Rows.{linked, IsGraph};
 ghost use Rattle.model_graph.specs.Blocks.{block_of, top_of, AreFull, IsLastBefore, IsFullyLinked};
 
 use crate::blocks::Blocks;
 use crate::graph::Graph;
+use crate::in_block::block_lists;
 use std::alloc::{AllocError, Global};
 
 /// Which blocks, by number, are full. Takes for each full block the square of its members, and for
@@ -14,39 +15,18 @@ pub fn full_blocks(alloc: Global, graph: &Graph, blocks: &Blocks) -> Result<Vec<
     ensures { IfOk result (λ full. AreFull (linked graph.now) (length graph.now) (block_of blocks.now) (top_of blocks.now) (λ block. slice_index_or full.items block false)) }
 {
     let members = graph.len();
-    let previous = previous_in_block(alloc, members, blocks)?;
+    let lists = block_lists(alloc, members, blocks)?;
     let mut full = vec![in alloc; true; members]?;
     'members: for member in 0..members {
         let block = blocks.block(member);
-        if block < members && full[block] && !is_fully_linked(graph, blocks, &previous, member) {
+        if block < members
+            && full[block]
+            && !is_fully_linked(graph, blocks, &lists.previous, member)
+        {
             full[block] = false;
         }
     }
     Ok(full)
-}
-
-/// The last member before each one in its block. It skips blocks with a number that is no member's.
-fn previous_in_block(
-    alloc: Global,
-    members: usize,
-    blocks: &Blocks,
-) -> Result<Vec<Option<usize>>, AllocError>
-    ensures lengths { IfOk result (λ previous. vec_len previous ≡ members) }
-    ensures previous { IfOk result (λ previous. (x : ℕ) → x < members → block_of blocks.now x < members →
-        IsLastBefore (block_of blocks.now) (block_of blocks.now x) x (slice_index_or previous.items x None)) }
-{
-    let mut previous = Vec::new(alloc);
-    let mut last = vec![in alloc; None; members]?;
-    'members: for member in 0..members {
-        let block = blocks.block(member);
-        if block < members {
-            previous.push(last[block])?;
-            last[block] = Some(member);
-        } else {
-            previous.push(None)?;
-        }
-    }
-    Ok(previous)
 }
 
 /// Is the member linked with the top of its block, and with each earlier member of it?

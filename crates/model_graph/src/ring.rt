@@ -49,7 +49,8 @@ pub fn smallest_at(graph: &Graph, levels: &[Option<usize>], member: usize, level
     unreachable!()
 }
 
-fn has_level(levels: &[Option<usize>], member: usize, level: usize) -> bool
+/// Does the member have this level?
+pub fn has_level(levels: &[Option<usize>], member: usize, level: usize) -> bool
     requires { member < length levels.now }
     ensures { IsTrue result ↔ (level_of levels.now member ≡ Some level) }
 {

@@ -1,9 +1,8 @@
-use Rattle.std.proofs.Common.{◌≡◌, ◌<◌, ◌≤◌, ◌==◌, ℕ, List, length, get_or, Ok, Err, Result, is_ok, MatchResult, sym, ◌∙◌, arith, subst, inl, inr}
+use Rattle.std.proofs.Common.{◌≡◌, ◌<◌, ◌≤◌, ◌==◌, ℕ, List, length, get_or, Ok, Err, Result, is_ok, MatchResult, sym, ◌∙◌, arith, inl, inr}
 use Rattle.std.specs.List.{list_any}
 use Rattle.std.proofs.lemmas.List.Sorted.{searched}
-use Rattle.std.proofs.lemmas.Bool.{cases_Bool, cases_eq, cases_lt}
-use Rattle.model_graph.specs.Rows.{IsAscending}
-use Rattle.model_graph.proofs.Rows.{holds_at, place_of}
+use Rattle.std.proofs.lemmas.Bool.{cases_Bool, cases_lt}
+use Rattle.model_graph.proofs.Rows.{holds_at, place_of, rising}
 use Rattle.model_graph.proofs.graph.has_link.Goals as goal
 
 decided : (row : List ℕ) (x : ℕ) (r : Result ℕ ℕ) → MatchResult r (λ i. (i < length row) × (get_or row i 0 ≡ x)) (λ i. (i ≤ length row) × ((k : ℕ) → k < i → get_or row k 0 < x) × ((k : ℕ) → i ≤ k → k < length row → x < get_or row k 0)) → is_ok r ≡ list_any (λ link. link == x) row
@@ -17,13 +16,6 @@ decided row x (Err i) h =
             | inr after ↦ absurd (omega (arith, h.2 p.0 after p.1, p.2))
           ]
       | inr e ↦ sym e
-    ]
-
-rising : (row : List ℕ) → IsAscending row → (i j : ℕ) → i ≤ j → j < length row → get_or row i 0 ≤ get_or row j 0
-rising row up i j le lt =
-    elim (cases_eq i j) [
-      | inl e ↦ let P : ℕ → Type 0 = λ k. get_or row i 0 ≤ get_or row k 0 in subst P e (omega arith)
-      | inr differ ↦ omega (arith, up i j (omega arith) lt)
     ]
 
 pub returns : goal.returns

@@ -1,26 +1,19 @@
-use Rattle.std.proofs.Common.{◌≡◌, ◌≤◌, ◌↔◌, ℕ, Bool, false, IsTrue, List, ◌∷◌, length, Option, Some, None, IsSome, MatchOption, refl, sym, ◌∙◌, ap, subst, arith}
+use Rattle.std.proofs.Common.{◌≡◌, ◌↔◌, ℕ, Bool, false, IsTrue, Option, Some, None, IsSome, MatchOption, refl, ◌∙◌}
 use Rattle.std.proofs.lemmas.Option.{MatchOption-at_some}
 use Rattle.model_graph.specs.declared.pinching.Pinch.{Pinch}
 use Rattle.std.proofs.lemmas.Bool.{both_ways}
 use Rattle.model_graph.specs.Beyond.{Parted}
-use Rattle.model_graph.specs.Walk.{Different, Simple}
+use Rattle.model_graph.specs.Walk.{Simple}
 use Rattle.model_graph.specs.Rows.{linked}
 use Rattle.model_graph.specs.Pinches.{IsPinch, FirstPinch}
-use Rattle.model_graph.specs.Loops.{FirstWalk}
 use Rattle.model_graph.proofs.Members.{ℕ-can_tell}
 use Rattle.model_graph.proofs.Cycles.{Polygons-from_Parted}
 use Rattle.model_graph.proofs.PinchSearch.{Simple-from_graph, Parted-from_no_pinch}
-use Rattle.model_graph.proofs.Rings.{Cycle-from_pinch, NamedLoop-written}
+use Rattle.model_graph.proofs.Rings.{NamedLoop-written, ring_is_cycle}
 use Rattle.model_graph.proofs.polygons.loop_of.Goals as goal
 
 first_of : (links : ℕ → ℕ → Bool) (found : Option Pinch) (pinch : Pinch) → found ≡ Some pinch → MatchOption found ((b a c : ℕ) → ¬ IsPinch links b a c) (λ pinch. FirstPinch links pinch.at pinch.one pinch.other) → FirstPinch links pinch.at pinch.one pinch.other
 first_of links found pinch is = MatchOption-at_some ((b a c : ℕ) → ¬ IsPinch links b a c) (λ (pinch : Pinch). FirstPinch links pinch.at pinch.one pinch.other) pinch is
-
-ring_is_cycle : (links : ℕ → ℕ → Bool) (b a c : ℕ) (rest ring : List ℕ) → Simple links → IsPinch links b a c → FirstWalk links b a c rest → ring ≡ b ∷ a ∷ rest → (3 ≤ length ring) × Different ring
-ring_is_cycle links b a c rest ring simple pinch walk is =
-    let cycle = Cycle-from_pinch links simple b a c rest pinch walk in
-    let long : 2 ≤ length (a ∷ rest) = cycle.long in
-    (omega (arith, ap length is), subst Different (sym is) cycle.different)
 
 -- where links are not parted there is a pinch
 pinched : (links : ℕ → ℕ → Bool) (parted : Bool) (found : Option Pinch) → Simple links → (IsTrue parted ↔ Parted links) → parted ≡ false → MatchOption found ((b a c : ℕ) → ¬ IsPinch links b a c) (λ (pinch : Pinch). FirstPinch links pinch.at pinch.one pinch.other) → IsSome found

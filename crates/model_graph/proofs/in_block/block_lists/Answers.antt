@@ -2,8 +2,8 @@ use Rattle.std.proofs.Common.{◌≡◌, ◌+◌, ◌<◌, ◌++◌, ℕ, Option
 use Rattle.std.proofs.lemmas.List.{get_or_read}
 use Rattle.model_graph.specs.Blocks.{block_of, LastMembers}
 use Rattle.model_graph.proofs.BlockTests.{LastMembers-made, LastMembers-left_out}
-use Rattle.model_graph.proofs.fullness.previous_in_block.Goals as goal
-use Rattle.model_graph.proofs.fullness.previous_in_block.Goals.{then-block-members+in_ok-push, else-block-members+in_ok-push-2}
+use Rattle.model_graph.proofs.in_block.block_lists.Goals as goal
+use Rattle.model_graph.proofs.in_block.block_lists.Goals.{then-block-members+in_ok-push, else-block-members+in_ok-push-2}
 
 pub members-preserved : goal.members-preserved
 members-preserved c =
