@@ -13,22 +13,24 @@ use Rattle.echo_links.specs.Links.{LinkFile, has_area, same_address}
 use Rattle.model_graph.proofs.Members.{Among-from_Contains, Contains-from_Among}
 use Rattle.model_run.proofs.Lists.{Among-filter_from, Among-filter_to}
 use Rattle.echo_filed.specs.Sets.{address_before}
-use Rattle.model_run.specs.Tidy.{carries, lists}
+use Rattle.model_run.specs.Tidy.{Joined, carries, lists}
 use Rattle.echo_net.specs.declared.each_fault.Kind.TheVariants as kinds
 use Rattle.echo_net.specs.declared.link.Link.{Link}
 use Rattle.echo_net.specs.declared.verdict.NetFault.{NetFault}
 use Rattle.echo_net.specs.declared.verdict.NetFault.TheVariants.{NoSuchArea, TwoFiles, SelfLink, Unknown, OneSided, SameNetNode, Apart, Loop}
 use Rattle.echo_net.specs.declared.verdict.Verdict.{Verdict}
 use Rattle.echo_net.specs.declared.verdict.Verdict.TheVariants.{Yes, No}
-use Rattle.echo_net.specs.AllFaults.{AddsLinkFaults, AddsTwoFiles, AppliesTo, AreAllFaults, AreFurther, fault_named, fault_of, fault_where, in_preference, is_one_sided, is_self_link, is_unknown, names_fault}
+use Rattle.echo_net.specs.AllFaults.{AddsApart, AddsLinkFaults, AddsRounds, AddsTwoFiles, AppliesTo, AreAllFaults, AreFurther, AreLinkFaults, IsAhead, fault_of, fault_where, in_preference, is_one_sided, is_self_link, is_unknown, loop_fault, names_fault}
 use Rattle.echo_net.specs.Drawn.{AreLinksInOrder, back, has_address, has_link}
-use Rattle.echo_net.specs.Faults.{AllAreAnswered, AllAreKnown, HaveOneFileEach, IfNo, IsFirstFault, NoneListsItself}
+use Rattle.echo_net.specs.Faults.{AllAreAnswered, AllAreKnown, AreSoundLinks, HaveOneFileEach, IfNo, IsFirstFault, NoneListsItself}
 use Rattle.echo_net.specs.Firsts.{HasTwin, pair_before}
 use Rattle.echo_net.specs.Nets.{link, systems}
+use Rattle.echo_net.proofs.Apart.{apart_first, apart_later}
 use Rattle.echo_net.proofs.Drawings.{carriers_held, links_held, links_in_order}
 use Rattle.echo_net.proofs.Faulty.{is_carried, not_carried, twin_from, twin_to}
 use Rattle.echo_net.proofs.Graphs.{Different-apart}
-use Rattle.echo_net.proofs.Orders.{link_order, same_exact, same_itself}
+use Rattle.echo_net.proofs.Rounds.{named_first}
+use Rattle.echo_net.proofs.Orders.{link_order, not_before_itself, same_exact, same_itself}
 
 -- one more item of a list that is filtered
 module _ {X : Type 0} (p : X → Bool) (xs : List X) (i : ℕ) (d : X) (inside : i < length xs) (all next : List X) (before : all ≡ filter p (take i xs)) where
@@ -126,7 +128,7 @@ module _ (files : List LinkFile) (tag : List ℕ) (carriers : List Address) (lin
 
   -- the faults of an area that were added one kind after the other
   pub all_of : IsStrictlySortedBy link_order links → (none one two all : List NetFault) → none ≡ [] → one ≡ none ++ fault_where (not (length carriers == 0)) →
-      AddsTwoFiles (systems files) one two → AddsLinkFaults carriers links two all → AreAllFaults files tag all
+      AddsTwoFiles (systems files) one two → AddsLinkFaults carriers links two all → AreLinkFaults files tag all
   all_of up none one two all nothing begun shared added = record {
     two_files = shared.found;
     self_links = filter is_self_link links;
@@ -181,30 +183,14 @@ alone_first : (a : Address) (m : Link) → m.from ≡ m.to → address_before m.
 alone_first a m same late =
     neither (address_before m.from a) (same_address m.from a) (address_before m.to a) late (subst (λ (b : Address). address_before b a ≡ false) same late)
 
--- what a verdict names
-one_named : (fault : NetFault) → names_fault (No fault) ≡ true → fault_named (No fault) ≡ fault ∷ []
-one_named NoSuchArea passes = refl
-one_named (TwoFiles a) passes = refl
-one_named (SelfLink a) passes = refl
-one_named (Unknown a b) passes = refl
-one_named (OneSided a b) passes = refl
-one_named (SameNetNode a b) passes = refl
-one_named (Apart a b) passes = absurd cc
-one_named (Loop loop) passes = absurd cc
+-- whether it is a fault of the files or their links
+abbrev is_of_links : NetFault → Bool
+is_of_links (Apart a b) = false
+is_of_links (Loop loop) = false
+is_of_links _ = true
 
-nothing_named : (verdict : Verdict) → names_fault verdict ≡ false → fault_named verdict ≡ []
-nothing_named (Yes s l) fails = refl
-nothing_named (No (Apart a b)) fails = refl
-nothing_named (No (Loop loop)) fails = refl
-nothing_named (No NoSuchArea) fails = absurd cc
-nothing_named (No (TwoFiles a)) fails = absurd cc
-nothing_named (No (SelfLink a)) fails = absurd cc
-nothing_named (No (Unknown a b)) fails = absurd cc
-nothing_named (No (OneSided a b)) fails = absurd cc
-nothing_named (No (SameNetNode a b)) fails = absurd cc
-
--- the first of all faults is the one that a verdict names
-module _ (files : List LinkFile) (tag : List ℕ) (all : List NetFault) (r : AreAllFaults files tag all) where
+-- the first of all faults of files and links is the one that a verdict names
+module _ (files : List LinkFile) (tag : List ℕ) (all : List NetFault) (r : AreLinkFaults files tag all) where
   no_two_files : HaveOneFileEach files → r.two_files ≡ []
   no_two_files one_file = no_links (AppliesTo files tag kinds.TwoFiles) r.two_files r.are_two_files (λ l h.
       let (i, j, lt, at_i, at_j) = h.1 in Different-apart (systems files) one_file i j l.from lt at_i at_j)
@@ -230,20 +216,20 @@ module _ (files : List LinkFile) (tag : List ℕ) (all : List NetFault) (r : Are
   abbrev behind_two_files : List NetFault
   behind_two_files = map (fault_of kinds.SelfLink) r.self_links ++ behind_self_links
 
-  first_named : (fault : NetFault) → IsFirstFault files tag fault → (rest : List NetFault) × (all ≡ fault_named (No fault) ++ rest)
-  first_named NoSuchArea h =
+  pub first_of_links : (fault : NetFault) → IsFirstFault files tag fault → is_of_links fault ≡ true → (rest : List NetFault) × (all ≡ fault ∷ rest)
+  first_of_links NoSuchArea h passes =
       let none : list_any (λ file. has_area file tag) files ≡ false = not_true (list_any (λ file. has_area file tag) files) h in (
         map (fault_of kinds.TwoFiles) r.two_files ++ behind_two_files,
         r.whole ∙ ap (λ (b : Bool). in_preference b r.two_files r.self_links r.unknown r.one_sided r.same_net_nodes) none,
       )
-  first_named (TwoFiles a) h =
+  first_of_links (TwoFiles a) h passes =
       let some : list_any (λ file. has_area file tag) files ≡ true = h.0 in
       let (rest, is) = starts (AppliesTo files tag kinds.TwoFiles) r.two_files (link a a) r.are_two_files (refl, h.1.holds)
       (λ m at_m. alone_first a m at_m.0 (h.1.first m.from at_m.1)) in (
         map (fault_of kinds.TwoFiles) rest ++ behind_two_files,
         r.whole ∙ (λ i. in_preference (some i) (is i) r.self_links r.unknown r.one_sided r.same_net_nodes),
       )
-  first_named (SelfLink a) h =
+  first_of_links (SelfLink a) h passes =
       let some : list_any (λ file. has_area file tag) files ≡ true = h.0 in
       let none_twice = no_two_files h.1 in
       let (rest, is) = starts (AppliesTo files tag kinds.SelfLink) r.self_links (link a a) r.are_self_links (refl, h.2.holds)
@@ -251,7 +237,7 @@ module _ (files : List LinkFile) (tag : List ℕ) (all : List NetFault) (r : Are
         map (fault_of kinds.SelfLink) rest ++ behind_self_links,
         r.whole ∙ (λ i. in_preference (some i) (none_twice i) (is i) r.unknown r.one_sided r.same_net_nodes),
       )
-  first_named (Unknown a b) h =
+  first_of_links (Unknown a b) h passes =
       let some : list_any (λ file. has_area file tag) files ≡ true = h.0 in
       let none_twice = no_two_files h.1 in
       let none_self = no_self_links h.2 in
@@ -259,7 +245,7 @@ module _ (files : List LinkFile) (tag : List ℕ) (all : List NetFault) (r : Are
         map (fault_of kinds.Unknown) rest ++ behind_unknown,
         r.whole ∙ (λ i. in_preference (some i) (none_twice i) (none_self i) (is i) r.one_sided r.same_net_nodes),
       )
-  first_named (OneSided a b) h =
+  first_of_links (OneSided a b) h passes =
       let some : list_any (λ file. has_area file tag) files ≡ true = h.0 in
       let none_twice = no_two_files h.1 in
       let none_self = no_self_links h.2 in
@@ -269,7 +255,7 @@ module _ (files : List LinkFile) (tag : List ℕ) (all : List NetFault) (r : Are
         map (fault_of kinds.OneSided) rest ++ behind_one_sided,
         r.whole ∙ (λ i. in_preference (some i) (none_twice i) (none_self i) (all_known i) (is i) r.same_net_nodes),
       )
-  first_named (SameNetNode a b) h =
+  first_of_links (SameNetNode a b) h passes =
       let some : list_any (λ file. has_area file tag) files ≡ true = h.0 in
       let none_twice = no_two_files h.1 in
       let none_self = no_self_links h.2 in
@@ -279,18 +265,106 @@ module _ (files : List LinkFile) (tag : List ℕ) (all : List NetFault) (r : Are
         map (fault_of kinds.SameNetNode) rest,
         r.whole ∙ (λ i. in_preference (some i) (none_twice i) (none_self i) (all_known i) (all_answered i) (is i)),
       )
-  first_named (Apart a b) h = (all, refl)
-  first_named (Loop loop) h = (all, refl)
+  first_of_links (Apart a b) h passes = absurd cc
+  first_of_links (Loop loop) h passes = absurd cc
+
+  -- there is none where the links are sound
+  pub none_of_sound : AreSoundLinks files tag → all ≡ []
+  none_of_sound sound =
+      let some : list_any (λ file. has_area file tag) files ≡ true = sound.some in
+      let none_twice = no_two_files sound.one_file in
+      let none_self = no_self_links sound.no_self in
+      let all_known = no_unknown sound.known in
+      let all_answered = no_one_sided sound.both in
+      let no_twins = no_links (AppliesTo files tag kinds.SameNetNode) r.same_net_nodes r.are_same_net_nodes (λ l h.
+      let same = sound.apart l.from l.to h.one h.other h.same in
+      let low = h.in_order in
+      let up = not_before_itself l.from l.to same in
+      cc) in
+      r.whole ∙ (λ i. in_preference (some i) (none_twice i) (none_self i) (all_known i) (all_answered i) (no_twins i))
+
+-- what is added behind the faults of files and links
+module _ (files : List LinkFile) (tag : List ℕ) (all : List NetFault) (r : AreLinkFaults files tag all) where
+  pub with_graph : AreSoundLinks files tag → (parts new : List NetFault) → AddsApart files tag all parts → AddsRounds files tag parts new → AreAllFaults files tag new
+  with_graph sound parts new apart loops = record {
+    of_links = all;
+    are_of_links = r;
+    apart = apart.found;
+    are_apart = apart.in_order;
+    rounds = loops.found;
+    are_rounds = λ s. loops.are;
+    no_rounds = λ none. absurd (none sound);
+    whole = loops.whole ∙ (ap (λ (l : List NetFault). l ++ map loop_fault loops.found) apart.whole ∙ append_assoc all (map (fault_of kinds.Apart) apart.found) (map loop_fault loops.found));
+  }
+
+  pub without_graph : ¬ (all ≡ []) → AreAllFaults files tag all
+  without_graph some = record {
+    of_links = all;
+    are_of_links = r;
+    apart = [];
+    are_apart = record {
+      ascending = λ i j d lt inside. absurd (omega (arith, inside));
+      members = λ l. (λ (k, lt, is). absurd (omega (arith, lt)), λ h. absurd (some (none_of_sound files tag all r h.sound)));
+    };
+    rounds = [];
+    are_rounds = λ sound. absurd (some (none_of_sound files tag all r sound));
+    no_rounds = λ none. refl;
+    whole = sym (append-nil all);
+  }
+
+-- the first of all faults is the one that a verdict names
+module _ (files : List LinkFile) (tag : List ℕ) (all : List NetFault) (r : AreAllFaults files tag all) where
+  abbrev of_graph : List NetFault
+  of_graph = map (fault_of kinds.Apart) r.apart ++ map loop_fault r.rounds
+
+  of_links_first : (fault : NetFault) → IsFirstFault files tag fault → is_of_links fault ≡ true → (rest : List NetFault) × (all ≡ fault ∷ rest)
+  of_links_first fault h passes =
+      let (rest, is) = first_of_links files tag r.of_links r.are_of_links fault h passes in
+      (rest ++ of_graph, r.whole ∙ ap (λ (l : List NetFault). l ++ of_graph) is)
+
+  no_parts : Joined files tag → r.apart ≡ []
+  no_parts joined =
+      no_links (AppliesTo files tag kinds.Apart) r.apart r.are_apart
+      (λ l h. h.first l.from h.smallest.holds h.in_order (joined.connected l.from l.to h.smallest.holds h.carries))
+
+  -- the first, and what is behind it
+  ahead : (fault : NetFault) → IsFirstFault files tag fault → (first : NetFault) × (rest : List NetFault) × (all ≡ first ∷ rest) ×
+      ((result : List NetFault) → result ≡ rest → IsAhead files tag (No fault) all result)
+  ahead NoSuchArea h = (let (rest, is) = of_links_first NoSuchArea h refl in (NoSuchArea, rest, is, λ result same. is ∙ ap (λ (l : List NetFault). NoSuchArea ∷ l) (sym same)))
+  ahead (TwoFiles a) h = (let (rest, is) = of_links_first (TwoFiles a) h refl in (TwoFiles a, rest, is, λ result same. is ∙ ap (λ (l : List NetFault). TwoFiles a ∷ l) (sym same)))
+  ahead (SelfLink a) h = (let (rest, is) = of_links_first (SelfLink a) h refl in (SelfLink a, rest, is, λ result same. is ∙ ap (λ (l : List NetFault). SelfLink a ∷ l) (sym same)))
+  ahead (Unknown a b) h = (let (rest, is) = of_links_first (Unknown a b) h refl in (Unknown a b, rest, is, λ result same. is ∙ ap (λ (l : List NetFault). Unknown a b ∷ l) (sym same)))
+  ahead (OneSided a b) h = (let (rest, is) = of_links_first (OneSided a b) h refl in (OneSided a b, rest, is, λ result same. is ∙ ap (λ (l : List NetFault). OneSided a b ∷ l) (sym same)))
+  ahead (SameNetNode a b) h =
+      (let (rest, is) = of_links_first (SameNetNode a b) h refl in (SameNetNode a b, rest, is, λ result same. is ∙ ap (λ (l : List NetFault). SameNetNode a b ∷ l) (sym same)))
+  ahead (Apart a b) h =
+      let none = none_of_sound files tag r.of_links r.are_of_links h.0 in
+      let (rest, is) = starts (AppliesTo files tag kinds.Apart) r.apart (link a b) r.are_apart (apart_first files tag a b h)
+      (λ m at_m.
+      let (late, later) = apart_later files tag a b h m at_m in
+      neither (address_before m.from a) (same_address m.from a) (address_before m.to b) late later) in
+      let behind : List NetFault = map (fault_of kinds.Apart) rest ++ map loop_fault r.rounds in
+      let whole : all ≡ Apart a b ∷ behind = r.whole ∙ (λ i. none i ++ (map (fault_of kinds.Apart) (is i) ++ map loop_fault r.rounds)) in
+      (Apart a b, behind, whole, λ result same. whole ∙ ap (λ (l : List NetFault). Apart a b ∷ l) (sym same))
+  ahead (Loop loop) h =
+      let joined = h.0 in
+      let sound : AreSoundLinks files tag = record { some = joined.some; one_file = joined.one_file; no_self = joined.no_self; known = joined.known; both = joined.both; apart = joined.apart } in
+      let none = none_of_sound files tag r.of_links r.are_of_links sound in
+      let no_apart = no_parts joined in
+      let (m, tail, is, named) = named_first (lists files tag) (record { both_ways = sound.both; no_self = sound.no_self }) r.rounds (r.are_rounds sound) loop h.1 in
+      let behind : List NetFault = map loop_fault tail in
+      let whole : all ≡ Loop m.loop ∷ behind = r.whole ∙ (λ i. none i ++ (map (fault_of kinds.Apart) (no_apart i) ++ map loop_fault (is i))) in
+      (Loop m.loop, behind, whole, λ result same. (m.loop, named, whole ∙ ap (λ (l : List NetFault). Loop m.loop ∷ l) (sym same)))
 
   -- all but the first are the further ones
   pub behind_named : (verdict : Verdict) → IfNo verdict (IsFirstFault files tag) → names_fault verdict ≡ true → (result : List NetFault) →
       ((first : NetFault) (rest : List NetFault) → all ≡ first ∷ rest → result ≡ rest) → AreFurther files tag verdict result
   behind_named (Yes s l) h passes result is = absurd cc
   behind_named (No fault) h passes result is =
-      let (rest, whole) = first_named fault h in
-      let result_is : result ≡ rest = is fault rest (whole ∙ ap (λ (f : List NetFault). f ++ rest) (one_named fault passes)) in
-      record { all = all; are_all = r; whole = whole ∙ ap (λ (l : List NetFault). fault_named (No fault) ++ l) (sym result_is) }
+      let (first, rest, whole, is_ahead) = ahead fault h in
+      record { all = all; are_all = r; ahead = is_ahead result (is first rest whole) }
 
   -- all are, where none is named
   pub none_named : (verdict : Verdict) → names_fault verdict ≡ false → AreFurther files tag verdict all
-  none_named verdict fails = record { all = all; are_all = r; whole = ap (λ (f : List NetFault). f ++ all) (sym (nothing_named verdict fails)) }
+  none_named (Yes s l) fails = record { all = all; are_all = r; ahead = refl }
+  none_named (No fault) fails = absurd cc

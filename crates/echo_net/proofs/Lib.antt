@@ -11,4 +11,6 @@ pub mod Numbers
 pub mod Graphs
 pub mod Absences
 pub mod Drawings
+pub mod Apart
+pub mod Rounds
 pub mod AllFaults

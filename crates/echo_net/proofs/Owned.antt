@@ -48,7 +48,7 @@ one_owner_more systems i owners d inside all o =
       ],
     )
 
-Different-from_places : (xs : List Address) → ((i j : ℕ) (a : Address) → i < j → IsAt xs i a → IsAt xs j a → ⊥) → Different xs
+pub Different-from_places : (xs : List Address) → ((i j : ℕ) (a : Address) → i < j → IsAt xs i a → IsAt xs j a → ⊥) → Different xs
 Different-from_places [] apart = tt
 Different-from_places (x ∷ xs) apart = (
   λ among. (let (k, inside, is) = Among-index x x xs among in apart 0 (suc k) x (omega arith) (omega arith, refl) (omega (arith, inside), is)),

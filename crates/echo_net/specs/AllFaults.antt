@@ -1,8 +1,12 @@
 -- All faults of an area: which apply, in the order in which a verdict prefers them.
-use Rattle.std.specs.Prelude.{◌≡◌, ◌++◌, ◌&&◌, ℕ, Bool, true, false, IsTrue, List, [], ◌∷◌, Contains, filter, map, not}
+use Rattle.std.specs.Prelude.{◌≡◌, ◌<◌, ◌++◌, ◌&&◌, ℕ, Bool, true, false, IsTrue, List, [], ◌∷◌, Contains, filter, length, map, not, slice_index_or}
 use Rattle.std.specs.List.{list_any}
 use Rattle.echo_addr.specs.declared.address.Address.{Address}
 use Rattle.echo_links.specs.Links.{LinkFile, has_area, same_address}
+use Rattle.echo_filed.specs.Sets.{address_before}
+use Rattle.model_graph.specs.declared.block_loops.BlockLoop.{BlockLoop}
+use Rattle.model_graph.specs.BlockLoops.{FirstInBlockBy, IsLoopOfBlockBy}
+use Rattle.model_graph.specs.Walk.{Reaches}
 use Rattle.model_run.specs.Tidy.{Carries, lists}
 use Rattle.echo_net.specs.declared.each_fault.Kind.{Kind}
 use Rattle.echo_net.specs.declared.each_fault.Kind.TheVariants as kinds
@@ -12,11 +16,26 @@ use Rattle.echo_net.specs.declared.verdict.NetFault.TheVariants.{NoSuchArea, Two
 use Rattle.echo_net.specs.declared.verdict.Verdict.{Verdict}
 use Rattle.echo_net.specs.declared.verdict.Verdict.TheVariants.{Yes, No}
 use Rattle.echo_net.specs.Drawn.{AreLinksInOrder, back, has_address, has_link}
-use Rattle.echo_net.specs.Faults.{IsCarried, IsFirstFault}
-use Rattle.echo_net.specs.Firsts.{HasTwin, StandsTwice}
-use Rattle.echo_net.specs.Nets.{systems}
+use Rattle.echo_net.specs.Faults.{AreSoundLinks, IsCarried, IsNamedLoop}
+use Rattle.echo_net.specs.Firsts.{HasTwin, IsSmallest, StandsTwice, pair_before}
+use Rattle.echo_net.specs.Nets.{link, systems}
+use Rattle.echo_net.specs.Rows.{system_at}
 
--- the fault is one of the files or their links; apart and loop apply where they are the first fault
+-- files and links have no fault, a is the smallest carrier, and b the smallest of a part that a is not in: no walk from a
+-- smaller carrier reaches it
+pub record IsApart (files : List LinkFile) (tag : List ℕ) (a b : Address) : Type 0 where
+  pub sound : AreSoundLinks files tag
+  pub smallest : IsSmallest (Carries files tag) a
+  pub carries : Carries files tag b
+  pub in_order : address_before a b ≡ true
+  pub first : (c : Address) → Carries files tag c → address_before c b ≡ true → ¬ Reaches (lists files tag) c b
+
+-- a loop of a block of the area, and the link with which the first pinch of the block begins
+pub record Round : Type 0 where
+  pub start : Link
+  pub loop : List Address
+
+-- the fault applies; a loop is that of its block
 abbrev pub Applies : List LinkFile → List ℕ → NetFault → Type 0
 Applies files tag NoSuchArea = ¬ IsCarried files tag
 Applies files tag (TwoFiles a) = StandsTwice (systems files) a
@@ -24,8 +43,9 @@ Applies files tag (SelfLink a) = IsTrue (lists files tag a a)
 Applies files tag (Unknown a b) = IsTrue (lists files tag a b) × (¬ Carries files tag b)
 Applies files tag (OneSided a b) = IsTrue (lists files tag a b) × Carries files tag b × (¬ IsTrue (lists files tag b a))
 Applies files tag (SameNetNode a b) = HasTwin (Carries files tag) a b
-Applies files tag (Apart a b) = IsFirstFault files tag (Apart a b)
-Applies files tag (Loop loop) = IsFirstFault files tag (Loop loop)
+Applies files tag (Apart a b) = IsApart files tag a b
+Applies files tag (Loop loop) =
+    AreSoundLinks files tag × ((b : Address) × (a : Address) × IsLoopOfBlockBy (λ x y. address_before x y ≡ true) (lists files tag) b a loop)
 
 -- the fault of this kind between the two ends of a link
 abbrev pub fault_of : Kind → Link → NetFault
@@ -34,6 +54,7 @@ fault_of kinds.SelfLink l = SelfLink l.from
 fault_of kinds.Unknown l = Unknown l.from l.to
 fault_of kinds.OneSided l = OneSided l.from l.to
 fault_of kinds.SameNetNode l = SameNetNode l.from l.to
+fault_of kinds.Apart l = Apart l.from l.to
 
 -- the fault applies; one of a single system has this at both ends
 abbrev pub AppliesTo : List LinkFile → List ℕ → Kind → Link → Type 0
@@ -42,6 +63,7 @@ AppliesTo files tag kinds.SelfLink l = (l.from ≡ l.to) × Applies files tag (S
 AppliesTo files tag kinds.Unknown l = Applies files tag (Unknown l.from l.to)
 AppliesTo files tag kinds.OneSided l = Applies files tag (OneSided l.from l.to)
 AppliesTo files tag kinds.SameNetNode l = Applies files tag (SameNetNode l.from l.to)
+AppliesTo files tag kinds.Apart l = Applies files tag (Apart l.from l.to)
 
 -- the fault of an area that no file has
 abbrev pub fault_where : Bool → List NetFault
@@ -54,7 +76,7 @@ in_preference carried two_files self_links unknown one_sided same_net_nodes =
     fault_where carried ++ (map (fault_of kinds.TwoFiles) two_files ++ (map (fault_of kinds.SelfLink) self_links ++ (map (fault_of kinds.Unknown) unknown ++ (map (fault_of kinds.OneSided) one_sided ++ map (fault_of kinds.SameNetNode) same_net_nodes))))
 
 -- every fault of the files and their links, each once, as a verdict prefers them: by kind, then by ascending addresses
-pub record AreAllFaults (files : List LinkFile) (tag : List ℕ) (all : List NetFault) : Type 0 where
+pub record AreLinkFaults (files : List LinkFile) (tag : List ℕ) (all : List NetFault) : Type 0 where
   pub two_files : List Link
   pub self_links : List Link
   pub unknown : List Link
@@ -67,25 +89,59 @@ pub record AreAllFaults (files : List LinkFile) (tag : List ℕ) (all : List Net
   pub are_same_net_nodes : AreLinksInOrder (AppliesTo files tag kinds.SameNetNode) same_net_nodes
   pub whole : all ≡ in_preference (list_any (λ file. has_area file tag) files) two_files self_links unknown one_sided same_net_nodes
 
--- the fault that a verdict names, if it is one of the files or their links
-abbrev pub fault_named : Verdict → List NetFault
-fault_named (Yes systems links) = []
-fault_named (No (Apart a b)) = []
-fault_named (No (Loop loop)) = []
-fault_named (No fault) = fault ∷ []
+-- the loops of all blocks of these links, by ascending first pinches
+pub record AreRounds (linked : Address → Address → Bool) (all : List Round) : Type 0 where
+  pub ascending : (i j : ℕ) (d : Round) → i < j → j < length all →
+      pair_before (slice_index_or all i d).start.from (slice_index_or all i d).start.to (slice_index_or all j d).start.from (slice_index_or all j d).start.to ≡ true
+  pub sound : (r : Round) → Contains all r → IsLoopOfBlockBy (λ x y. address_before x y ≡ true) linked r.start.from r.start.to r.loop
+  pub all_blocks : (b a c : Address) → FirstInBlockBy (λ x y. address_before x y ≡ true) linked b a c → (r : Round) × Contains all r × (r.start ≡ link b a)
 
--- whether it names one
-abbrev pub names_fault : Verdict → Bool
-names_fault (Yes systems links) = false
-names_fault (No (Apart a b)) = false
-names_fault (No (Loop loop)) = false
-names_fault (No fault) = true
+abbrev pub loop_fault : Round → NetFault
+loop_fault r = Loop r.loop
+
+-- every fault, each once, as a verdict prefers them: parts and loops where files and links have none
+pub record AreAllFaults (files : List LinkFile) (tag : List ℕ) (all : List NetFault) : Type 0 where
+  pub of_links : List NetFault
+  pub are_of_links : AreLinkFaults files tag of_links
+  pub apart : List Link
+  pub are_apart : AreLinksInOrder (AppliesTo files tag kinds.Apart) apart
+  pub rounds : List Round
+  pub are_rounds : AreSoundLinks files tag → AreRounds (lists files tag) rounds
+  pub no_rounds : ¬ AreSoundLinks files tag → rounds ≡ []
+  pub whole : all ≡ of_links ++ (map (fault_of kinds.Apart) apart ++ map loop_fault rounds)
+
+-- the fault that a verdict names comes before these
+abbrev pub IsAhead : List LinkFile → List ℕ → Verdict → List NetFault → List NetFault → Type 0
+IsAhead files tag (Yes systems links) all further = all ≡ further
+IsAhead files tag (No (Loop loop)) all further = (named : List Address) × IsNamedLoop files tag named × (all ≡ Loop named ∷ further)
+IsAhead files tag (No fault) all further = all ≡ fault ∷ further
 
 -- with the one that the verdict names first these are all of them
 pub record AreFurther (files : List LinkFile) (tag : List ℕ) (verdict : Verdict) (further : List NetFault) : Type 0 where
   pub all : List NetFault
   pub are_all : AreAllFaults files tag all
-  pub whole : all ≡ fault_named verdict ++ further
+  pub ahead : IsAhead files tag verdict all further
+
+-- whether it names one
+abbrev pub names_fault : Verdict → Bool
+names_fault (Yes systems links) = false
+names_fault (No fault) = true
+
+-- the loops of blocks were added
+pub record AddsRounds (files : List LinkFile) (tag : List ℕ) (old new : List NetFault) : Type 0 where
+  pub found : List Round
+  pub are : AreRounds (lists files tag) found
+  pub whole : new ≡ old ++ map loop_fault found
+
+-- the loop of these carriers, by their places
+abbrev pub round_of : List Address → BlockLoop → Round
+round_of carriers l = record { start = link (system_at carriers l.at) (system_at carriers l.one); loop = map (system_at carriers) l.round.items }
+
+-- the parts of the area that its smallest carrier is not in were added
+pub record AddsApart (files : List LinkFile) (tag : List ℕ) (old new : List NetFault) : Type 0 where
+  pub found : List Link
+  pub in_order : AreLinksInOrder (AppliesTo files tag kinds.Apart) found
+  pub whole : new ≡ old ++ map (fault_of kinds.Apart) found
 
 -- the addresses that two systems have were added, in order
 pub record AddsTwoFiles (all : List Address) (old new : List NetFault) : Type 0 where

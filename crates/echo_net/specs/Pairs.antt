@@ -1,5 +1,5 @@
 -- Pairs of items in a list that have something in common.
-use Rattle.std.specs.Prelude.{◌≡◌, ◌<◌, ◌+◌, ℕ, List, length, slice_index_or}
+use Rattle.std.specs.Prelude.{◌≡◌, ◌<◌, ℕ, List, length, slice_index_or}
 use Rattle.echo_addr.specs.declared.address.Address.{Address}
 use Rattle.echo_addr.specs.Address.{net_node_of}
 use Rattle.echo_net.specs.declared.link.Link.{Link}

@@ -10,14 +10,12 @@ ghost use Rattle.echo_net.specs.Nets.{carrier_count, linked_pairs};
 
 use crate::area::{Area, area_of};
 use crate::carriers::systems;
-use crate::graph_faults::graph_fault;
+use crate::graph_faults::{area_graph, graph_fault};
 use crate::link_faults::link_fault;
 use crate::owners::shared_address;
-use crate::rows::rows;
 use crate::verdict::Verdict;
 use echo_addr::Address;
 use echo_links::LinkFile;
-use model_graph::Graph;
 use model_run::every_run_of_a_tidy_area_is_orderly;
 use std::alloc::{AllocError, Global};
 
@@ -79,7 +77,7 @@ pub fn check_area(
     if let Some(fault) = wrong_link {
         return Ok(Verdict::No(fault));
     }
-    let graph = Graph::new(rows(alloc, &carriers, &links)?);
+    let graph = area_graph(alloc, files, tag, &carriers, &links)?;
     let wrong_graph = graph_fault(alloc, files, tag, &carriers, &graph)?;
     match wrong_graph {
         Some(fault) => Ok(Verdict::No(fault)),

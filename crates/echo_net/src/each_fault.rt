@@ -1,27 +1,31 @@
-//! Every fault of the files of an area and of their links.
+//! Every fault of an area: of its files, their links, and its graph.
 
-ghost use Rattle.std.specs.Prelude.{◌≡◌, ◌++◌, ◌∷◌, ◌==◌, ℕ, List, IfOk, OnOk, filter, length, map, not};
+ghost use Rattle.std.specs.Prelude.{◌≡◌, ◌++◌, ◌∷◌, ◌==◌, ◌↔◌, ℕ, List, Contains, IfOk, IsTrue, OnOk, filter, length, map, not};
 ghost use Rattle.std.specs.List.Sorted.{IsStrictlySortedBy};
 ghost use Rattle.echo_addr.specs.declared.address.Address.{Address};
 ghost use Rattle.echo_links.specs.Links.{LinkFile};
+ghost use Rattle.model_graph.specs.Rows.{linked};
+ghost use Rattle.model_run.specs.Tidy.{Carries, carries, lists};
 ghost use Rattle.echo_net.specs.declared.each_fault.Kind.TheVariants as kinds;
 ghost use Rattle.echo_net.specs.declared.link.Link.{Link};
 ghost use Rattle.echo_net.specs.declared.verdict.NetFault.{NetFault};
-ghost use Rattle.echo_net.specs.AllFaults.{AddsLinkFaults, AddsTwoFiles, AreAllFaults, AreFurther, fault_of, fault_where, is_one_sided, is_self_link, is_unknown, names_fault};
-ghost use Rattle.echo_net.specs.Faults.{IfNo, IsFirstFault};
+ghost use Rattle.echo_net.specs.AllFaults.{AddsApart, AddsLinkFaults, AddsRounds, AddsTwoFiles, AreAllFaults, AreFurther, AreLinkFaults, fault_of, fault_where, is_one_sided, is_self_link, is_unknown, names_fault};
+ghost use Rattle.echo_net.specs.Faults.{AreInOrder, AreSoundLinks, IfNo, IsFirstFault, numbered};
 
-use crate::area::area_of;
+use crate::area::{Area, area_of};
 use crate::carriers::systems;
 use crate::drawing::{back, has_address, has_link};
+use crate::graph_faults::{area_graph, parts_apart, push_loops};
 use crate::link::Link;
 use crate::owners::all_shared;
 use crate::same_net_node::all_same_net_node;
 use crate::verdict::{NetFault, Verdict};
 use echo_addr::Address;
 use echo_links::LinkFile;
+use model_graph::Graph;
 use std::alloc::{AllocError, Global};
 
-/// The kinds of faults that files and their links have.
+/// The kinds of faults that two systems have.
 #[derive(Clone, Copy)]
 pub enum Kind {
     TwoFiles,
@@ -29,10 +33,12 @@ pub enum Kind {
     Unknown,
     OneSided,
     SameNetNode,
+    Apart,
 }
 
-/// Every fault of the files and of their links in the area: all but `Apart` and `Loop`. They come in the order of
-/// `NetFault`, those of one kind by ascending addresses, each once. Fails only when out of memory.
+/// Every fault of the area, in the order of `NetFault`, those of one kind by ascending addresses, each once. Where files
+/// and links have no fault, each part of the area that its smallest system is not in has one `Apart`, and each block with
+/// a cycle that is not fully linked one `Loop`. Fails only when out of memory.
 pub fn all_faults(
     alloc: Global,
     files: &[LinkFile],
@@ -41,12 +47,73 @@ pub fn all_faults(
     ensures { IfOk result (λ all. AreAllFaults files.now tag.now all.items) }
 {
     let area = area_of(alloc, files, tag)?;
+    let mut all = link_faults(alloc, files, tag, &area.carriers, &area.links)?;
+    if all.is_empty() {
+        push_graph_faults(alloc, &mut all, files, tag, &area.carriers, &area.links)?;
+    }
+    Ok(all)
+}
+
+/// Every fault of the files and of these links of their carriers.
+fn link_faults(
+    alloc: Global,
+    files: &[LinkFile],
+    tag: &[u8],
+    carriers: &[Address],
+    links: &[Link],
+) -> Result<Vec<NetFault>, AllocError>
+    requires carriers { IsStrictlySortedBy ⟦<Address as Ord>⟧.cmp carriers.now }
+    requires links { IsStrictlySortedBy ⟦<Link as Ord>⟧.cmp links.now }
+    requires members { (a : Address) → Contains carriers.now a ↔ IsTrue (carries files.now tag.now a) }
+    requires listed { (l : Link) → Contains links.now l ↔ IsTrue (lists files.now tag.now l.from l.to) }
+    ensures { IfOk result (λ all. AreLinkFaults files.now tag.now all.items) }
+{
     let systems = systems(alloc, files)?;
     let mut all = Vec::new(alloc);
-    push_no_such_area(&mut all, &area.carriers)?;
+    push_no_such_area(&mut all, carriers)?;
     push_two_files(alloc, &mut all, &systems)?;
-    push_link_faults(alloc, &mut all, &area.carriers, &area.links)?;
+    push_link_faults(alloc, &mut all, carriers, links)?;
     Ok(all)
+}
+
+/// Adds the parts and the loops of an area whose links have no fault.
+fn push_graph_faults(
+    alloc: Global,
+    all: &mut Vec<NetFault>,
+    files: &[LinkFile],
+    tag: &[u8],
+    carriers: &[Address],
+    links: &[Link],
+) -> Result<(), AllocError>
+    requires sound { AreSoundLinks files.now tag.now }
+    requires carriers { IsStrictlySortedBy ⟦<Address as Ord>⟧.cmp carriers.now }
+    requires links { IsStrictlySortedBy ⟦<Link as Ord>⟧.cmp links.now }
+    requires members { (a : Address) → Contains carriers.now a ↔ IsTrue (carries files.now tag.now a) }
+    requires listed { (l : Link) → Contains links.now l ↔ IsTrue (lists files.now tag.now l.from l.to) }
+    ensures { OnOk result ((parts : List NetFault) × AddsApart files.now tag.now all.old.items parts × AddsRounds files.now tag.now parts all.new.items) }
+{
+    let graph = area_graph(alloc, files, tag, carriers, links)?;
+    push_apart(alloc, all, files, tag, carriers, &graph)?;
+    push_loops(alloc, all, files, tag, carriers, &graph)
+}
+
+/// Adds the parts of the graph.
+fn push_apart(
+    alloc: Global,
+    all: &mut Vec<NetFault>,
+    files: &[LinkFile],
+    tag: &[u8],
+    carriers: &[Address],
+    graph: &Graph,
+) -> Result<(), AllocError>
+    requires sound { AreSoundLinks files.now tag.now }
+    requires in_order { AreInOrder (Carries files.now tag.now) carriers.now }
+    requires members { length graph.now ≡ length carriers.now }
+    requires links { linked graph.now ≡ numbered carriers.now (lists files.now tag.now) }
+    ensures { OnOk result (AddsApart files.now tag.now all.old.items all.new.items) }
+{
+    let found = parts_apart(alloc, files, tag, carriers, graph)?;
+    push_faults(all, Kind::Apart, &found)
 }
 
 /// Those of all these faults that the verdict does not name.
@@ -61,14 +128,12 @@ pub fn further<'a>(all: &'a [NetFault], verdict: &Verdict) -> &'a [NetFault]
     }
 }
 
-/// Does the verdict name a fault of the files or their links?
+/// Does the verdict name one of these faults?
 fn names_fault(verdict: &Verdict) -> bool
     ensures { result ≡ names_fault verdict.now }
 {
     match verdict {
         Verdict::Yes { .. } => false,
-        Verdict::No(NetFault::Apart(..)) => false,
-        Verdict::No(NetFault::Loop(_)) => false,
         Verdict::No(_) => true,
     }
 }
@@ -236,5 +301,6 @@ fn fault_of(kind: Kind, link: Link) -> NetFault
         Kind::Unknown => NetFault::Unknown(link.from, link.to),
         Kind::OneSided => NetFault::OneSided(link.from, link.to),
         Kind::SameNetNode => NetFault::SameNetNode(link.from, link.to),
+        Kind::Apart => NetFault::Apart(link.from, link.to),
     }
 }

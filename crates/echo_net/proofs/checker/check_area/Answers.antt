@@ -1,14 +1,10 @@
-use Rattle.std.proofs.Common.{◌∙◌, ℕ, List, sym, subst, ap}
-use Rattle.std.specs.Prelude.{Contains}
+use Rattle.std.proofs.Common.{◌∙◌, List, sym, subst, ap}
 use Rattle.std.proofs.lemmas.Option.{MatchOption-at_some}
 use Rattle.echo_addr.specs.declared.address.Address.{Address}
-use Rattle.model_graph.specs.Rows.{linked}
 use Rattle.model_run.specs.Tidy.{Carries, Tidy, lists}
-use Rattle.echo_net.specs.declared.link.Link.{Link}
 use Rattle.echo_net.specs.Faults.{AreInOrder, AreSoundLinks, IsFirstFault, numbered}
-use Rattle.echo_net.specs.Rows.{AreRows}
-use Rattle.echo_net.proofs.Faulty.{all_carry, at_none, files_fit}
-use Rattle.echo_net.proofs.Graphs.{is_graph, not_tidy, same_links}
+use Rattle.echo_net.proofs.Faulty.{at_none, files_fit}
+use Rattle.echo_net.proofs.Graphs.{not_tidy}
 use Rattle.echo_net.proofs.Numbers.{in_order_from_sorted}
 use Rattle.echo_net.proofs.checker.check_area.Goals as goal
 
@@ -19,20 +15,8 @@ returns-in-Some-clause-tidy c = (
       (MatchOption-at_some (AreSoundLinks c.args.files.now c.args.tag.now) (IsFirstFault c.args.files.now c.args.tag.now) c.in-Some.fault c.in-Some.is c.in_ok-wrong_link.ensures),
 )
 
-pub rows-requires-clause-known : goal.rows-requires-clause-known
-rows-requires-clause-known c =
-    let sound = at_none (AreSoundLinks c.args.files.now c.args.tag.now) (IsFirstFault c.args.files.now c.args.tag.now) c.in_ok-wrong_link.wrong_link c.in_default.not-Some c.in_ok-wrong_link.ensures in
-    let known = all_carry c.args.files.now c.args.tag.now c.in_ok-area.area.carriers.items c.in_ok-area.area.links.items c.in_ok-area.ensures.members c.in_ok-area.ensures.listed sound in
-    subst (λ (ls : List Link). (l : Link) → Contains ls l → Contains c.deref-3.result.now l.to) (sym c.deref-4.ensures.value)
-    (subst (λ (as' : List Address). (l : Link) → Contains c.in_ok-area.area.links.items l → Contains as' l.to) (sym c.deref-3.ensures.value) known)
-
-pub new-graph-requires : goal.new-graph-requires
-new-graph-requires c =
-    let sound = at_none (AreSoundLinks c.args.files.now c.args.tag.now) (IsFirstFault c.args.files.now c.args.tag.now) c.in_ok-wrong_link.wrong_link c.in_default.not-Some c.in_ok-wrong_link.ensures in
-    let order = in_order_from_sorted (Carries c.args.files.now c.args.tag.now) c.in_ok-area.area.carriers.items c.in_ok-area.ensures.carriers c.in_ok-area.ensures.members in
-    let are = subst (λ (ls : List Link). AreRows c.in_ok-area.area.carriers.items ls c.in_ok-rows.field-0.items) c.deref-4.ensures.value
-    (subst (λ (all : List Address). AreRows all c.deref-4.result.now c.in_ok-rows.field-0.items) c.deref-3.ensures.value c.in_ok-rows.ensures) in
-    is_graph c.args.files.now c.args.tag.now c.in_ok-area.area.carriers.items c.in_ok-area.area.links.items c.in_ok-rows.field-0.items c.in_ok-area.ensures.listed order sound are
+pub area_graph-requires-clause-sound : goal.area_graph-requires-clause-sound
+area_graph-requires-clause-sound c = at_none (AreSoundLinks c.args.files.now c.args.tag.now) (IsFirstFault c.args.files.now c.args.tag.now) c.in_ok-wrong_link.wrong_link c.in_default.not-Some c.in_ok-wrong_link.ensures
 
 pub graph_fault-requires-clause-in_order : goal.graph_fault-requires-clause-in_order
 graph_fault-requires-clause-in_order c =
@@ -41,13 +25,8 @@ graph_fault-requires-clause-in_order c =
 
 pub graph_fault-requires-clause-links : goal.graph_fault-requires-clause-links
 graph_fault-requires-clause-links c =
-    let sound = at_none (AreSoundLinks c.args.files.now c.args.tag.now) (IsFirstFault c.args.files.now c.args.tag.now) c.in_ok-wrong_link.wrong_link c.in_default.not-Some c.in_ok-wrong_link.ensures in
-    let order = in_order_from_sorted (Carries c.args.files.now c.args.tag.now) c.in_ok-area.area.carriers.items c.in_ok-area.ensures.carriers c.in_ok-area.ensures.members in
-    let are = subst (λ (ls : List Link). AreRows c.in_ok-area.area.carriers.items ls c.in_ok-rows.field-0.items) c.deref-4.ensures.value
-    (subst (λ (all : List Address). AreRows all c.deref-4.result.now c.in_ok-rows.field-0.items) c.deref-3.ensures.value c.in_ok-rows.ensures) in
-    let same = same_links c.args.files.now c.args.tag.now c.in_ok-area.area.carriers.items c.in_ok-area.area.links.items c.in_ok-rows.field-0.items c.in_ok-area.ensures.listed order sound are in
-    ap (λ (rows : List (List ℕ)). linked rows) c.new-graph.ensures
-    ∙ (same ∙ ap (λ (all : List Address). numbered all (lists c.args.files.now c.args.tag.now)) (sym c.deref-5.ensures.value))
+    c.in_ok-graph.ensures.links
+    ∙ ap (λ (all : List Address). numbered all (lists c.args.files.now c.args.tag.now)) (c.deref-3.ensures.value ∙ sym c.deref-5.ensures.value)
 
 pub returns-in-Some-wrong_graph-clause-tidy : goal.returns-in-Some-wrong_graph-clause-tidy
 returns-in-Some-wrong_graph-clause-tidy c = (

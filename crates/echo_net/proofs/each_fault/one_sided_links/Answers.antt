@@ -1,4 +1,4 @@
-use Rattle.std.proofs.Common.{◌≡◌, ◌∙◌, ap, sym}
+use Rattle.std.proofs.Common.{◌∙◌, ap, sym}
 use Rattle.echo_net.specs.AllFaults.{is_one_sided}
 use Rattle.echo_net.proofs.AllFaults.{one_kept, one_left}
 use Rattle.echo_net.proofs.each_fault.one_sided_links.Goals as goal

@@ -1,4 +1,4 @@
-use Rattle.std.proofs.Common.{◌==◌, ◌++◌, ◌∙◌, Bool, List, ap, append-nil, length, not, sym}
+use Rattle.std.proofs.Common.{◌++◌, ◌∙◌, Bool, ap, append-nil, not, sym}
 use Rattle.echo_net.specs.AllFaults.{fault_where}
 use Rattle.echo_net.proofs.each_fault.push_no_such_area.Goals as goal
 

@@ -1,4 +1,4 @@
-use Rattle.std.proofs.Common.{◌≡◌, ◌∙◌, true, false, ap, not, sym}
+use Rattle.std.proofs.Common.{◌∙◌, ap, not, sym}
 use Rattle.echo_net.specs.AllFaults.{is_unknown}
 use Rattle.echo_net.proofs.AllFaults.{one_kept, one_left}
 use Rattle.echo_net.proofs.each_fault.unknown_links.Goals as goal
