@@ -11,7 +11,7 @@ program=bin/echonet
 install -D -m 755 "$program" "$to/bin/echonet"
 install -D -m 644 docs/echonet.1 "$to/share/man/man1/echonet.1"
 install -d "$to/share/echonet/move" "$to/share/doc/echonet/pictures" "$to/share/doc/echonet/examples"
-install -m 755 examples/net/*.sh "$to/share/echonet"
+install -m 755 examples/net/*.sh examples/net/jam-lock "$to/share/echonet"
 chmod 644 "$to/share/echonet/station.sh"
 install -m 644 examples/net/printable.awk packaging/echonet.timer packaging/echonet.logrotate packaging/settings \
   "$to/share/echonet"

@@ -1,10 +1,12 @@
-"""Holds the verdicts of `check` on all small nets against the definitions, tried out one by one: each net is an area of the
-same systems, and `check --all` judges thousands of them in one run. These nets are: all link files of four systems; all of
-three of which two have one net and node, with an address that has no file; each graph of five systems and less; and two
-polygons of four with a system in common, with up to one of their links left out, under three numberings.
+"""Holds the verdicts of `check --more` on all small nets against the definitions, tried out one by one: each net is an area
+of the same systems, and `check --all --more` judges thousands of them in one run. These nets are: all link files of four
+systems; all of three of which two have one net and node, with an address that has no file; each graph of five systems and
+less; two polygons of four with a system in common, with up to one of their links left out, under three numberings; and
+graphs of seven systems by chance.
 """
 import itertools
 import os
+import random
 import subprocess
 import sys
 import tempfile
@@ -49,46 +51,74 @@ class Area(NamedTuple):
         if fault == "V4 Unknown":
             return self.has(one, other) and other not in self.carriers()
         if fault == "V5 OneSided":
-            return self.has(one, other) and not self.has(other, one)
+            return self.has(one, other) and other in self.carriers() and not self.has(other, one)
         return self.same_net_node(one, other)
 
-    def reached(self, start):
-        """The systems to which a walk leads."""
-        found, left = {start}, [start]
-        while left:
-            here = left.pop()
+    def reached(self, start, without=None):
+        """How many links away each system is to which a walk leads that does not pass one."""
+        found, left = {start: 0}, [start]
+        for here in left:
             for other in self.carriers():
-                if self.linked(here, other) and other not in found:
-                    found.add(other)
+                if self.linked(here, other) and other not in found and other != without:
+                    found[other] = found[here] + 1
                     left.append(other)
         return found
 
+    def in_one_block(self, link, other):
+        """Whether no system parts two links: without any one a walk joins what is left of both."""
+        for without in self.carriers():
+            ends = [one for one in link if one != without]
+            if not any(one in self.reached(ends[0], without) for one in other if one != without):
+                return False
+        return True
+
+    def pinches(self):
+        """Systems with two links that are not linked, though a walk around the system joins them, ascending."""
+        for middle in self.carriers():
+            for one, other in itertools.combinations([near for near in self.carriers() if self.linked(middle, near)], 2):
+                if not self.linked(one, other) and other in self.reached(one, middle):
+                    yield middle, one, other
+
+    def loop(self, middle, one, other):
+        """The loop of a pinch: the least of the shortest walks around it, from its smallest system to the smaller one beside it."""
+        away = self.reached(other, middle)
+        ring = [middle, one]
+        while ring[-1] != other:
+            ring.append(min(near for near in self.carriers() if self.linked(ring[-1], near) and away.get(near) == away[ring[-1]] - 1))
+        at = ring.index(min(ring))
+        ring = ring[at:] + ring[:at]
+        return ring if ring[1] < ring[-1] else ring[:1] + ring[:0:-1]
+
     def loops(self):
-        """Each cycle of four or more in which two are not linked, from its smallest system to the smaller one beside it."""
-        for size in range(4, len(self.carriers()) + 1):
-            for round_trip in itertools.permutations(self.carriers(), size):
-                begins = round_trip[0] == min(round_trip) and round_trip[1] < round_trip[-1]
-                if begins and all(self.linked(one, round_trip[(at + 1) % size]) for at, one in enumerate(round_trip)) \
-                        and not all(self.linked(*pair) for pair in itertools.combinations(round_trip, 2)):
-                    yield round_trip
+        """The loop of each block that has one, by the first pinches of the blocks."""
+        firsts = []
+        for middle, one, other in self.pinches():
+            if not any(self.in_one_block((middle, one), first[:2]) for first in firsts):
+                firsts.append((middle, one, other))
+                yield self.loop(middle, one, other)
 
     def named(self, systems):
         """Systems as their addresses, a repeated one once."""
         return " ".join(self.addresses[one] for one in dict.fromkeys(systems))
 
-    def verdicts(self):
-        """What may be answered, by the first rule that is broken; of loops any one may be named."""
-        for fault in PAIR_FAULTS:
-            for one, other in itertools.product(range(len(self.addresses)), repeat=2):
-                if self.is_wrong(fault, one, other):
-                    return {"no %%s %s %s" % (fault, self.named((one, other)))}
+    def faults(self):
+        """All faults in the order of the verdicts."""
+        pairs = list(itertools.product(range(len(self.addresses)), repeat=2))
+        found = ["%s %s" % (fault, self.named(pair)) for fault in PAIR_FAULTS for pair in pairs if self.is_wrong(fault, *pair)]
+        if found:
+            return found
         carriers = self.carriers()
-        for other in carriers:
-            if other not in self.reached(carriers[0]):
-                return {"no %%s V7 Apart %s" % self.named((carriers[0], other))}
-        loops = {"no %%s V8 Loop %s" % self.named(found) for found in self.loops()}
-        links = sum(self.linked(*pair) for pair in itertools.combinations(carriers, 2))
-        return loops or {"yes %%s %d systems %d links" % (len(carriers), links)}
+        starts = [one for one in carriers if one == min(self.reached(one))]
+        found += ["V7 Apart " + self.named((carriers[0], one)) for one in starts[1:]]
+        return found + ["V8 Loop " + self.named(loop) for loop in self.loops()]
+
+    def verdict(self, tag):
+        """The lines that `check --more` prints."""
+        found = self.faults()
+        if found:
+            return ["no %s %s" % (tag, found[0])] + ["also " + fault for fault in found[1:]]
+        links = sum(self.linked(*pair) for pair in itertools.combinations(self.carriers(), 2))
+        return ["yes %s %d systems %d links" % (tag, len(self.carriers()), links)]
 
 
 def all_files(addresses, systems):
@@ -121,8 +151,17 @@ def chained_polygons():
             yield graph(SEVEN, 7, [pair for pair in numbered if pair != left_out])
 
 
+def chance_graphs(count):
+    """Graphs of seven systems, each link there by the same chance."""
+    chance = random.Random(7)
+    every = list(itertools.combinations(range(7), 2))
+    for _ in range(count):
+        often = chance.random()
+        yield graph(SEVEN, 7, [pair for pair in every if chance.random() < often])
+
+
 def judged(areas, folder):
-    """What `check --all` prints of these areas, which have the same addresses, by their tags."""
+    """What `check --all --more` prints of these areas, which have the same addresses, by their tags."""
     systems = max(len(area.lists) for area in areas)
     for system in range(systems):
         with open(os.path.join(folder, "%d.links" % system), "w", encoding="ascii") as file:
@@ -132,8 +171,13 @@ def judged(areas, folder):
                     listed = "".join(" " + area.addresses[other] for other in sorted(area.lists[system]))
                     file.write("AREA N%d%s\n" % (number, listed))
     names = [os.path.join(folder, "%d.links" % system) for system in reversed(range(systems))]
-    ended = subprocess.run([PROGRAM, "check", "--all", *names], capture_output=True, check=False, text=True)
-    return {line.split(" ")[1]: line for line in ended.stdout.splitlines()}, ended.stderr
+    ended = subprocess.run([PROGRAM, "check", "--all", "--more", *names], capture_output=True, check=False, text=True)
+    said, lines = {}, []
+    for line in ended.stdout.splitlines()[:-1]:
+        if not line.startswith("also "):
+            lines = said.setdefault(line.split(" ")[1], [])
+        lines.append(line)
+    return said, ended.stderr
 
 
 def differ(areas, folder):
@@ -144,18 +188,19 @@ def differ(areas, folder):
         said, fault = judged(batch, folder)
         for number, area in enumerate(batch):
             tag = "N%d" % number
-            wanted = {verdict % tag for verdict in area.verdicts()}
-            if said.get(tag) not in wanted or fault or len(said) != len(batch):
+            wanted = area.verdict(tag)
+            if said.get(tag) != wanted or fault or len(said) != len(batch):
                 wrong += 1
                 if wrong <= 5:
-                    print(area, said.get(tag), fault.strip(), "in place of", sorted(wanted)[:3])
+                    print(area, said.get(tag), fault.strip(), "in place of", wanted)
     return wrong
 
 
 def main():
     """Tries all, prints a line for each kind, and a last one with the counts."""
     kinds = [("four systems", list(all_files(FOUR, 4))), ("twins and an address without a file", list(all_files(TWINS, 3))),
-             ("graphs of at most five", list(all_graphs())), ("polygons in a chain", list(chained_polygons()))]
+             ("graphs of at most five", list(all_graphs())), ("polygons in a chain", list(chained_polygons())),
+             ("graphs of seven", list(chance_graphs(2000)))]
     tried = wrong = 0
     with tempfile.TemporaryDirectory() as folder:
         for name, areas in kinds:

@@ -3,7 +3,8 @@
 # stored messages (N.msg).
 # reader.sh --jam STATION AREA PATH: lets it read and write the area in the JAM base PATH (PATH.jhr and so on). What an
 # editor wrote there is posted and marked as Sent. Then what is new in the base is added; PATH.next has the number of the
-# message with which the next run begins. A message that is refused stays, and the status is 2.
+# message with which the next run begins. A message that is refused stays, and the status is 2. With Python 3 it takes the
+# lock of JAM programs too (jam-lock), so that they may run beside it.
 #
 # What an editor wrote there (Local, not Sent, and under no id of the base) is posted and then moves to DIR/posted;
 # what is refused goes to DIR/refused, with the fault and the note on it in NAME.why. Then what is new in the
@@ -33,15 +34,26 @@ case $1$station$3 in
     ;;
 esac
 area=$2
+jam=$3
+here=$(CDPATH='' cd -- "$(dirname "$0")" && pwd)
 program=${ECHONET:-echonet}
 work=$(mktemp -d)
 trap 'rm -rf "$work"' EXIT
 trap 'exit 3' HUP INT TERM
 
-# Runs the program, and passes on what it prints on standard error, but for the note that the area is still empty.
+# Runs the program, on a JAM base under the lock of JAM programs.
+run_locked() {
+  if [ $form = --jam ] && [ -e "$jam.jhr" ] && command -v python3 > /dev/null; then
+    "$here/jam-lock" "$jam.jhr" "$program" "$@"
+  else
+    "$program" "$@"
+  fi
+}
+
+# Runs it, and passes on what it prints on standard error, but for the note that the area is still empty.
 run_noted() {
   ended=0
-  "$program" "$@" 2> "$work/notes" || ended=$?
+  run_locked "$@" 2> "$work/notes" || ended=$?
   grep -v '^echonet: note: no message of area ' "$work/notes" >&2 || true
   return $ended
 }
@@ -65,7 +77,7 @@ if [ $form = --jam ]; then
   flock 9
   posted=0
   if [ -e "$3.jhr" ]; then
-    "$program" post --jam "$3" --area "$area" --serial auto --at now "$station/links" "$station/base" || posted=$?
+    run_locked post --jam "$3" --area "$area" --serial auto --at now "$station/links" "$station/base" || posted=$?
   fi
   if [ $posted -gt 2 ]; then exit $posted; fi
   add_new "$3" "$3.next"

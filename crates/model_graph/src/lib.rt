@@ -1,19 +1,25 @@
 //! Graphs: members joined by links that go both ways, with no link from a member to itself.
 //!
 //! Promise, for graphs of members 0, 1, 2 and so on: `unreached` answers the first member that no
-//! walk reaches, or that a walk joins any two. `other_parts` answers where the other parts begin. `loop_of` answers a cycle with two members that are
-//! not linked, or that there is none. `laws` says what this gives. Every cycle is fully linked
-//! exactly where a member parts any two of its links that are not linked with each other. In such a
-//! graph each member has one way to any other.
+//! walk reaches, or that a walk joins any two. `other_parts` answers where the other parts begin.
+//! `loop_of` answers a cycle with two members that are not linked, or that there is none.
+//! `loops_of_blocks` answers such a cycle of each block; two links are in one block if no member
+//! parts them. `laws` says what this gives. Every cycle is fully linked exactly where a member parts
+//! any two of its links that are not linked with each other. In such a graph each member has one way
+//! to any other.
 //!
 //! Begin with `laws`. `graph` holds members and their rows of links, `sound` tests rows, `levels`
-//! searches by levels, `reach` and `polygons` answer the two questions. `forest` and `kin` are the
-//! quick test for cycles. `pinching` finds the first bad place by `blocks`; `depth` finds these,
+//! searches by levels, `reach` and `polygons` answer the first two questions. `forest` and `kin` are
+//! the quick test for cycles. `pinching` finds the first bad place by `blocks`; `depth` finds these,
 //! `division` and `fullness` test them. `ring` and `writing` give its cycle.
+//!
+//! `block_loops` takes the cycle of each block from `by_block`: `in_block` and `subgraph` make a graph
+//! of the block alone, and `wholeness` tests, by the numbers of `numbering`, that no member parts it. If
+//! that is not known, `by_pairs` compares pinches with each other.
 //!
 //! Of specs/ read `Walk` (walks and graphs), `Cycle`, `Beyond` (members on every walk), `Family`
 //! (what a search by levels gives) and `Renaming`. Then read `Rows` (a graph as rows of links),
-//! `Reach` and `Loops` (the two answers). The lemmas in proofs/ on walks, cycles and families hold
+//! `Reach`, `Loops` and `BlockLoops` (the answers). The lemmas in proofs/ on walks, cycles and families hold
 //! for any type with a decided equality.
 //!
 //! A caller, with the rows of members 0, 1 and so on, each an ascending list of links:
