@@ -1,6 +1,6 @@
 -- Why packets were not written.
-use Rattle.std.proofs.Common.{◌≡◌, ◌≤◌, ℕ, List, arith}
-use Rattle.std.specs.Prelude.{Bool, Err, IsErrOf, Ok, Result}
+use Rattle.std.proofs.Common.{◌≤◌, ℕ, List, arith}
+use Rattle.std.specs.Prelude.{Bool, Err, Ok, Result}
 use Rattle.disk_io.specs.Runs.{HasCause}
 use Rattle.disk_io.specs.declared.disk_error.DiskError.{DiskError}
 use Rattle.disk_io.specs.declared.disk_error.DiskError.TheVariants as disk

@@ -1,13 +1,13 @@
 -- The packets of a scan and the commit of a store.
-use Rattle.std.proofs.Common.{◌≡◌, ◌≢◌, ◌∙◌, inl, inr, ⊎_elim, ℕ, List, [], ◌++◌, ap, arith, length, map, refl, subst, sym}
-use Rattle.std.specs.Prelude.{All, Contains}
+use Rattle.std.proofs.Common.{◌≡◌, ◌≢◌, ◌∙◌, inl, inr, ⊎_elim, ℕ, List, [], ◌++◌, ap, arith, map, refl, subst, sym}
+use Rattle.std.specs.Prelude.{All}
 use Rattle.std.proofs.lemmas.List.{append-nil}
 use Rattle.std.proofs.lemmas.List.Elements.{All-contains}
 use Rattle.base_file.specs.Base.{Base}
 use Rattle.disk_io.specs.Disk.{DiskState, Files, IsIn}
 use Rattle.disk_io.specs.Runs.{LeavesOnly}
 use Rattle.disk_io.proofs.Moments.{weaker_run}
-use Rattle.disk_atomic.specs.Outgoing.{ArePlaced, IsAtStaging, IsFree, IsOfOne}
+use Rattle.disk_atomic.specs.Outgoing.{IsAtStaging, IsFree, IsOfOne}
 use Rattle.disk_atomic.specs.Trying.{WasTried}
 use Rattle.disk_atomic.specs.Publishing.{IsApartFrom}
 use Rattle.disk_atomic.specs.declared.outgoing.Outgoing.{Outgoing}

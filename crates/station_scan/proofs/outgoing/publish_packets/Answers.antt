@@ -1,4 +1,4 @@
-use Rattle.std.proofs.Common.{◌≡◌, ◌⊎◌, ◌∙◌, inl, inr, ⊎_elim, ℕ, List, [], refl, subst, sym}
+use Rattle.std.proofs.Common.{◌∙◌, inl, inr, ⊎_elim, List, [], refl, subst, sym}
 use Rattle.echo_toss.specs.Counts.{bytes_for}
 use Rattle.disk_atomic.specs.declared.outgoing.Outgoing.{Outgoing}
 use Rattle.station_scan.specs.Fitting.{AreFitting}

@@ -1,4 +1,4 @@
-use Rattle.std.proofs.Common.{◌⊎◌, ◌≤◌, [], Result, arith, inl, inr, refl, subst}
+use Rattle.std.proofs.Common.{◌⊎◌, ◌≤◌, [], Result, arith, inl, refl, subst}
 use Rattle.base_file.specs.Base.{Base}
 use Rattle.disk_io.specs.Device.{Failed}
 use Rattle.disk_atomic.specs.declared.placing_error.PlacingError.{PlacingError}
@@ -6,7 +6,6 @@ use Rattle.station.proofs.Failures.{failed_wider}
 use Rattle.station_scan.specs.Fitting.{AreTaken}
 use Rattle.station_scan.specs.Left.{EndsLeft}
 use Rattle.station_scan.specs.Sends.{files_for}
-use Rattle.station_scan.specs.Stops.{most}
 use Rattle.station_scan.proofs.Outs.{not_sent, out_keeps, scan_sent, sends_out, tried_ended}
 use Rattle.station_scan.proofs.Stops.{sent_why}
 use Rattle.station_scan.proofs.outgoing.send_out.Goals as goal
