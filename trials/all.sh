@@ -34,6 +34,7 @@ each python3 trials/small_nets.py &
 each python3 trials/export.py &
 each python3 trials/stored.py &
 each python3 trials/jam.py &
+each python3 trials/jam_beside.py &
 each python3 trials/readers.py &
 each python3 trials/moving.py &
 each python3 trials/answers.py &

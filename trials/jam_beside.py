@@ -81,6 +81,11 @@ def subjects(place):
         word + " " + line.split(word + " ", 1)[1].split()[0] for line in listed.splitlines() for word in ("Post", "Own") if word + " " in line)
 
 
+def is_written(kinds):
+    """Whether the program wrote the message with these subfields: it has no id, or one that the program gave."""
+    return kinds[2] == b"Ann" and (4 not in kinds or int(kinds[4].split()[-1], 16) < 2 * OWN)
+
+
 def try_held(place):
     """A run that finds the lock held changes nothing, and ends with 3."""
     path = os.path.join(place, "jam")
@@ -125,9 +130,9 @@ def main():
         twice.update({"Own %d" % number: 1 for number in range(runs)})
         if told != twice:
             sys.exit("the JAM base: %r" % {key: (told.get(key), twice.get(key)) for key in set(told) | set(twice) if told.get(key) != twice.get(key)})
-        written = [got for got, kinds in zip(base.messages, fields) if kinds[2] == b"Ann" and got.attribute & jam.SENT]
-        if len(written) != count:
-            sys.exit("marked as sent: %d" % len(written))
+        sent = sum(1 for got, kinds in zip(base.messages, fields) if is_written(kinds) and got.attribute & jam.SENT)
+        if sent != count:
+            sys.exit("marked as sent: %d" % sent)
         try_held(place)
     print("jam_beside.py: %d messages of a JAM program and %d of the station, none gone and none twice" % (count, runs))
 
