@@ -35,6 +35,7 @@ each python3 trials/export.py &
 each python3 trials/stored.py &
 each python3 trials/jam.py &
 each python3 trials/jam_beside.py &
+each python3 trials/jamnntpd.py &
 each python3 trials/readers.py &
 each python3 trials/moving.py &
 each python3 trials/answers.py &
