@@ -23,7 +23,7 @@ pub struct ScanFiles<'p, 'r> {
     base: &'p str,
     folder: &'p str,
     progress: &'p Progress<'r>,
-    // How many packets there are, and how many of them are written.
+    // How many packets there are, and how many of them are begun.
     packets: Cell<usize>,
     written: Cell<usize>,
     // The staging files of packets, until the base will be replaced.
@@ -155,7 +155,7 @@ impl<'p, 'r> ScanFiles<'p, 'r> {
         }
     }
 
-    // One more packet is written.
+    // One more packet is begun.
     fn tell(&self) {
         let written = self.written.get().saturating_add(1);
         self.written.set(written);
@@ -177,10 +177,8 @@ impl<'p, 'r> ScanFiles<'p, 'r> {
     // Opens the file of a packet.
     fn open_packet(&self, how: &OpenOptions, path: &str) -> io::Result<File> {
         if how.asks_create_new() {
-            return self.make_packet(path);
-        }
-        if how.asks_write() {
             self.tell();
+            return self.make_packet(path);
         }
         self.rt.open_file(how, path)
     }
