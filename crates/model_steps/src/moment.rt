@@ -3,13 +3,13 @@ ghost use Rattle.std.specs.Prelude.{◌≡◌, ◌≤◌, ◌+◌, ◌*◌, ◌/
 ghost use Rattle.std.specs.Int.{is_in_range};
 ghost use Rattle.model_steps.specs.Stamps.{date_of, is_stamp};
 
-use model_steps::Stamp;
+use crate::stamp::Stamp;
 
 /// The months as a DateTime has them (FTS-0001).
 const MONTHS: [u8; 36] = *b"JanFebMarAprMayJunJulAugSepOctNovDec";
 
 /// Whether each part of the stamp is in its range.
-pub(crate) fn is_stamp(stamp: Stamp) -> bool
+pub fn is_stamp(stamp: Stamp) -> bool
     ensures { result ≡ is_stamp stamp }
 {
     is_within(1980, 2079, stamp.year)
@@ -27,7 +27,7 @@ fn is_within(low: u16, high: u16, part: u16) -> bool
 }
 
 /// The DateTime of the stamp (FTS-0001): `DD Mon YY  hh:mm:ss` and 00.
-pub(crate) fn date_of(stamp: Stamp) -> [u8; 20]
+pub fn date_of(stamp: Stamp) -> [u8; 20]
     requires { is_stamp stamp ≡ true }
     ensures { result ≡ date_of stamp }
 {

@@ -1,5 +1,5 @@
-use Rattle.echo_toss.proofs.Dates.{dated, month_letters, month_within}
-use Rattle.echo_toss.proofs.moment.date_of.Goals as goal
+use Rattle.model_steps.proofs.Dates.{dated, month_letters, month_within}
+use Rattle.model_steps.proofs.moment.date_of.Goals as goal
 
 pub returns : goal.returns
 returns c =
