@@ -38,17 +38,16 @@ bin/proved/$(1): crates.txt $$(shell find crates/$(1) -name out -prune -o \( -na
 endef
 # How a program is run once it is built.
 run_echonet = run --help
-run_test_speed = run
-run_test_crashes = run
+run_test_trials = run
 $(foreach name,$(ours),$(eval $(call crate_rule,$(name))))
 
 bin/echonet: bin/proved/echonet
 	@cp crates/echonet/out/echonet bin/echonet
 else
 .PHONY: bin/echonet
-# With the programs that trials run: one replays events, one crashes commands on a disk in memory.
+# With the program that trials run: it replays events, and crashes commands on a disk in memory.
 bin/echonet: toolchain
-	$(call prove,echonet $(if $(filter trials,$(MAKECMDGOALS)),test_speed test_crashes),bin/echonet)
+	$(call prove,echonet $(if $(filter trials,$(MAKECMDGOALS)),test_trials),bin/echonet)
 endif
 
 # One process for each crate, since each process loads all that stands below it. Alone `rt ci` gives a crate up to four,

@@ -1,14 +1,14 @@
 #!/usr/bin/env bash
 # How fast echomail texts of about 1,200 bytes are taken apart and written, by processor time: the middle one of three
 # runs, less that of making the texts. The yardstick is a plain sum over the same bytes. It needs the built
-# crates/test_speed/out/test_speed. Words: how many texts, how many rounds.
+# crates/test_trials/out/test_trials. Words: how many texts, how many rounds.
 set -eu
 cd "$(dirname "$0")/.."
 top=$PWD
 . bench/measure.sh
 count=${1:-2000}
 repeated=${2:-200}
-bench=$top/crates/test_speed/out/test_speed
+bench=$top/crates/test_trials/out/test_trials
 work_in "${TMPDIR:-/tmp}"
 
 for kind in view write sum; do

@@ -6,7 +6,7 @@ cd "$(dirname "$0")/.."
 
 # A line for each row: the group (none goes on with the one before), the crates, what they are for.
 rows='
-tests      | test_calls test_disks test_crashes test_speed |
+tests      | test_calls test_disks test_trials |
 program    | echonet cmd_words | picks the command; the command line
            | cmd_station cmd_read cmd_notes | the commands on the files of the system
            | cmd_base cmd_input | bases opened; files, locks, clock, progress
@@ -21,7 +21,7 @@ commands   | cmd_store | those that change a base, on any store
 verdicts   | echo_net model_replay model_plan model_why | check, replay and why, as functions
 tosser     | echo_toss | the steps of one system, on any store
 model      | model_run | runs of systems, tidy areas, any tossers, harm, the headline
-           | model_graph | cycles and walks
+           | model_graph model_blocks | cycles and walks; a cycle of each block
 stores     | base_folder base_folder_store | a base folder
            | base_store | the trait, a base in memory, keys
 disks      | disk_atomic base_log | whole files; the log of a base folder

@@ -1,11 +1,11 @@
 #!/usr/bin/env bash
 # Runs `post`, `toss` of two packets, `scan` and `purge` on base folders on the disk in memory, each stopped after each
 # number of its calls, with what was not synced torn at each length; the folder is read then, and a next command run on
-# it, and both are held against bases in memory. Needs the built crates/test_crashes/out/test_crashes.
+# it, and both are held against bases in memory. Needs the built crates/test_trials/out/test_trials.
 # Words: how many bases (100), how many at a time (1), by how many bytes the lengths differ (1), the number of the first.
 set -eu
 cd "$(dirname "$0")/.."
-program=${DISK_TRIALS:-$PWD/crates/test_crashes/out/test_crashes}
+program=${DISK_TRIALS:-$PWD/crates/test_trials/out/test_trials}
 bases=${1:-100}
 side=${2:-1}
 step=${3:-1}
@@ -16,7 +16,7 @@ trap 'rm -rf "$told"' EXIT
 
 # Tries one base, and keeps what was told of it.
 one() {
-  "$program" "$1" $(($1 + 1)) "$step" > "$told/$1" 2>&1 || { sed "s/^/stores.sh: /" "$told/$1"; touch "$told/failed"; }
+  "$program" crashes "$1" $(($1 + 1)) "$step" > "$told/$1" 2>&1 || { sed "s/^/stores.sh: /" "$told/$1"; touch "$told/failed"; }
 }
 
 for base in $(seq "$first" $((first + bases - 1))); do

@@ -1,10 +1,10 @@
 //! The content of a line of a text: a subfield, cut if that has less room, or a line of the body.
-ghost use Rattle.std.specs.Prelude.{◌≡◌, ◌+◌, IfOk, MatchOption, None, Some, drop, take, true};
-ghost use Rattle.echo_text.specs.Lines.{after_feeds, is_control, is_seen, lines};
+ghost use Rattle.std.specs.Prelude.{◌≡◌, ◌+◌, IfOk, MatchOption, None, Some, take};
+ghost use Rattle.echo_text.specs.Lines.{lines};
 ghost use Rattle.echo_jam.specs.Fields as contents;
 ghost use Rattle.echo_jam.specs.Fields.{content_cut, content_of, cuts_in};
 
-use echo_stored::{after_feeds, after_word, begins};
+use echo_stored::{after_word, behind_mark, is_control};
 use echo_text::{split_line, trimmed};
 use std::alloc::AllocError;
 
@@ -88,26 +88,4 @@ fn cut(line: &[u8]) -> u64
         Some(content) if content.most < content.bytes.len() => 1,
         _ => 0,
     }
-}
-// The bytes after the 01 of a control line.
-fn behind_mark(line: &[u8]) -> &[u8]
-    requires { is_control line.now ≡ true }
-    ensures { result.now ≡ drop 1 (after_feeds line.now) }
-{
-    match after_feeds(line).split_first() {
-        Some((_, rest)) => rest,
-        None => &[],
-    }
-}
-
-pub(crate) fn is_control(line: &[u8]) -> bool
-    ensures { result ≡ is_control line.now }
-{
-    begins(b"\x01", line)
-}
-
-pub(crate) fn is_seen(line: &[u8]) -> bool
-    ensures { result ≡ is_seen line.now }
-{
-    begins(b"SEEN-BY:", line)
 }

@@ -6,12 +6,12 @@ ghost use Rattle.echo_stored.specs.OriginAddress.{address_in_origin};
 ghost use Rattle.echo_text.specs.Lines.{lines};
 ghost use Rattle.echo_jam.specs.Fields.{address_field, body_line, line_field, name_fields, origin_field, subfield};
 
-use crate::content::{content_of, front, is_control, is_seen};
+use crate::content::{content_of, front};
 use crate::long::{count_of, push_long};
 use echo_addr::Address;
 use echo_charset::written;
 use echo_filed::Filed;
-use echo_stored::address_in_origin;
+use echo_stored::{address_in_origin, is_control, is_seen};
 use echo_text::{push_line, split_line};
 use std::alloc::{AllocError, Global};
 use std::io::Write;

@@ -2,8 +2,9 @@
 ghost use Rattle.std.specs.Prelude.{◌≡◌, ◌+◌, ◌++◌, ◌%◌, ◌^◌, IfOk, OnOk};
 ghost use Rattle.echo_jam.specs.Fixed.{counts, new_fixed};
 
-use crate::long::{push_bytes, push_long};
+use crate::long::push_long;
 use crate::standing::Standing;
+use echo_stored::push_bytes;
 use std::alloc::{AllocError, Global};
 
 /// The bytes after the numbers, which are kept for later standards.

@@ -12,12 +12,6 @@ pub(crate) fn push_long(bytes: &mut Vec<u8>, number: u32) -> Result<(), AllocErr
     bytes.extend_from_slice(&long_bytes(number))
 }
 
-pub(crate) fn push_bytes(all: &mut Vec<u8>, bytes: &[u8]) -> Result<(), AllocError>
-    ensures { OnOk result (all.new.items ≡ all.old.items ++ bytes.now) }
-{
-    all.extend_from_slice(bytes)
-}
-
 /// The number of bytes. One that four bytes do not hold is refused as out of memory.
 pub(crate) fn count_of(bytes: &[u8]) -> Result<u32, AllocError>
     ensures { IfOk result (λ count. count ≡ length bytes.now) }

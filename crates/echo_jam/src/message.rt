@@ -10,11 +10,11 @@ ghost use Rattle.echo_jam.specs.JamMessage.{entry_of, header_back, header_front,
 use crate::content::{MOST_OF_ID, cuts_in, front};
 use crate::crc::jam_crc;
 use crate::fields::{push_body, push_line_fields, push_names, push_origin, push_word};
-use crate::long::{count_of, place_behind, push_bytes, push_long};
+use crate::long::{count_of, place_behind, push_long};
 use crate::moment::seconds_of;
 use echo_addr::Address;
 use echo_filed::Filed;
-use echo_stored::written_text;
+use echo_stored::{push_bytes, written_text};
 use echo_text::split_line;
 use std::alloc::{AllocError, Global};
 

@@ -8,14 +8,15 @@ use Rattle.std.proofs.lemmas.List.Elements.{Contains-get_or}
 use Rattle.echo_addr.specs.declared.address.Address.{Address}
 use Rattle.echo_links.specs.Links.{LinkFile, same_address}
 use Rattle.echo_filed.specs.Sets.{address_before}
-use Rattle.model_graph.specs.declared.block_loops.BlockLoop.{BlockLoop}
-use Rattle.model_graph.specs.BlockLoops.{AreBlockLoops, AreInOneBlock, FirstInBlockBy, IsLoopOfBlockBy}
+use Rattle.model_blocks.specs.declared.block_loops.BlockLoop.{BlockLoop}
+use Rattle.model_blocks.specs.BlockLoops.{AreBlockLoops, AreInOneBlock, FirstInBlockBy, IsLoopOfBlockBy}
 use Rattle.model_graph.specs.Loops.{NamedLoopBy}
 use Rattle.model_graph.specs.Pinches.{FirstPinchBy, IsPinchBy, NotAfter}
 use Rattle.model_graph.specs.Walk.{Simple}
 use Rattle.model_graph.proofs.Around.{Around-itself}
 use Rattle.model_graph.proofs.Members.{Among-from_Contains, Contains-from_Among}
-use Rattle.model_graph.proofs.RenamedLoops.{Among-of_names, FirstInBlock-renamed, LoopOfBlock-renamed}
+use Rattle.model_blocks.proofs.RenamedBlocks.{FirstInBlock-renamed, LoopOfBlock-renamed}
+use Rattle.model_graph.proofs.RenamedLoops.{Among-of_names}
 use Rattle.model_graph.proofs.Renaming.{Among-map, IsRenaming-swap}
 use Rattle.model_run.specs.Tidy.{Carries, lists}
 use Rattle.echo_net.specs.declared.link.Link.{Link}

@@ -4,8 +4,8 @@ use Rattle.std.specs.List.{list_any}
 use Rattle.echo_addr.specs.declared.address.Address.{Address}
 use Rattle.echo_links.specs.Links.{LinkFile, has_area, same_address}
 use Rattle.echo_filed.specs.Sets.{address_before}
-use Rattle.model_graph.specs.declared.block_loops.BlockLoop.{BlockLoop}
-use Rattle.model_graph.specs.BlockLoops.{FirstInBlockBy, IsLoopOfBlockBy}
+use Rattle.model_blocks.specs.declared.block_loops.BlockLoop.{BlockLoop}
+use Rattle.model_blocks.specs.BlockLoops.{FirstInBlockBy, IsLoopOfBlockBy}
 use Rattle.model_graph.specs.Walk.{Reaches}
 use Rattle.model_run.specs.Tidy.{Carries, lists}
 use Rattle.echo_net.specs.declared.each_fault.Kind.{Kind}

@@ -4,7 +4,7 @@ ghost use Rattle.std.specs.Prelude.{◌≡◌, ◌<◌, ◌++◌, ◌↔◌, IsT
 ghost use Rattle.std.specs.List.{All};
 ghost use Rattle.std.specs.List.Sorted.{IsStrictlySortedBy};
 ghost use Rattle.echo_addr.specs.declared.address.Address.{Address};
-ghost use Rattle.model_graph.specs.declared.block_loops.BlockLoop.{BlockLoop};
+ghost use Rattle.model_blocks.specs.declared.block_loops.BlockLoop.{BlockLoop};
 ghost use Rattle.model_graph.specs.Rows.{linked};
 ghost use Rattle.model_run.specs.Tidy.{Carries, Tidy, carries, lists};
 ghost use Rattle.echo_net.specs.declared.each_fault.Kind.TheVariants as kinds;
@@ -20,7 +20,8 @@ use crate::rows::rows;
 use crate::verdict::NetFault;
 use echo_addr::{Address, Items};
 use echo_links::LinkFile;
-use model_graph::{BlockLoop, Graph, loop_of, loops_of_blocks, other_parts, unreached};
+use model_blocks::{BlockLoop, loops_of_blocks};
+use model_graph::{Graph, loop_of, other_parts, unreached};
 use std::alloc::{AllocError, Global};
 
 /// The graph of an area whose links have no fault. Its members are the places of the carriers.

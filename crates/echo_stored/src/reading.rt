@@ -1,7 +1,7 @@
 //! A stored message that an editor wrote, read for posting.
 ghost use Rattle.std.specs.Prelude.{◌≡◌, ◌==◌, ◌||◌, ◌≤◌, ◌++◌, false, true, not, drop, length, option_copied, take, take_while, IsTrue, IfOk, MatchOption, OnOk};
 ghost use Rattle.echo_text.specs.Echo.{first_after, id_in};
-ghost use Rattle.echo_text.specs.Lines.{after_feeds, after_word, begins, is_feed, is_origin, is_path, is_seen, is_tear, lines, msgid_word, reply_word};
+ghost use Rattle.echo_text.specs.Lines.{after_feeds, after_word, begins, is_control, is_feed, is_origin, is_path, is_seen, is_tear, lines, msgid_word, reply_word};
 ghost use Rattle.echo_stored.specs.StoredReading.{ReadAnswers, body_of, field_at, is_local, is_made, is_sent, is_to_post, own_line, reply_in, text_in, until_zero};
 ghost use Rattle.echo_stored.specs.declared.reading.StoredFault.TheVariants.{Memory};
 
@@ -153,7 +153,7 @@ fn is_id_line(line: &[u8]) -> bool
 fn is_list(line: &[u8]) -> bool
     ensures { result ≡ is_seen line.now || is_path line.now }
 {
-    begins(b"SEEN-BY:", line) || begins(b"\x01PATH:", line)
+    is_seen(line) || begins(b"\x01PATH:", line)
 }
 
 fn is_origin(line: &[u8]) -> bool
@@ -170,16 +170,41 @@ fn is_tear(line: &[u8]) -> bool
     begins(b"--- ", line) || (begins(b"---", line) && after_feeds(line).len() == 3)
 }
 
-/// Whether the line begins with the word, after line feeds.
-pub fn begins(word: &[u8], line: &[u8]) -> bool
+/// Whether the line is a control line: it begins with 01, after line feeds.
+pub fn is_control(line: &[u8]) -> bool
+    ensures { result ≡ is_control line.now }
+{
+    begins(b"\x01", line)
+}
+
+/// The bytes after the 01 of a control line.
+pub fn behind_mark(line: &[u8]) -> &[u8]
+    requires { is_control line.now ≡ true }
+    ensures { result.now ≡ drop 1 (after_feeds line.now) }
+{
+    match after_feeds(line).split_first() {
+        Some((_, rest)) => rest,
+        None => &[],
+    }
+}
+
+/// Whether the line has SEEN-BY entries.
+pub fn is_seen(line: &[u8]) -> bool
+    ensures { result ≡ is_seen line.now }
+{
+    begins(b"SEEN-BY:", line)
+}
+
+// Whether the line begins with the word, after line feeds.
+fn begins(word: &[u8], line: &[u8]) -> bool
     ensures value { result ≡ begins word.now line.now }
     ensures fits { IsTrue result → length word.now ≤ length (after_feeds line.now) }
 {
     after_feeds(line).starts_with(word)
 }
 
-/// The line without the line feeds at its front.
-pub fn after_feeds(line: &[u8]) -> &[u8]
+// The line without the line feeds at its front.
+fn after_feeds(line: &[u8]) -> &[u8]
     ensures { result.now ≡ after_feeds line.now }
 {
     &line[feed_count(line)..]

@@ -38,7 +38,8 @@ pub fn push_stored(
     push_bytes(stored, &[0])
 }
 
-fn push_bytes(stored: &mut Vec<u8>, bytes: &[u8]) -> Result<(), AllocError>
+/// Adds the bytes.
+pub fn push_bytes(stored: &mut Vec<u8>, bytes: &[u8]) -> Result<(), AllocError>
     ensures { OnOk result (stored.new.items ≡ stored.old.items ++ bytes.now) }
 {
     stored.extend_from_slice(bytes)

@@ -1,5 +1,4 @@
 pub mod Tossed
-pub mod Dates
 pub mod Judged
 pub mod LongTags
 pub mod Replies

@@ -1,10 +1,9 @@
 //! The packets of a scan, counted and not held: whom each is for, and how large it will be.
-ghost use Rattle.std.specs.Prelude.{◌≡◌, ◌+◌, [], ◌∷◌, true, length, map, filter, slice_get, Some, IfErr, IfOk, OnErr, OnOk};
+ghost use Rattle.std.specs.Prelude.{◌≡◌, ◌+◌, [], ◌∷◌, true, map, filter, slice_get, Some, IfErr, IfOk, OnErr, OnOk};
 ghost use Rattle.disk_io.specs.Disk.{Honestly};
 ghost use Rattle.disk_io.specs.Runs.{ChangesNothing};
 ghost use Rattle.base_file.specs.Base.{Base};
 ghost use Rattle.base_store.specs.Store.{CommitsNothing, GoesOn, HasStoreCause, LooksOn, Undoes, all_scanned};
-ghost use Rattle.echo_packet.specs.Message.{message_bytes};
 ghost use Rattle.echo_links.specs.Links.{Area, links_of};
 ghost use Rattle.model_steps.specs.Scanning.{scanned};
 ghost use Rattle.model_steps.specs.Stamps.{is_stamp};
@@ -12,7 +11,6 @@ ghost use Rattle.echo_toss.specs.Counts.{counted_to, counted_with, counted_of, h
 ghost use Rattle.echo_toss.specs.Stores.{IsScanStop, scan_answer};
 
 use crate::grouping::group_from;
-use crate::moment::is_stamp;
 use crate::outgoing::{Outgoing, links_of};
 use crate::packing::goes_to;
 use crate::sets::address_set;
@@ -20,8 +18,7 @@ use crate::step_error::ScanStepError;
 use base_store::{Store, StoreError};
 use echo_addr::Address;
 use echo_links::LinkFile;
-use echo_packet::PackedCopy;
-use model_steps::Stamp;
+use model_steps::{Stamp, is_stamp, message_size};
 use std::alloc::{AllocError, Global};
 
 /// A packet that a scan will make: its address, and how many messages and bytes it will have.
@@ -171,19 +168,6 @@ fn sum(one: usize, other: usize) -> Result<usize, AllocError>
         Some(sum) => Ok(sum),
         None => Err(AllocError),
     }
-}
-
-// The bytes of a message beside its strings, the 00 after each among them.
-const FIXED: usize = 38;
-
-// How many bytes a message has.
-fn message_size(copy: &PackedCopy) -> usize
-    ensures { result ≡ length (message_bytes copy.now) }
-{
-    let message = copy.message();
-    let text = message.text().len();
-    let names = message.to_name().len() + message.from_name().len();
-    FIXED + names + message.subject().len() + text
 }
 
 // Those that have messages.

@@ -6,12 +6,11 @@ ghost use Rattle.echo_filed.specs.Filed.{id_line};
 ghost use Rattle.model_steps.specs.Posting.{origin_line, posted, posted_lines, reply_lines};
 ghost use Rattle.echo_toss.specs.Refusals.{draft_refusal};
 
-use crate::moment::date_of;
 use echo_addr::Items;
 use echo_filed::Filed;
 use echo_links::LinkFile;
 use echo_text::{Echo, Lines, MsgId, push_line, push_lines, trimmed};
-use model_steps::{Draft, Stamp};
+use model_steps::{Draft, Stamp, date_of};
 use std::alloc::{AllocError, Global};
 
 pub(crate) fn posted(

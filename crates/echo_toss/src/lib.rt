@@ -6,8 +6,8 @@
 //! `resend_in` makes a packet of scanned messages again, and changes nothing.
 //!
 //! Begin with `tosser` (the type) and `tossing` (one received message; `receiving` reads it). `packets` tosses
-//! a whole packet, `tally` counts outcomes. `posting` files a draft; `refusing`, `drafting`, `moment` and
-//! `step_error` are its parts. `scanning` exports by `outgoing`, `packing` and `sets`; so does `resending`.
+//! a whole packet, `tally` counts outcomes. `posting` files a draft; `refusing`, `drafting` and `step_error`
+//! are its parts. `scanning` exports by `outgoing`, `packing` and `sets`; so does `resending`.
 //! `counting` counts the packets of a scan and holds none, by `grouping`, which makes their messages in groups. Then
 //! `purging`, `storing` (the base is written and read), `fault`, and `laws`.
 #![tactic(auto)]
@@ -17,7 +17,6 @@ mod drafting;
 mod fault;
 mod grouping;
 mod laws;
-mod moment;
 mod outgoing;
 mod packets;
 mod packing;

@@ -6,11 +6,10 @@ ghost use Rattle.echo_links.specs.Links.{has_area, upper};
 ghost use Rattle.model_steps.specs.Posting.{holds_zero, is_too_long};
 ghost use Rattle.echo_toss.specs.Refusals.{draft_refusal};
 
-use crate::moment::is_stamp;
 use echo_links::LinkFile;
 use echo_packet::{MAX_NAME, MAX_SUBJECT};
 use echo_text::{MAX_TAG, MsgId};
-use model_steps::{Draft, PostFault, Stamp};
+use model_steps::{Draft, PostFault, Stamp, is_stamp};
 
 /// Judges a draft by the link file and by itself.
 pub(crate) fn judge(

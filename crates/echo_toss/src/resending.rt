@@ -9,7 +9,6 @@ ghost use Rattle.model_steps.specs.Stamps.{is_stamp};
 ghost use Rattle.echo_toss.specs.Exports.{IsResentAt, copy_out, goes_out};
 ghost use Rattle.echo_toss.specs.Stores.{IsScanStop, scan_answer};
 
-use crate::moment::is_stamp;
 use crate::outgoing::prepared;
 use crate::packing::{header_to, push_copy};
 use crate::step_error::ScanStepError;
@@ -19,7 +18,7 @@ use echo_addr::{Address, Items};
 use echo_filed::{Filed, is_stub};
 use echo_links::LinkFile;
 use echo_packet::PackedCopy;
-use model_steps::{Packet, ScanFault, Stamp};
+use model_steps::{Packet, ScanFault, Stamp, is_stamp};
 use std::alloc::{AllocError, Global};
 use std::hash::BuildHasher;
 

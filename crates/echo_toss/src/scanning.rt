@@ -8,14 +8,13 @@ ghost use Rattle.model_steps.specs.Stamps.{is_stamp};
 ghost use Rattle.echo_toss.specs.Exports.{listed};
 ghost use Rattle.echo_toss.specs.Stores.{IsScanStop, scan_answer};
 
-use crate::moment::is_stamp;
 use crate::outgoing::waiting;
 use crate::packing::packets;
 use crate::step_error::ScanStepError;
 use crate::tosser::Tosser;
 use base_store::{Store, StoreError};
 use echo_links::LinkFile;
-use model_steps::{Packet, ScanFault, Stamp};
+use model_steps::{Packet, ScanFault, Stamp, is_stamp};
 use std::alloc::Global;
 use std::hash::BuildHasher;
 

@@ -25,10 +25,3 @@ pub mod GraphTests
 pub mod Siblings
 pub mod BlockWalks
 pub mod BlockTests
-pub mod BlockView
-pub mod BlockNames
-pub mod BlockNumbers
-pub mod BlockLists
-pub mod Places
-pub mod BlockJudged
-pub mod BlockPairs

@@ -2,7 +2,6 @@
 use Rattle.std.proofs.Common.{◌≡◌, ◌-◌, ◌++◌, ◌⊎◌, inl, inr, refl, sym, ap, subst, ◌∙◌, arith, ℕ, zero, suc, Bool, IsTrue, List, [], ◌∷◌, length, map, take, drop, reverse}
 use Rattle.std.proofs.lemmas.List.{length-map, map-append, take-map, drop-map}
 use Rattle.model_graph.specs.Walk.{Simple, Among, IsAt, Walk}
-use Rattle.model_graph.specs.BlockLoops.{AreInOneBlock, FirstInBlockBy, IsLoopOfBlockBy}
 use Rattle.model_graph.specs.Cycle.{IsCycle}
 use Rattle.model_graph.specs.Loops.{FirstWalkBy, HasUnlinked, IsWrittenBy, NamedLoopBy, NoLaterBy, turned}
 use Rattle.model_graph.specs.Pinches.{FirstPinchBy, IsPinchBy, NotAfter}
@@ -159,7 +158,7 @@ module _ {A B : Type 0} (linked : A → A → Bool) (joined : B → B → Bool) 
   swapped = IsRenaming-swap linked joined name back renaming
 
   -- of two pinches, by their names
-  earlier_named : (b a c : A) (e d f : B) → IsPinchBy Before linked b a c → IsPinchBy Earlier joined e d f →
+  pub earlier_named : (b a c : A) (e d f : B) → IsPinchBy Before linked b a c → IsPinchBy Earlier joined e d f →
       Before b (back e) ⊎ ((b ≡ back e) × (Before a (back d) ⊎ ((a ≡ back d) × NotAfter Before c (back f)))) →
       Earlier (name b) e ⊎ ((name b ≡ e) × (Earlier (name a) d ⊎ ((name a ≡ d) × NotAfter Earlier (name c) f)))
   earlier_named b a c e d f here pinch h =
@@ -190,40 +189,6 @@ module _ {A B : Type 0} (linked : A → A → Bool) (joined : B → B → Bool) 
     first = λ e d f pinch.
         earlier_named b a c e d f found.pinch pinch
         (found.first (back e) (back d) (back f) (IsPinch-renamed joined linked back name swapped simple_names Earlier Before keeps_back e d f pinch));
-  }
-
-  -- links of names that no member parts
-  together_back : (b a : A) → IsTrue (linked b a) → (e d : B) → AreInOneBlock joined (name b) (name a) e d → AreInOneBlock linked b a (back e) (back d)
-  together_back b a link e d together z =
-      let (x, y, at_x, at_y, (rest, walk, clear)) = together (name z) in
-      let other : (u : B) × IsTrue (joined x u) = elim at_x [
-        | inl is ↦ (name a, link_from joined (name b) x (name a) (sym is) (renaming.links b a link))
-        | inr is ↦ (name b, link_from joined (name a) x (name b) (sym is) (renaming.links a b (simple.both_ways b a link)))
-      ] in (
-        back x,
-        back y,
-        elim at_x [
-          | inl is ↦ inl (ap back is ∙ renaming.back_name b a link)
-          | inr is ↦ inr (ap back is ∙ renaming.back_name a b (simple.both_ways b a link))
-        ],
-        elim at_y [ inl is ↦ inl (ap back is) | inr is ↦ inr (ap back is) ],
-        (
-          map back rest,
-          Walk-renamed joined linked back name swapped x rest y walk,
-          λ among.
-              let (w, is, there) = Among-of_names back (x ∷ rest) z among in
-              let (v, link_w) = walk_owns joined linked back name swapped simple_names Earlier Before keeps_back x rest y walk other.0 other.1 w there in
-              clear (subst (λ (m : B). Among m (x ∷ rest)) (sym (renaming.name_back w v link_w) ∙ ap name is) there),
-        ),
-      )
-
-  pub FirstInBlock-renamed : (b a c : A) → FirstInBlockBy Before linked b a c → FirstInBlockBy Earlier joined (name b) (name a) (name c)
-  FirstInBlock-renamed b a c found = record {
-    pinch = IsPinch-renamed linked joined name back renaming simple Before Earlier keeps b a c found.pinch;
-    first = λ e d f pinch together.
-        earlier_named b a c e d f found.pinch pinch
-        (found.first (back e) (back d) (back f) (IsPinch-renamed joined linked back name swapped simple_names Earlier Before keeps_back e d f pinch)
-        (together_back b a found.pinch.one e d together));
   }
 
   -- a walk of names is one of members, as long
@@ -300,26 +265,4 @@ module _ {A B : Type 0} (linked : A → A → Bool) (joined : B → B → Bool) 
               (λ x among. (let (y, is_y, there) = Among-of_names name ring x among in (y, is_y, there, member y there)))
               written,
         );
-      }
-
-  -- so is the loop of a block
-  pub LoopOfBlock-renamed : (b a : A) (loop : List A) → IsLoopOfBlockBy Before linked b a loop → IsLoopOfBlockBy Earlier joined (name b) (name a) (map name loop)
-  LoopOfBlock-renamed b a loop named =
-      let pinch = named.first.pinch in
-      let member : (y : A) → Among y (b ∷ a ∷ named.rest) → (z : A) × IsTrue (linked y z) =
-      λ y among.
-      elim among [
-        | inl same ↦ (a, link_from linked b y a (sym same) pinch.one)
-        | inr on ↦ walk_owns linked joined name back renaming simple Before Earlier keeps a named.rest named.other named.walk.walk b (simple.both_ways b a pinch.one) y on
-      ] in
-      record {
-        other = name named.other;
-        rest = map name named.rest;
-        first = FirstInBlock-renamed b a named.other named.first;
-        walk = FirstWalk-renamed b a named.other pinch.one pinch.other named.rest named.walk;
-        written = IsWritten-renamed linked joined name back renaming simple Before Earlier keeps (b ∷ a ∷ named.rest) loop named.cycle
-            (λ x among. (let (y, is_y, there) = Among-of_names name (b ∷ a ∷ named.rest) x among in (y, is_y, there, member y there)))
-            named.written;
-        cycle = IsCycle-renamed linked joined name back renaming simple Before Earlier keeps loop named.cycle;
-        unlinked = HasUnlinked-renamed linked joined name back renaming simple Before Earlier keeps loop named.cycle named.unlinked;
       }

@@ -48,6 +48,10 @@ OnOneSide block top b a c = ((top a ≡ b) × (top c ≡ b) × (block a ≡ bloc
 abbrev pub IsInFull : (ℕ → ℕ) → (ℕ → ℕ) → (ℕ → Bool) → ℕ → ℕ → Type 0
 IsInFull block top full b a = ((top a ≡ b) × IsTrue (full (block a))) ⊎ ((top a ≢ b) × IsTrue (full (block b)))
 
+-- the number of the block of a link, from b to a
+abbrev pub IsBlockOfLink : (ℕ → ℕ) → (ℕ → ℕ) → ℕ → ℕ → ℕ → Type 0
+IsBlockOfLink block top b a k = ((top a ≡ b) × (k ≡ block a)) ⊎ ((top a ≢ b) × (k ≡ block b))
+
 -- the last of the members of block k before this one, where there is one
 abbrev pub IsLastBefore : (ℕ → ℕ) → ℕ → ℕ → Option ℕ → Type 0
 IsLastBefore block k before None = (y : ℕ) → y < before → block y ≢ k

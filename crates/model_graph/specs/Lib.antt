@@ -13,4 +13,3 @@ pub mod Family
 pub mod Renaming
 pub mod Forest
 pub mod Blocks
-pub mod BlockLoops

@@ -1,8 +1,9 @@
 //! The blocks of a graph's members.
 
-ghost use Rattle.std.specs.Prelude.{◌≡◌, ℕ, ◌↔◌, IsTrue, slice_index_or};
-ghost use Rattle.model_graph.specs.Blocks.{block_of, top_of, rank_of, full_of, InOneBlock, OnOneSide, IsInFull};
-ghost use Rattle.model_graph.specs.BlockLoops.{IsBlockOfLink};
+ghost use Rattle.std.specs.Prelude.{◌≡◌, ℕ, ◌↔◌, None, IfOk, IsTrue, slice_index_or};
+ghost use Rattle.model_graph.specs.Blocks.{block_of, top_of, rank_of, full_of, InOneBlock, IsBlockOfLink, IsInFull, LastMembers, OnOneSide};
+
+use std::alloc::{AllocError, Global};
 
 /// A block and its top for each member. A link joins two members of one block, or the top of a block
 /// with a member of it.
@@ -85,6 +86,33 @@ impl Blocks {
         let below = if self.top(one) == at { one } else { at };
         self.block(below)
     }
+}
+
+/// The members of blocks, as lists from the last one back. It skips blocks with a number that is no member's.
+#[derive(Drop)]
+pub struct BlockLists {
+    /// The last member before each one in its block.
+    pub previous: Vec<Option<usize>>,
+    /// By block number, its last member.
+    pub last: Vec<Option<usize>>,
+}
+
+/// The members of each block.
+pub fn block_lists(alloc: Global, members: usize, blocks: &Blocks) -> Result<BlockLists, AllocError>
+    ensures { IfOk result (λ lists. LastMembers (block_of blocks.now) members members lists.previous.items lists.last.items) }
+{
+    let mut previous = Vec::new(alloc);
+    let mut last = vec![in alloc; None; members]?;
+    'members: for member in 0..members {
+        let block = blocks.block(member);
+        if block < members {
+            previous.push(last[block])?;
+            last[block] = Some(member);
+        } else {
+            previous.push(None)?;
+        }
+    }
+    Ok(BlockLists { previous, last })
 }
 
 /// The value at this index, or the other one past the end.

@@ -1,5 +1,5 @@
-//! A search in depth, and the blocks that it finds. The search itself is not proved: `division` and `wholeness` test its
-//! results before use, so no answer depends on it.
+//! A search in depth, and the blocks that it finds. The search itself is not proved: `division`, and `wholeness` of model_blocks,
+//! test its results before use, so no answer depends on it.
 
 use crate::blocks::{Blocks, value_or};
 use crate::graph::Graph;

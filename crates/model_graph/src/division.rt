@@ -12,7 +12,7 @@ use std::alloc::{AllocError, Global};
 
 /// The blocks of the graph. Where those that the search in depth found fail the test, all members are
 /// put into one block.
-pub fn blocks(alloc: Global, graph: &Graph) -> Result<Blocks, AllocError>
+pub fn blocks_of(alloc: Global, graph: &Graph) -> Result<Blocks, AllocError>
     ensures blocks { IfOk result (λ blocks. AreBlocks (linked graph.now) (length graph.now) (block_of blocks) (top_of blocks) (rank_of blocks)) }
     ensures full { IfOk result (λ blocks. AreFull (linked graph.now) (length graph.now) (block_of blocks) (top_of blocks) (full_of blocks)) }
 {

@@ -4,9 +4,8 @@ ghost use Rattle.std.specs.Prelude.{◌≡◌, ◌<◌, ℕ, false, IfOk, IsTrue
 ghost use Rattle.model_graph.specs.Rows.{linked, IsGraph};
 ghost use Rattle.model_graph.specs.Blocks.{block_of, top_of, AreFull, IsLastBefore, IsFullyLinked};
 
-use crate::blocks::Blocks;
+use crate::blocks::{Blocks, block_lists};
 use crate::graph::Graph;
-use crate::in_block::block_lists;
 use std::alloc::{AllocError, Global};
 
 /// Which blocks, by number, are full. Takes for each full block the square of its members, and for

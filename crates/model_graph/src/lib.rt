@@ -3,8 +3,7 @@
 //! Promise, for graphs of members 0, 1, 2 and so on: `unreached` answers the first member that no
 //! walk reaches, or that a walk joins any two. `other_parts` answers where the other parts begin.
 //! `loop_of` answers a cycle with two members that are not linked, or that there is none.
-//! `loops_of_blocks` answers such a cycle of each block; two links are in one block if no member
-//! parts them. `laws` says what this gives. Every cycle is fully linked exactly where a member parts
+//! `laws` says what this gives. Every cycle is fully linked exactly where a member parts
 //! any two of its links that are not linked with each other. In such a graph each member has one way
 //! to any other.
 //!
@@ -13,13 +12,11 @@
 //! the quick test for cycles. `pinching` finds the first bad place by `blocks`; `depth` finds these,
 //! `division` and `fullness` test them. `ring` and `writing` give its cycle.
 //!
-//! `block_loops` takes the cycle of each block from `by_block`: `in_block` and `subgraph` make a graph
-//! of the block alone, and `wholeness` tests, by the numbers of `numbering`, that no member parts it. If
-//! that is not known, `by_pairs` compares pinches with each other.
+//! The other public functions are the parts of these searches; model_blocks uses them.
 //!
 //! Of specs/ read `Walk` (walks and graphs), `Cycle`, `Beyond` (members on every walk), `Family`
 //! (what a search by levels gives) and `Renaming`. Then read `Rows` (a graph as rows of links),
-//! `Reach`, `Loops` and `BlockLoops` (the answers). The lemmas in proofs/ on walks, cycles and families hold
+//! `Reach` and `Loops` (the answers). The lemmas in proofs/ on walks, cycles and families hold
 //! for any type with a decided equality.
 //!
 //! A caller, with the rows of members 0, 1 and so on, each an ascending list of links:
@@ -33,35 +30,34 @@
 //! ```
 #![tactic(auto)]
 
-mod block_loops;
 mod blocks;
-mod by_block;
-mod by_pairs;
 mod depth;
 mod division;
 mod forest;
 mod fullness;
 mod graph;
-mod in_block;
 mod kin;
 mod laws;
 mod levels;
-mod numbering;
 mod pinching;
 mod polygons;
 mod reach;
 mod ring;
 mod sound;
-mod subgraph;
-mod wholeness;
 mod writing;
 
-pub use block_loops::{BlockLoop, loops_of_blocks};
+pub use blocks::{BlockLists, Blocks, block_lists, value_or};
+pub use depth::{Search, put, search_in_depth};
+pub use division::blocks_of;
 pub use graph::{Graph, Links};
 pub use laws::{
     along_ways, cycle_written_anew, family_of_levels, first_step, further_out, one_way,
     other_names, polygons_where_parted,
 };
+pub use levels::levels_around;
+pub use pinching::{Pinch, first_other, first_pinch};
 pub use polygons::loop_of;
 pub use reach::{other_parts, unreached};
+pub use ring::ring_of;
 pub use sound::is_graph;
+pub use writing::written;

@@ -7,7 +7,7 @@ ghost use Rattle.model_graph.specs.Pinches.{IsPinch, FirstPinch, FirstOther, Fir
 ghost use Rattle.model_graph.specs.Blocks.{block_of, top_of, rank_of, full_of, AreBlocks, AreFull, HasUnlinkedAfter, IsCovered};
 
 use crate::blocks::Blocks;
-use crate::division::blocks;
+use crate::division::blocks_of;
 use crate::graph::Graph;
 use crate::levels::levels_around;
 use std::alloc::{AllocError, Global};
@@ -35,7 +35,7 @@ pub fn first_pinch(alloc: Global, graph: &Graph) -> Result<Option<Pinch>, AllocE
         (λ pinch. FirstPinch (linked graph.now) pinch.at pinch.one pinch.other)) }
 {
     let members = graph.len();
-    let blocks = blocks(alloc, graph)?;
+    let blocks = blocks_of(alloc, graph)?;
     'members: for at in 0..members {
         if let Some(pinch) = first_pinch_at(alloc, graph, &blocks, at)? {
             return Ok(Some(pinch));

@@ -6,3 +6,4 @@ pub mod Copies
 pub mod Encoding
 pub mod Kept
 pub mod Purged
+pub mod Dates

@@ -2,17 +2,17 @@
 //!
 //! Promise: `PostStep`, `TossStep`, `ScanStep` and `PurgeStep` of specs/. Each keeps the rules of a base.
 //!
-//! Begin with specs/Posting and specs/Tossing. `stamp` and `draft` are posted, `outcome` is the result of a
-//! tossed message, a scan makes a `packet` and writes it as `packet_file`. specs/Resending has the packets that are
+//! Begin with specs/Posting and specs/Tossing. `stamp` and `draft` are posted, `moment` checks and writes a stamp.
+//! `outcome` is the result of a tossed message, a scan makes a `packet`. specs/Resending has the packets that are
 //! made again. `fault` lists the refusals, `laws` states the promise.
 #![tactic(auto)]
 
 mod draft;
 mod fault;
 mod laws;
+mod moment;
 mod outcome;
 mod packet;
-mod packet_file;
 mod stamp;
 
 pub use draft::Draft;
@@ -20,7 +20,7 @@ pub use fault::{PostFault, ScanFault};
 pub use laws::{
     base_laws, copy_laws, posting_laws, posting_refusals, scan_law, toss_law, toss_outcomes,
 };
+pub use moment::{date_of, is_stamp};
 pub use outcome::Outcome;
-pub use packet::Packet;
-pub use packet_file::PacketFile;
+pub use packet::{Packet, message_size};
 pub use stamp::Stamp;

@@ -25,8 +25,8 @@ fn size_beside(header: Header) -> usize
 // The bytes of a message beside its strings, the 00 after each among them.
 const FIXED: usize = 38;
 
-// How many bytes a message has.
-fn message_size(copy: &PackedCopy) -> usize
+/// How many bytes a message has.
+pub fn message_size(copy: &PackedCopy) -> usize
     ensures { result ≡ length (message_bytes copy.now) }
 {
     let message = copy.message();

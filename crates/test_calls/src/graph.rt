@@ -3,11 +3,13 @@ use std::alloc::{AllocError, Global};
 use std::process::Abort;
 use std::test::Fail;
 
-fn link_all(
+/// The graph with these links, each named once.
+fn graph_of(
+    rt: &impl Abort,
     alloc: Global,
     members: usize,
     links: &[(usize, usize)],
-) -> Result<Vec<Links>, AllocError> {
+) -> Result<Graph, AllocError> {
     let mut rows = Vec::new(alloc);
     for member in 0..members {
         let mut row = Vec::new(alloc);
@@ -18,17 +20,6 @@ fn link_all(
         }
         rows.push(Links::new(row))?;
     }
-    Ok(rows)
-}
-
-/// The graph with these links, each named once.
-fn graph_of(
-    rt: &impl Abort,
-    alloc: Global,
-    members: usize,
-    links: &[(usize, usize)],
-) -> Result<Graph, AllocError> {
-    let rows = link_all(alloc, members, links)?;
     assert!(rt; is_graph(&rows));
     Ok(Graph::new(rows))
 }

@@ -21,26 +21,17 @@ fn a_refused_post(rt: HostRuntime) -> Result<(), Fail> {
     Ok(())
 }
 
-// Whether a scan that is refused leaves all waiting, and a second one takes it.
-fn scans_again(alpha: &mut System) -> Result<bool, ScanFault> {
-    if alpha.scan(STAMP).is_ok() {
-        return Ok(true);
+// A refused scan leaves all waiting, and a second one takes it. A resend and a purge that are refused change nothing.
+#[test]
+fn a_refused_scan(rt: HostRuntime) -> Result<(), Fail> {
+    let mut alpha = ready(rt.alloc(), ALPHA)?;
+    if post(rt.alloc(), &mut alpha, 1).is_err() {
+        post(rt.alloc(), &mut alpha, 1)?;
     }
-    let waited = alpha.waiting();
-    let packets = alpha.scan(STAMP)?;
-    Ok(waited == 1 && packets.len() == 1)
-}
-
-// Whether a refused purge changes nothing, and a second one changes it.
-fn purges_again(alpha: &mut System) -> Result<bool, AllocError> {
-    match alpha.purge() {
-        Ok(count) => Ok(count == 1),
-        Err(AllocError) => Ok(alpha.purge()? == 1),
+    if alpha.scan(STAMP).is_err() {
+        assert_eq!(rt; alpha.waiting(), 1);
+        assert_eq!(rt; alpha.scan(STAMP)?.len(), 1);
     }
-}
-
-// Whether a second call makes the packet again, where the first one is refused.
-fn resends_again(alpha: &mut System) -> Result<bool, ScanFault> {
     let asked = Resend {
         area: b"TEST",
         to: BETA_ADDRESS,
@@ -51,21 +42,12 @@ fn resends_again(alpha: &mut System) -> Result<bool, ScanFault> {
         Ok(packet) => packet,
         Err(_) => alpha.resend(asked)?,
     };
-    Ok(packet.messages.len() == 1)
-}
-
-#[test]
-fn a_refused_scan(rt: HostRuntime) -> Result<(), Fail> {
-    let mut alpha = ready(rt.alloc(), ALPHA)?;
-    if post(rt.alloc(), &mut alpha, 1).is_err() {
-        post(rt.alloc(), &mut alpha, 1)?;
-    }
-    let scanned = scans_again(&mut alpha)?;
-    assert!(rt; scanned);
-    let resent = resends_again(&mut alpha)?;
-    assert!(rt; resent);
-    let purged = purges_again(&mut alpha)?;
-    assert!(rt; purged);
+    assert_eq!(rt; packet.messages.len(), 1);
+    let purged = match alpha.purge() {
+        Ok(count) => count,
+        Err(AllocError) => alpha.purge()?,
+    };
+    assert_eq!(rt; purged, 1);
     Ok(())
 }
 
@@ -85,22 +67,8 @@ fn counted(beta: &mut System, packet: &[u8]) -> Option<Tally> {
     }
 }
 
-// Whether a packet of two messages is filed once though it is tossed three times, one of which may be refused
-// memory. A later toss knows the filed messages.
-fn tosses_again(beta: &mut System, packet: &[u8]) -> bool {
-    let Some(first) = counted(beta, packet) else {
-        return false;
-    };
-    let Some(second) = counted(beta, packet) else {
-        return false;
-    };
-    let Some(third) = counted(beta, packet) else {
-        return false;
-    };
-    let whole = beta.filed() == 2 && first.filed.wrapping_add(second.filed) == 2;
-    whole && (second.known == first.filed || third.known == 2)
-}
-
+// A packet of two messages is filed once though it is tossed three times, one of which may be refused memory. A later
+// toss knows the filed messages.
 #[test]
 fn a_refused_toss(rt: HostRuntime) -> Result<(), Fail> {
     let packet = match two(rt.alloc()) {
@@ -108,6 +76,11 @@ fn a_refused_toss(rt: HostRuntime) -> Result<(), Fail> {
         None => two(rt.alloc()).ok_or(AllocError)?,
     };
     let mut beta = ready(rt.alloc(), BETA)?;
-    assert!(rt; tosses_again(&mut beta, &packet));
+    let first = counted(&mut beta, &packet).ok_or("a first toss")?;
+    let second = counted(&mut beta, &packet).ok_or("a second toss")?;
+    let third = counted(&mut beta, &packet).ok_or("a third toss")?;
+    assert_eq!(rt; beta.filed(), 2);
+    assert_eq!(rt; first.filed.wrapping_add(second.filed), 2);
+    assert!(rt; second.known == first.filed || third.known == 2);
     Ok(())
 }

@@ -3,8 +3,8 @@ use Rattle.std.specs.Prelude.{Contains}
 use Rattle.std.specs.List.{All}
 use Rattle.std.proofs.lemmas.Result.{on_ok_weaker}
 use Rattle.echo_addr.specs.declared.address.Address.{Address}
-use Rattle.model_graph.specs.declared.block_loops.BlockLoop.{BlockLoop}
-use Rattle.model_graph.specs.BlockLoops.{AreBlockLoops}
+use Rattle.model_blocks.specs.declared.block_loops.BlockLoop.{BlockLoop}
+use Rattle.model_blocks.specs.BlockLoops.{AreBlockLoops}
 use Rattle.model_run.specs.Tidy.{lists}
 use Rattle.echo_net.specs.declared.verdict.NetFault.{NetFault}
 use Rattle.echo_net.specs.AllFaults.{loop_fault, round_of}

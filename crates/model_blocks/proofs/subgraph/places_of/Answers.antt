@@ -1,0 +1,41 @@
+use Rattle.std.proofs.Common.{◌≡◌, ◌+◌, ◌<◌, ◌≤◌, ◌∙◌, ℕ, List, Ok, Err, Result, MatchResult, ap, arith, get_or, length, refl, subst, sym, inl, inr}
+use Rattle.std.proofs.lemmas.Bool.{cases_lt}
+use Rattle.std.proofs.lemmas.List.Sorted.{searched}
+use Rattle.model_blocks.proofs.Places.{PlacesOf, PlacesOf-done, PlacesOf-passed, PlacesOf-pushed}
+use Rattle.model_graph.proofs.Rows.{rising}
+use Rattle.model_blocks.proofs.subgraph.places_of.Goals as goal
+use Rattle.model_blocks.proofs.subgraph.places_of.Goals.{in-Ok+in_ok-push, in_default}
+
+abbrev Told : List ℕ → ℕ → Result ℕ ℕ → Type 0
+Told row x r = MatchResult r (λ i. (i < length row) × (get_or row i 0 ≡ x)) (λ i. (i ≤ length row) × ((k : ℕ) → k < i → get_or row k 0 < x) × ((k : ℕ) → i ≤ k → k < length row → x < get_or row k 0))
+
+at_place : (row : List ℕ) (x : ℕ) (r : Result ℕ ℕ) → Told row x r → (place : ℕ) → r ≡ Ok place → (place < length row) × (get_or row place 0 ≡ x)
+at_place row x r told place is = subst (Told row x) is told
+
+at_none : (row : List ℕ) (x : ℕ) (r : Result ℕ ℕ) → Told row x r → ((place : ℕ) → r ≡ Ok place → ⊥) → (j : ℕ) → j < length row → get_or row j 0 ≡ x → ⊥
+at_none row x (Ok place) told none j lt is = none place refl
+at_none row x (Err place) told none j lt is =
+    elim (cases_lt j place) [
+      | inl before ↦ omega (arith, told.1 j before, is)
+      | inr past ↦ omega (arith, told.2 j past lt, is)
+    ]
+
+pub links-preserved : goal.links-preserved
+links-preserved c =
+    let names : List ℕ = c.args.names.now in
+    let links : List ℕ = c.args.links.now in
+    let i : ℕ = c.links.link-index in
+    let told = searched names (get_or links i 0) c.binary_search.result c.binary_search.ensures.position (rising names c.requires.names) in
+    elim c.match-binary_search.branch [
+      | in-Ok+in_ok-push w ↦
+          let (lt, is) = at_place names (get_or links i 0) c.binary_search.result told w.in-Ok.place w.in-Ok.is in
+          subst (PlacesOf names links (i + 1)) (sym (ap (λ v. v.items) w.places-is ∙ w.in_ok-push.ensures.items))
+          (PlacesOf-pushed names links c.requires.names c.requires.links i c.links.places.items c.links-test.true c.links.invariant w.in-Ok.place lt is)
+      | in_default w ↦
+          subst (PlacesOf names links (i + 1)) (sym (ap (λ v. v.items) w.places-is))
+          (PlacesOf-passed names links c.requires.names c.requires.links i c.links.places.items c.links-test.true c.links.invariant
+          (at_none names (get_or links i 0) c.binary_search.result told w.in_default.not-Ok))
+    ]
+
+pub returns-clause-members : goal.returns-clause-members
+returns-clause-members c = PlacesOf-done c.args.names.now c.args.links.now c.links.places.items c.links.link-index c.links-test.false c.links.invariant

@@ -1,5 +1,0 @@
-use Rattle.model_graph.specs.Blocks.{block_of, LastMembers}
-use Rattle.model_graph.proofs.in_block.block_lists.Given as goal
-
-abbrev pub invariant-members : goal.invariant-members
-invariant-members l = LastMembers (block_of l.blocks) l.members l.member l.previous.items l.last.items
