@@ -20,6 +20,14 @@ answers_error P Q e (Err error.Memory) same was = tt
 answers_error P Q e (Err error.Device) same was = tt
 answers_error P Q e (Err error.TooMany) same was = tt
 
+-- what an answer gives
+pub answers_give : {T : Type 0} (P Q : T → Type 0) → ((x : T) → P x → Q x) → (r : Result T StoreError) → Answers P r → Answers Q r
+answers_give P Q gives (Ok x) was = gives x was
+answers_give P Q gives (Err error.Damaged) was = absurd was
+answers_give P Q gives (Err error.Memory) was = tt
+answers_give P Q gives (Err error.Device) was = tt
+answers_give P Q gives (Err error.TooMany) was = tt
+
 -- and where one that is no damage was handed on
 pub answers_whole : {T U : Type 0} (Q : U → Type 0) (e : StoreError) (r : Result U StoreError) → IsErrAnd r (λ x. x ≡ e) → (IsErrOf {T = T} (Err e) error.Damaged → ⊥) → Answers Q r
 answers_whole Q e (Ok x) same none = absurd same

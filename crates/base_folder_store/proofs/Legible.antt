@@ -10,6 +10,7 @@ use Rattle.base_log.specs.Standing.{BaseBytes, base_at}
 use Rattle.base_log.specs.declared.log.CommitRecord.{CommitRecord}
 use Rattle.base_log.specs.declared.log.End.{End}
 use Rattle.base_log.proofs.Quiet.{base_quiet}
+use Rattle.base_folder_store.specs.Added.{next_place}
 use Rattle.base_folder_store.specs.Opened.{IsLegible, IsOpen, and_waiting, held_by, path_of}
 use Rattle.base_folder_store.specs.declared.folder.Folder.{Folder}
 
@@ -53,3 +54,10 @@ keys_all d f legible =
     let all : length (held_by d f).keys ≡ length (base_at d (path_of f) f.told).keys + length f.waiting.keys.items = length-append (base_at d (path_of f) f.told).keys f.waiting.keys.items in
     let sum = legible.keys in
     omega (arith, written, all, sum)
+
+-- and so many the messages
+pub messages_all : (d : DiskState) (f : Folder) → IsLegible d f → length (held_by d f).messages ≡ next_place f
+messages_all d f legible =
+    let written : length (base_at d (path_of f) f.told).messages ≡ f.told.messages = length-take-le f.told.messages (bytes_in (d.seen (messages_of (path_of f) f.told.number))) legible.messages_long in
+    let all : length (held_by d f).messages ≡ length (base_at d (path_of f) f.told).messages + length f.waiting.messages.items = length-append (base_at d (path_of f) f.told).messages f.waiting.messages.items in
+    omega (arith, written, all)

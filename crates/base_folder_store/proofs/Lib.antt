@@ -2,6 +2,7 @@ pub mod Bases
 mod Beside
 pub mod Causes
 pub mod Claimed
+mod Fits
 mod Indexed
 pub mod Legible
 pub mod Looked
@@ -10,6 +11,7 @@ mod OneMore
 mod Plain
 pub mod Runs
 pub mod Seen
+mod Shorter
 mod Single
 pub mod Staged
 mod Stated

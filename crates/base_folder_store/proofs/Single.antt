@@ -48,7 +48,7 @@ stands_alone s cursor most h =
 same_one : (a b : Filed) (xs : List Filed) → a ∷ [] ≡ b ∷ xs → a ≡ b
 same_one a b xs is = ap (λ (l : List Filed). get_or l 0 a) is
 
-head_long : (cursor number : ℕ) (rest : List ℕ) → drop 16 (head_bytes Second cursor number ++ rest) ≡ rest
+pub head_long : (cursor number : ℕ) (rest : List ℕ) → drop 16 (head_bytes Second cursor number ++ rest) ≡ rest
 unfolding head_bytes
 head_long cursor number rest = drop_at (head_bytes Second cursor number) rest 16 refl
 

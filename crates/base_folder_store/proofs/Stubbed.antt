@@ -2,7 +2,7 @@
 use Rattle.std.proofs.Common.{◌≡◌, ◌<◌, ◌≤◌, ◌+◌, ◌^◌, ℕ, zero, suc, not, nat_lt, ◌&&◌, Bool, true, false, List, [], ◌∷◌, ◌++◌, length, map, take, drop, get_or, refl, sym, ap, subst, ◌∙◌, arith, count_by, append_assoc, lit<, if◌then◌else◌}
 use Rattle.std.specs.List.{AllByRecursion}
 use Rattle.std.proofs.lemmas.Bool.{ltb-false, ltb-true}
-use Rattle.std.proofs.lemmas.List.{append-nil, get_or-take, length-append, length-drop, length-map, length-take, take_all, take_more}
+use Rattle.std.proofs.lemmas.List.{append-nil, get_or-take, length-append, length-drop, length-map, length-take, length-take-le, take_all, take_more}
 use Rattle.std.proofs.lemmas.List.Sums.{count_by_more_no, count_by_more_yes}
 use Rattle.echo_filed.specs.Filed.{Filed, IsFiled, key_of}
 use Rattle.echo_filed.specs.Stubs.{is_stub, stub_of}
@@ -64,6 +64,10 @@ as_many base =
       length-take base.cursor base.messages,
       length-drop base.cursor base.messages,
     )
+
+-- so many are the first ones
+pub first_many : (base : Base) (place : ℕ) → place < length base.messages → length (first_left base place).messages ≡ place
+first_many base place within = length-take-le place (purged base).messages (omega (arith, as_many base, within))
 
 -- what is left of a message has its digest
 same_digested : (scanned : Bool) (m : Filed) → digested (left_if scanned m) ≡ digested m

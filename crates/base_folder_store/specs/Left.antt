@@ -1,18 +1,23 @@
 -- What a purge leaves of a base folder, message by message.
-use Rattle.std.specs.Prelude.{◌≡◌, ◌≢◌, ◌≤◌, ℕ, ◌+◌, Bool, true, false, not, if◌then◌else◌, List, length, take, count_by, None, Result, IsErrOf}
+use Rattle.std.specs.Prelude.{◌≡◌, ◌≢◌, ◌≤◌, ◌<◌, ◌^◌, ℕ, Bool, true, false, not, ◌&&◌, List, length, take, count_by, None, Result, IsErrOf}
 use Rattle.disk_io.specs.Device.{Failed}
 use Rattle.disk_io.specs.Disk.{DiskState, Honestly}
 use Rattle.base_file.specs.Base.{Base}
 use Rattle.echo_filed.specs.Filed.{Filed}
+use Rattle.echo_filed.specs.Stored.{Stored, message_in, stored_bytes}
+use Rattle.echo_filed.specs.declared.stored.Version.TheVariants.{Second}
 use Rattle.echo_filed.specs.Stubs.{is_stub, stub_of}
 use Rattle.base_log.specs.Names.{keys_of, messages_of}
 use Rattle.base_log.specs.Standing.{BaseBytes}
+use Rattle.base_store.specs.Keys.{place_at}
 use Rattle.base_store.specs.Store.{purged}
 use Rattle.base_store.specs.declared.store_error.StoreError.{StoreError}
 use Rattle.base_store.specs.declared.store_error.StoreError.TheVariants as error
+use Rattle.base_folder_store.specs.Added.{IsStoredAlone, next_place, with_stored}
 use Rattle.base_folder_store.specs.Held.{HoldsBase}
-use Rattle.base_folder_store.specs.Opened.{IsLegible, IsNamed, IsWritten, path_of}
+use Rattle.base_folder_store.specs.Opened.{IsLegible, IsNamed, IsOpen, IsWritten, committed_by, held_by, path_of}
 use Rattle.base_folder_store.specs.declared.folder.Folder.{Folder}
+use Rattle.base_folder_store.specs.declared.leaving.Left.{Left}
 
 -- A message that was scanned becomes its stub, another stays.
 abbrev pub left_if : Bool → Filed → Filed
@@ -46,15 +51,28 @@ pub record ArePaired (disk : DiskState) (folder next : Folder) : Type 0 where
   pub beside : IsBesideIn folder next
   pub named : IsNamed next
 
--- What a purge leaves of one message more is held, and it says whether that changed it.
-pub record LeavesOneMore (keyed : ℕ → ℕ → List ℕ → ℕ) (base : Base) (place : ℕ) (old new : BaseBytes) (one : Bool) : Type 0 where
-  pub left : HoldsBase keyed old (first_left base place) → HoldsBase keyed new (first_left base (place + 1))
-  pub changed : changed_in base (place + 1) ≡ changed_in base place + (if one then 1 else 0)
+-- The bytes are what a purge leaves of a stored message, and are no more than it had. It is reported whether that is another message.
+pub record IsLeftOf (scanned : Bool) (s : Stored) (left : Left) : Type 0 where
+  pub stored : IsStoredAlone (left_if scanned (message_in Second s)) left.bytes.items
+  pub shorter : length left.bytes.items ≤ length (stored_bytes Second s)
+  pub changed : left.changed ≡ (scanned && not (is_stub (message_in Second s)))
 
--- What a purge leaves of all messages is held, and so many changed.
-pub record LeavesAll (keyed : ℕ → ℕ → List ℕ → ℕ) (base : Base) (new : BaseBytes) (count : ℕ) : Type 0 where
-  pub left : HoldsBase keyed new (first_left base (length base.messages))
-  pub changed : count ≡ changed_in base (length base.messages)
+-- What a purge leaves of the first messages of a base is held, and has no more bytes than they had.
+pub record HoldsLeft (keyed : ℕ → ℕ → List ℕ → ℕ) (base : Base) (was : BaseBytes) (place : ℕ) (held : BaseBytes) : Type 0 where
+  pub left : HoldsBase keyed held (first_left base place)
+  pub shorter : place < length base.messages → length held.messages ≤ place_at was.keys place
+
+-- The folder is purged up to the message of this number: the other one holds what is left of those before it. Eight bytes count the messages.
+pub record IsPurgedTo (disk : DiskState) (folder next : Folder) (place : ℕ) : Type 0 where
+  pub paired : ArePaired disk folder next
+  pub opened : Honestly disk (IsOpen disk next)
+  pub few : next_place folder < 2 ^ 64
+  pub left : Honestly disk ((keyed : ℕ → ℕ → List ℕ → ℕ) (base : Base) → HoldsBase keyed (committed_by disk next) base → HoldsLeft keyed base (committed_by disk next) place (held_by disk next))
+
+-- One message more is held, and eight bytes still count the messages.
+pub record IsStagedFew (before after : DiskState) (old new : Folder) (bytes : List ℕ) (digest : ℕ) : Type 0 where
+  pub staged : held_by after new ≡ with_stored (held_by before old) bytes digest
+  pub fits : length (held_by after new).messages < 2 ^ 64
 
 -- A failure of the device is answered only where its count of failures rose. On an honest disk, damage is answered only where these bytes hold no base.
 pub record HasPurgeCause {T : Type 0} (disk : DiskState) (bytes : BaseBytes) (before now : ℕ) (result : Result T StoreError) : Type 0 where

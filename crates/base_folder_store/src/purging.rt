@@ -1,18 +1,20 @@
 //! A purge: what it leaves of each message is staged in files of another number, which the next commit names.
-ghost use Rattle.std.specs.Prelude.{◌≡◌, ◌≢◌, ◌<◌, ◌/◌, ℕ, List, [], not, take, count_by, IfOk, OnOk, if◌then◌else◌};
+ghost use Rattle.std.specs.Prelude.{◌≡◌, ◌≢◌, ◌<◌, ◌+◌, ◌/◌, ◌^◌, ℕ, List, [], length, not, take, count_by, IfOk, IsErrOf, OnOk, if◌then◌else◌};
 ghost use Rattle.disk_io.specs.Disk.{Honestly};
 ghost use Rattle.base_file.specs.Base.{Base};
 ghost use Rattle.echo_filed.specs.Stubs.{is_stub};
 ghost use Rattle.base_log.specs.AtRest.{IsAtRest};
 ghost use Rattle.base_store.specs.Store.{purged};
-ghost use Rattle.base_folder_store.specs.Calls.{CommitsOnly, HasWriteCause, StagesOnly};
+ghost use Rattle.base_folder_store.specs.Added.{IsFull, LacksRoom};
+ghost use Rattle.base_folder_store.specs.Answers.{HasReadCause};
+ghost use Rattle.base_folder_store.specs.Calls.{CommitsOnly, HasWriteCause, StagesOnly, StaysInFiles, StaysOpen};
 ghost use Rattle.base_folder_store.specs.Held.{HoldsBase};
-ghost use Rattle.base_folder_store.specs.Left.{ArePaired, HasPurgeCause, IsReadable, LeavesAll, LeavesOneMore};
-ghost use Rattle.base_folder_store.specs.Opened.{IsNamed, IsOpen, committed_by, held_by, path_of};
+ghost use Rattle.base_folder_store.specs.Left.{ArePaired, HasPurgeCause, IsPurgedTo, IsReadable, IsStagedFew, changed_in};
+ghost use Rattle.base_folder_store.specs.Opened.{IsOpen, committed_by, held_by, path_of};
 ghost use Rattle.base_folder_store.specs.State.{IsUsable};
 
 use crate::folder::Folder;
-use crate::leaving::{HEAD, left_of};
+use crate::leaving::left_of;
 use crate::waiting::Waiting;
 use base_log::{Names, stage_anew};
 use base_store::StoreError;
@@ -34,6 +36,13 @@ fn one_if(so: bool) -> u64
     u64::from(so)
 }
 
+// Does nothing: its contract is for the prover, and holds for each number.
+fn is_counted(number: usize)
+    ensures { number < 2 ^ 64 }
+{
+    let _number = number;
+}
+
 impl Folder {
     // The folder with no message, in files of another number.
     fn anew<D: Disk>(&self, alloc: Global, disk: &mut D) -> Result<Folder, StoreError>
@@ -45,6 +54,7 @@ impl Folder {
         ensures committed { Honestly (D.state disk.new) (IfOk result (λ next. committed_by (D.state disk.new) next ≡ committed_by (D.state disk.old) self.now)) }
         ensures run { StagesOnly (path_of self.now) (committed_by (D.state disk.old) self.now) (D.state disk.old) (D.state disk.new) }
         ensures cause { HasWriteCause (D.failures disk.old) (D.failures disk.new) result }
+        ensures few { IsErrOf result StoreError.TooMany → ⊥ }
     {
         let number = other_number(self.end.told.number);
         let names = Names::new(alloc, &self.names.folder, number)?;
@@ -68,21 +78,44 @@ impl Folder {
         place: usize,
     ) -> Result<bool, StoreError>
         requires within { place < self.now.keys / 16 }
-        requires paired { ArePaired (D.state disk.old) self.now next.old }
-        requires opened { Honestly (D.state disk.old) (IsOpen (D.state disk.old) next.old) }
-        ensures paired { ArePaired (D.state disk.new) self.now next.new }
-        ensures opened { Honestly (D.state disk.new) (OnOk result (IsOpen (D.state disk.new) next.new)) }
-        ensures left { Honestly (D.state disk.new) ((keyed : ℕ → ℕ → List ℕ → ℕ) (base : Base) → HoldsBase keyed (committed_by (D.state disk.old) next.old) base
-            → IfOk result (LeavesOneMore keyed base place (held_by (D.state disk.old) next.old) (held_by (D.state disk.new) next.new))) }
+        requires purged { IsPurgedTo (D.state disk.old) self.now next.old place }
+        ensures purged { OnOk result (IsPurgedTo (D.state disk.new) self.now next.new (place + 1)) }
+        ensures changed { Honestly (D.state disk.new) ((keyed : ℕ → ℕ → List ℕ → ℕ) (base : Base) → HoldsBase keyed (committed_by (D.state disk.old) next.old) base
+            → IfOk result (λ one. changed_in base (place + 1) ≡ changed_in base place + (if one then 1 else 0))) }
         ensures same { Honestly (D.state disk.new) (OnOk result (committed_by (D.state disk.new) next.new ≡ committed_by (D.state disk.old) next.old)) }
         ensures run { StagesOnly (path_of next.old) (committed_by (D.state disk.old) next.old) (D.state disk.old) (D.state disk.new) }
         ensures cause { HasPurgeCause (D.state disk.new) (committed_by (D.state disk.old) next.old) (D.failures disk.old) (D.failures disk.new) result }
+        ensures few { IsErrOf result StoreError.TooMany → ⊥ }
     {
-        let read = self.read_told(alloc, disk, place)?;
-        let digest = read.digest;
-        let left = left_of(alloc, read.alone, (place as u64) < self.end.told.cursor)?;
-        next.stage(disk, &left.file[HEAD..], digest)?;
+        let stored = self.stored(alloc, disk, place)?;
+        let digest = stored.digest;
+        let scanned = (place as u64) < self.end.told.cursor;
+        let left = left_of(alloc, stored.bytes, scanned)?;
+        next.stage_left(disk, &left.bytes, digest)?;
         Ok(left.changed)
+    }
+
+    // Stages what is left of a message. That is not more than there was, so too many bytes are damage.
+    fn stage_left<D: Disk>(
+        &mut self,
+        disk: &mut D,
+        bytes: &[u8],
+        digest: u64,
+    ) -> Result<(), StoreError>
+        requires { IsUsable (D.state disk.old) self.old }
+        ensures stays { StaysOpen self.old self.new (D.state disk.new) result }
+        ensures staged { Honestly (D.state disk.new) (OnOk result (IsStagedFew (D.state disk.old) (D.state disk.new) self.old self.new bytes.now digest)) }
+        ensures same { Honestly (D.state disk.new) (OnOk result (committed_by (D.state disk.new) self.new ≡ committed_by (D.state disk.old) self.old)) }
+        ensures files { StaysInFiles self.old self.new (D.state disk.old).seen (D.state disk.new).seen }
+        ensures run { StagesOnly (path_of self.old) (committed_by (D.state disk.old) self.old) (D.state disk.old) (D.state disk.new) }
+        ensures cause { HasReadCause (D.failures disk.old) (D.failures disk.new) result }
+        ensures damaged { IsErrOf result StoreError.Damaged → LacksRoom self.old (length bytes.now) }
+        ensures few { IsErrOf result StoreError.TooMany → ⊥ }
+    {
+        match self.stage(disk, bytes, digest) {
+            Err(StoreError::TooMany) => Err(StoreError::Damaged),
+            staged => staged,
+        }
     }
 
     // Stages what a purge leaves of each message, and returns how many changed.
@@ -92,16 +125,14 @@ impl Folder {
         disk: &mut D,
         next: &mut Folder,
     ) -> Result<u64, StoreError>
-        requires paired { ArePaired (D.state disk.old) self.now next.old }
-        requires opened { Honestly (D.state disk.old) (IsOpen (D.state disk.old) next.old) }
-        requires empty { held_by (D.state disk.old) next.old ≡ record { messages = []; keys = []; cursor = 0; mark = self.now.end.told.mark } }
-        ensures paired { ArePaired (D.state disk.new) self.now next.new }
-        ensures opened { Honestly (D.state disk.new) (OnOk result (IsOpen (D.state disk.new) next.new)) }
-        ensures left { Honestly (D.state disk.new) ((keyed : ℕ → ℕ → List ℕ → ℕ) (base : Base) → HoldsBase keyed (committed_by (D.state disk.old) next.old) base
-            → IfOk result (LeavesAll keyed base (held_by (D.state disk.new) next.new))) }
+        requires { IsPurgedTo (D.state disk.old) self.now next.old 0 }
+        ensures purged { OnOk result (IsPurgedTo (D.state disk.new) self.now next.new (self.now.keys / 16)) }
+        ensures changed { Honestly (D.state disk.new) ((keyed : ℕ → ℕ → List ℕ → ℕ) (base : Base) → HoldsBase keyed (committed_by (D.state disk.old) next.old) base
+            → IfOk result (λ count. count ≡ changed_in base (length base.messages))) }
         ensures same { Honestly (D.state disk.new) (OnOk result (committed_by (D.state disk.new) next.new ≡ committed_by (D.state disk.old) next.old)) }
         ensures run { StagesOnly (path_of next.old) (committed_by (D.state disk.old) next.old) (D.state disk.old) (D.state disk.new) }
         ensures cause { HasPurgeCause (D.state disk.new) (committed_by (D.state disk.old) next.old) (D.failures disk.old) (D.failures disk.new) result }
+        ensures few { IsErrOf result StoreError.TooMany → ⊥ }
     {
         let mut changed = 0u64;
         'messages: for place in 0..self.count() {
@@ -116,9 +147,7 @@ impl Folder {
     /// are known: open the folder again.
     pub fn purge<D: Disk>(&mut self, alloc: Global, disk: &mut D) -> Result<u64, StoreError>
         requires { IsUsable (D.state disk.old) self.old }
-        ensures named { IsNamed self.new }
-        ensures opened { Honestly (D.state disk.new) (OnOk result (IsOpen (D.state disk.new) self.new)) }
-        ensures path { path_of self.new ≡ path_of self.old }
+        ensures stays { StaysOpen self.old self.new (D.state disk.new) result }
         ensures purged { Honestly (D.state disk.new) ((keyed : ℕ → ℕ → List ℕ → ℕ) (base : Base) → HoldsBase keyed (held_by (D.state disk.old) self.old) base
             → OnOk result (HoldsBase keyed (held_by (D.state disk.new) self.new) (purged base))) }
         ensures count { Honestly (D.state disk.new) ((keyed : ℕ → ℕ → List ℕ → ℕ) (base : Base) → HoldsBase keyed (held_by (D.state disk.old) self.old) base
@@ -126,8 +155,10 @@ impl Folder {
         ensures committed { Honestly (D.state disk.new) (OnOk result (committed_by (D.state disk.new) self.new ≡ held_by (D.state disk.old) self.old)) }
         ensures run { CommitsOnly (path_of self.old) (committed_by (D.state disk.old) self.old) (held_by (D.state disk.old) self.old) (D.state disk.old) (D.state disk.new) }
         ensures cause { HasPurgeCause (D.state disk.new) (held_by (D.state disk.old) self.old) (D.failures disk.old) (D.failures disk.new) result }
+        ensures many { IsErrOf result StoreError.TooMany → IsFull self.old }
     {
         self.commit(disk)?;
+        is_counted(self.told.messages);
         let mut next = self.anew(alloc, disk)?;
         let changed = self.leave_all(alloc, disk, &mut next)?;
         next.told.cursor = self.end.told.cursor;

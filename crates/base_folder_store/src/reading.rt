@@ -79,13 +79,6 @@ pub(crate) struct StoredMessage {
     pub(crate) digest: u64,
 }
 
-/// A message by itself, and the digest in its entry.
-#[derive(Drop)]
-pub(crate) struct ReadMessage {
-    pub(crate) alone: Alone,
-    pub(crate) digest: u64,
-}
-
 impl Folder {
     // The entries of the messages from one number up to another.
     pub(crate) fn read_keys<D: Disk>(
@@ -171,6 +164,8 @@ impl Folder {
         requires within { place < self.now.keys / 16 }
         ensures stored { Honestly (D.state disk.new) ((base : List Filed) → StandWhereTold base (held_by (D.state disk.old) self.now).messages (held_by (D.state disk.old) self.now).keys
             → place < length base → Answers (λ stored. IsStoredOf base place stored.bytes.items) result) }
+        ensures long { Honestly (D.state disk.new) ((s : Stored) → HasBytesOf (held_by (D.state disk.old) self.now).messages (held_by (D.state disk.old) self.now).keys place s
+            → IfOk result (λ stored. length stored.bytes.items ≡ length (stored_bytes Second s))) }
         ensures digest { Honestly (D.state disk.new) (IfOk result (λ stored. stored.digest ≡ digest_at (held_by (D.state disk.old) self.now).keys place)) }
         ensures quiet { ChangesNothing (D.state disk.old) (D.state disk.new) }
         ensures cause { HasReadCause (D.failures disk.old) (D.failures disk.new) result }
@@ -180,30 +175,6 @@ impl Folder {
         let bytes = self.stored_by(alloc, disk, &entry)?;
         let digest = digest_of(&entry, 0);
         Ok(StoredMessage { bytes, digest })
-    }
-
-    // The message of this number, counted from 0, and its digest.
-    pub(crate) fn read_told<D: Disk>(
-        &self,
-        alloc: Global,
-        disk: &mut D,
-        place: usize,
-    ) -> Result<ReadMessage, StoreError>
-        requires legible { Honestly (D.state disk.old) (IsLegible (D.state disk.old) self.now) }
-        requires within { place < self.now.keys / 16 }
-        ensures read { Honestly (D.state disk.new) ((base : List Filed) → StandWhereTold base (held_by (D.state disk.old) self.now).messages (held_by (D.state disk.old) self.now).keys
-            → place < length base → Answers (λ read. IsAloneOf base place read.alone) result) }
-        ensures digest { Honestly (D.state disk.new) (IfOk result (λ read. read.digest ≡ digest_at (held_by (D.state disk.old) self.now).keys place)) }
-        ensures quiet { ChangesNothing (D.state disk.old) (D.state disk.new) }
-        ensures cause { HasReadCause (D.failures disk.old) (D.failures disk.new) result }
-        ensures many { IsErrOf result StoreError.TooMany → 2 ^ 64 ≤ next_place self.now }
-    {
-        let stored = self.stored(alloc, disk, place)?;
-        let alone = read_alone(alloc, &stored.bytes)?;
-        Ok(ReadMessage {
-            alone,
-            digest: stored.digest,
-        })
     }
 
     /// The message of this number, counted from 0.
@@ -221,7 +192,7 @@ impl Folder {
         ensures cause { HasReadCause (D.failures disk.old) (D.failures disk.new) result }
         ensures many { IsErrOf result StoreError.TooMany → 2 ^ 64 ≤ next_place self.now }
     {
-        let read = self.read_told(alloc, disk, place)?;
-        Ok(read.alone)
+        let stored = self.stored(alloc, disk, place)?;
+        read_alone(alloc, &stored.bytes)
     }
 }

@@ -114,5 +114,6 @@ pub trait PurgedStore: Store {
         ensures ready { OnOk result (Self.state self.new).is_ready }
         ensures undone { OnErr result (Undoes (Self.state self.old) (Self.state self.new)) }
         ensures either { MayCommit (Self.state self.old) (Self.state self.new) }
+        ensures many { IsErrOf result StoreError.TooMany → (Self.state self.old).is_full }
         ensures cause { HasStoreCause (Self.state self.old) (Self.state self.new) (Self.failures self.old) (Self.failures self.new) result };
 }

@@ -1,5 +1,6 @@
 -- Scans of a store.
 use Rattle.std.proofs.Common.{◌≡◌, ◌++◌, ℕ, true, List, [], ◌∷◌, drop, map, inr, Err, refl, ap, subst, ◌∙◌}
+use Rattle.std.specs.Prelude.{IsErrOf}
 use Rattle.std.specs.List.{flat_map}
 use Rattle.echo_addr.specs.declared.address.Address.{Address}
 use Rattle.echo_packet.specs.Packet.{packet_bytes}
@@ -16,6 +17,7 @@ use Rattle.model_steps.specs.Scanning.{header_to, scanned}
 use Rattle.model_steps.specs.Stamps.{is_stamp}
 use Rattle.model_steps.specs.SystemState.{SystemState}
 use Rattle.base_store.specs.Store.{HasStoreCause, StoreState}
+use Rattle.base_store.specs.declared.store_error.StoreError.TheVariants.{TooMany}
 use Rattle.echo_toss.specs.declared.counting.CountedPacket.{CountedPacket}
 use Rattle.echo_toss.specs.Counts.{bytes_for, copies_out, counted_of}
 use Rattle.echo_toss.specs.Exports.{Outgoing, packet_out, packets_out, sent_of}
@@ -36,6 +38,10 @@ pub scan_caused : (A B : Type 0) (old new : StoreState) (before now : ℕ) (why 
     → HasStoreCause old new before now (store_answer {A = B} (Err (scan_stop why)))
 scan_caused A B old new before now scan.BadStamp cause = cause
 scan_caused A B old new before now (scan.Store why) cause = cause
+
+pub scan_many : (P A B : Type 0) (why : ScanStepError) → (IsErrOf (scan_answer {T = A} (Err why)) TooMany → P) → IsErrOf (store_answer {A = B} (Err (scan_stop why))) TooMany → P
+scan_many P A B scan.BadStamp gives is = gives is
+scan_many P A B (scan.Store why) gives is = gives is
 
 -- ---- what was counted, as the packets of the scan
 

@@ -1,6 +1,7 @@
 -- A command on a store that holds too much.
 use Rattle.std.specs.Prelude.{◌≡◌, ℕ, Bool, true, false, List}
 use Rattle.base_file.specs.Base.{Base}
+use Rattle.disk_io.specs.Disk.{Honestly}
 use Rattle.base_store.specs.Store.{CommitsNothing, MayCommit, StoreState}
 use Rattle.cmd_report.specs.declared.posting.NewMessage.{NewMessage}
 use Rattle.cmd_report.specs.declared.replying.Answer.{Answer}
@@ -24,10 +25,28 @@ pub record IsStoppedFull {T : Type 0} (state : T → StoreState) (Adds : Base �
   pub past : IsPastBound state Adds old
   pub commits : CommitsNothing old new
 
--- The same. Of a command that may commit what the store held before, only that nothing else was committed.
-abbrev pub StaysTooMany : {T : Type 0} → Bool → (T → StoreState) → (Base → Filed → Type 0) → StoreState → StoreState → Type 0
-StaysTooMany false state Adds old new = IsStoppedFull state Adds old new
-StaysTooMany true state Adds old new = MayCommit old new
+-- A command may have committed what the store held. Then the store held a base that the command makes of that, and was full. It is the store of
+-- that time.
+pub record IsFullOnceHeld {T : Type 0} (state : T → StoreState) (May : Base → Base → Type 0) (old : StoreState) : Type 0 where
+  pub store : T
+  pub commits : MayCommit old (state store)
+  pub holds : Honestly (state store).disk ((base : Base) → old.keeps base → (next : Base) × May base next × (state store).keeps next)
+  pub full : (state store).is_full
+
+-- The store held too much for a command that may commit what it held before, and nothing else was committed.
+pub record IsStoppedHeld {T : Type 0} (state : T → StoreState) (May : Base → Base → Type 0) (old new : StoreState) : Type 0 where
+  pub past : IsFullOnceHeld state May old
+  pub commits : MayCommit old new
+
+-- Why the store held too much, by whether the command may commit what it held before.
+abbrev pub IsPast : {T : Type 0} → Bool → (T → StoreState) → (Base → Filed → Type 0) → (Base → Base → Type 0) → StoreState → Type 0
+IsPast false state Adds May old = IsPastBound state Adds old
+IsPast true state Adds May old = IsFullOnceHeld state May old
+
+-- The same, and what was committed.
+abbrev pub StaysTooMany : {T : Type 0} → Bool → (T → StoreState) → (Base → Filed → Type 0) → (Base → Base → Type 0) → StoreState → StoreState → Type 0
+StaysTooMany false state Adds May old new = IsStoppedFull state Adds old new
+StaysTooMany true state Adds May old new = IsStoppedHeld state May old new
 
 -- The message of these words and this draft, with some serial.
 abbrev pub AddsDraft : LinkFile → NewMessage → Draft → Base → Filed → Type 0

@@ -55,6 +55,6 @@ pub trait StoreCommand<'a> {
         ensures ready { OnOk result (T.state store.new).is_ready }
         ensures met { IfErr result (StaysWhereMet (commits_held self.old) (T.state store.old) (T.state store.new)) }
         ensures crash { MayMake (may self.old self.new links.now) (T.state store.old) (T.state store.new) }
-        ensures many { IsErrOf (store_answer result) TooMany → StaysTooMany (commits_held self.old) T.state (adds self.old links.now) (T.state store.old) (T.state store.new) }
+        ensures many { IsErrOf (store_answer result) TooMany → StaysTooMany (commits_held self.old) T.state (adds self.old links.now) (may self.old self.new links.now) (T.state store.old) (T.state store.new) }
         ensures cause { HasStoreCause (T.state store.old) (T.state store.new) (T.failures store.old) (T.failures store.new) (store_answer result) };
 }

@@ -3,10 +3,11 @@ ghost use Rattle.std.specs.Prelude.{true, IfErr, IsErrOf, OnOk};
 ghost use Rattle.disk_io.specs.Disk.{Honestly};
 ghost use Rattle.base_file.specs.Base.{Base};
 ghost use Rattle.cmd_status.specs.Devices.{output_of};
-ghost use Rattle.base_store.specs.Store.{HasStoreCause, MayCommit};
+ghost use Rattle.base_store.specs.Store.{HasStoreCause};
 ghost use Rattle.base_store.specs.declared.store_error.StoreError.TheVariants.{TooMany};
 ghost use Rattle.cmd_store.specs.Answered.{HasCommitted, MayCommitWhereMet, MayMake};
 ghost use Rattle.echo_toss.specs.Bounds.{AddsNone};
+ghost use Rattle.cmd_store.specs.Bounded.{IsStoppedHeld};
 ghost use Rattle.cmd_store.specs.Purged.{HoldsOrPurges, Purges, PurgesOn};
 ghost use Rattle.cmd_store.specs.Stops.{store_answer};
 
@@ -62,7 +63,7 @@ fn purge_on<'a, T: PurgedStore, W: Sink>(
     ensures ready { OnOk result (T.state store.new).is_ready }
     ensures met { IfErr result (MayCommitWhereMet (T.state store.old) (T.state store.new)) }
     ensures crash { MayMake HoldsOrPurges (T.state store.old) (T.state store.new) }
-    ensures many { IsErrOf (store_answer result) TooMany → MayCommit (T.state store.old) (T.state store.new) }
+    ensures many { IsErrOf (store_answer result) TooMany → IsStoppedHeld T.state HoldsOrPurges (T.state store.old) (T.state store.new) }
     ensures cause { HasStoreCause (T.state store.old) (T.state store.new) (T.failures store.old) (T.failures store.new) (store_answer result) }
 {
     let count = store.purge()?;

@@ -1,17 +1,18 @@
 //! The command `scan` on a store.
-ghost use Rattle.std.specs.Prelude.{OnOk};
+ghost use Rattle.std.specs.Prelude.{IsErrOf, OnOk};
 ghost use Rattle.disk_io.specs.Disk.{Honestly};
 ghost use Rattle.disk_io.specs.Runs.{ChangesNothing};
 ghost use Rattle.base_file.specs.Base.{Base};
 ghost use Rattle.cmd_status.specs.Devices.{output_of};
 ghost use Rattle.base_store.specs.Store.{CommitsNothing, GoesOn, HasStoreCause, all_scanned};
+ghost use Rattle.echo_toss.specs.Bounds.{IsFullWhenRead};
 ghost use Rattle.echo_toss.specs.Counts.{bytes_for};
 ghost use Rattle.echo_toss.specs.PacketsIn.{state_in};
 ghost use Rattle.cmd_store.specs.Scanned.{ScansOn, files_made};
 ghost use Rattle.cmd_store.specs.Stops.{store_answer};
 
 use crate::command_error::CommandError;
-use base_store::Store;
+use base_store::{Store, StoreError};
 use cmd_report::{PlannedPacket, planned_packets};
 use cmd_status::print_rest;
 use disk_io::Sink;
@@ -38,6 +39,7 @@ pub fn scan_on<'a, T: Store, W: Sink>(
     ensures goes_on { OnOk result (GoesOn (T.state store.old) (T.state store.new)) }
     ensures quiet { ChangesNothing (T.state store.old).disk (T.state store.new).disk }
     ensures commits { CommitsNothing (T.state store.old) (T.state store.new) }
+    ensures many { IsErrOf (store_answer result) StoreError.TooMany → IsFullWhenRead T.state (T.state store.old) }
     ensures cause { HasStoreCause (T.state store.old) (T.state store.new) (T.failures store.old) (T.failures store.new) (store_answer result) }
 {
     let before = store.cursor();

@@ -7,8 +7,8 @@ use Rattle.echo_filed.specs.Filed.{Filed}
 use Rattle.base_store.specs.Store.{CommitsNothing, GoesOn, LooksOn, StoreState}
 use Rattle.base_store.specs.declared.store_error.StoreError.{StoreError}
 use Rattle.base_store.specs.declared.store_error.StoreError.TheVariants.{TooMany}
-use Rattle.base_store.proofs.Runs.{commits_none, goes_on_twice, looks_commit, looks_go_on, no_look}
-use Rattle.echo_toss.specs.Bounds.{IsPastBound, IsTooMuch}
+use Rattle.base_store.proofs.Runs.{commits_none, goes_on_twice, looks_commit, looks_go_on, looks_twice, no_look}
+use Rattle.echo_toss.specs.Bounds.{IsFullWhenRead, IsPastBound, IsTooMuch}
 
 -- an error that was handed on
 pub handed_many : {A B : Type 0} (why : StoreError) → IsErrOf {T = A} (Err why) TooMany → IsErrOf {T = B} (Err why) TooMany
@@ -44,6 +44,14 @@ past_after state Adds old mid commits on past = record {
 -- after looks
 pub past_looked : {T : Type 0} (state : T → StoreState) (Adds : Base → Filed → Type 0) (old mid : StoreState) → old.is_ready → LooksOn old mid → IsPastBound state Adds mid → IsPastBound state Adds old
 past_looked state Adds old mid ready looks past = past_after state Adds old mid (looks_commit old mid ready looks) (looks_go_on old mid looks) past
+
+-- it is full after looks
+pub full_looked : {T : Type 0} (state : T → StoreState) (old : StoreState) (now : T) → LooksOn old (state now) → (state now).is_full → IsFullWhenRead state old
+full_looked state old now looks full = record { store = now; looks = looks; full = full }
+
+-- and after more of them
+pub full_read : {T : Type 0} (state : T → StoreState) (old mid : StoreState) → LooksOn old mid → IsFullWhenRead state mid → IsFullWhenRead state old
+full_read state old mid looks past = record { store = past.store; looks = looks_twice old mid (state past.store) looks past.looks; full = past.full }
 
 -- more messages may be added
 pub past_wider : {T : Type 0} (state : T → StoreState) (Adds Other : Base → Filed → Type 0) (old : StoreState) → ((base : Base) (m : Filed) → Adds base m → Other base m) → IsPastBound state Adds old → IsPastBound state Other old

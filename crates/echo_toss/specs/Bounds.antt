@@ -7,7 +7,7 @@ use Rattle.echo_filed.specs.Filed.{Filed}
 use Rattle.echo_links.specs.Links.{LinkFile}
 use Rattle.echo_packet.specs.declared.limits.Limits.{Limits}
 use Rattle.echo_packet.specs.Message.{IsMessage, Message}
-use Rattle.base_store.specs.Store.{CommitsNothing, GoesOn, StoreState}
+use Rattle.base_store.specs.Store.{CommitsNothing, GoesOn, LooksOn, StoreState}
 use Rattle.model_steps.specs.Tossing.{tossing}
 
 -- the store is full, or it has no room for a message that is to be added
@@ -20,6 +20,12 @@ pub record IsPastBound {T : Type 0} (state : T → StoreState) (Adds : Base → 
   pub commits : CommitsNothing old (state store)
   pub goes_on : GoesOn old (state store)
   pub much : IsTooMuch Adds (state store)
+
+-- Looks went well, and then the store was full. It is the store of that time.
+pub record IsFullWhenRead {T : Type 0} (state : T → StoreState) (old : StoreState) : Type 0 where
+  pub store : T
+  pub looks : LooksOn old (state store)
+  pub full : (state store).is_full
 
 -- nothing is added
 abbrev pub AddsNone : Base → Filed → Type 0

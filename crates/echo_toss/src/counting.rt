@@ -1,5 +1,5 @@
 //! The packets of a scan, counted and not held: whom each is for, and how large it will be.
-ghost use Rattle.std.specs.Prelude.{◌≡◌, ◌+◌, [], ◌∷◌, true, map, filter, slice_get, Some, IfErr, IfOk, OnErr, OnOk};
+ghost use Rattle.std.specs.Prelude.{◌≡◌, ◌+◌, [], ◌∷◌, true, map, filter, slice_get, Some, IfOk, IsErrOf, MatchResult, OnErr, OnOk};
 ghost use Rattle.disk_io.specs.Disk.{Honestly};
 ghost use Rattle.disk_io.specs.Runs.{ChangesNothing};
 ghost use Rattle.base_file.specs.Base.{Base};
@@ -7,6 +7,7 @@ ghost use Rattle.base_store.specs.Store.{CommitsNothing, GoesOn, HasStoreCause, 
 ghost use Rattle.echo_links.specs.Links.{Area, links_of};
 ghost use Rattle.model_steps.specs.Scanning.{scanned};
 ghost use Rattle.model_steps.specs.Stamps.{is_stamp};
+ghost use Rattle.echo_toss.specs.Bounds.{IsFullWhenRead};
 ghost use Rattle.echo_toss.specs.Counts.{counted_to, counted_with, counted_of, has_messages, link_set};
 ghost use Rattle.echo_toss.specs.Stores.{IsScanStop, scan_answer};
 
@@ -38,15 +39,15 @@ pub fn count_step<T: Store>(
     stamp: Stamp,
 ) -> Result<Vec<CountedPacket>, ScanStepError>
     requires { (T.state store.old).is_ready }
-    ensures stamp { OnOk result (is_stamp stamp ≡ true) }
     ensures packets { Honestly (T.state store.new).disk ((base : Base) → (T.state store.old).keeps base
         → IfOk result (λ all. all.items ≡ map counted_of (scanned links.now base.messages base.cursor stamp))) }
     ensures moved { Honestly (T.state store.new).disk ((base : Base) → (T.state store.old).keeps base → OnOk result ((T.state store.new).keeps (all_scanned base))) }
-    ensures stop { IfErr result (IsScanStop stamp (T.state store.old) (T.state store.new)) }
+    ensures stamp { MatchResult result (λ _. is_stamp stamp ≡ true) (IsScanStop stamp (T.state store.old) (T.state store.new)) }
     ensures goes_on { OnOk result (GoesOn (T.state store.old) (T.state store.new)) }
     ensures undone { OnErr result (Undoes (T.state store.old) (T.state store.new)) }
     ensures quiet { ChangesNothing (T.state store.old).disk (T.state store.new).disk }
     ensures commits { CommitsNothing (T.state store.old) (T.state store.new) }
+    ensures many { IsErrOf (scan_answer result) StoreError.TooMany → IsFullWhenRead T.state (T.state store.old) }
     ensures cause { HasStoreCause (T.state store.old) (T.state store.new) (T.failures store.old) (T.failures store.new) (scan_answer result) }
 {
     if !is_stamp(stamp) {
@@ -67,6 +68,7 @@ fn counted<T: Store>(
     ensures packets { Honestly (T.state store.new).disk ((base : Base) → (T.state store.old).keeps base
         → IfOk result (λ all. (stamp : Stamp) → all.items ≡ map counted_of (scanned links.now base.messages base.cursor stamp))) }
     ensures looks { LooksOn (T.state store.old) (T.state store.new) }
+    ensures many { IsErrOf result StoreError.TooMany → IsFullWhenRead T.state (T.state store.old) }
     ensures cause { HasStoreCause (T.state store.old) (T.state store.new) (T.failures store.old) (T.failures store.new) result }
 {
     let addresses = link_set(alloc, links)?;

@@ -1,9 +1,10 @@
 //! Waiting messages in groups of some bytes, so that a scan need not hold all of them.
-ghost use Rattle.std.specs.Prelude.{◌≡◌, ◌≤◌, ◌<◌, [], ◌∷◌, ◌++◌, length, IfOk, OnOk};
+ghost use Rattle.std.specs.Prelude.{◌≡◌, ◌≤◌, ◌<◌, [], ◌∷◌, ◌++◌, length, IfOk, IsErrOf, OnOk};
 ghost use Rattle.disk_io.specs.Disk.{Honestly};
 ghost use Rattle.base_file.specs.Base.{Base};
 ghost use Rattle.base_store.specs.Store.{HasStoreCause, LooksOn};
 ghost use Rattle.echo_packet.specs.Message.{messages_bytes};
+ghost use Rattle.echo_toss.specs.Bounds.{IsFullWhenRead};
 ghost use Rattle.echo_toss.specs.Counts.{IsGroupFrom, copies_out};
 
 use crate::outgoing::{Outgoing, push_message};
@@ -68,6 +69,7 @@ pub fn group_from<T: Store>(
     ensures later { IfOk result (λ group. from < group.next) }
     ensures within { IfOk result (λ group. group.next ≤ end) }
     ensures looks { LooksOn (T.state store.old) (T.state store.new) }
+    ensures many { IsErrOf result StoreError.TooMany → IsFullWhenRead T.state (T.state store.old) }
     ensures cause { HasStoreCause (T.state store.old) (T.state store.new) (T.failures store.old) (T.failures store.new) result }
 {
     let mut sent = Vec::new(alloc);

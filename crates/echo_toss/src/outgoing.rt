@@ -1,5 +1,5 @@
 //! The outgoing form of a message that waits for a scan.
-ghost use Rattle.std.specs.Prelude.{◌≡◌, ◌<◌, [], ◌∷◌, ◌++◌, ◌&&◌, not, false, length, map, filter, drop, option_map, unwrap_or, IfOk, OnOk};
+ghost use Rattle.std.specs.Prelude.{◌≡◌, ◌<◌, [], ◌∷◌, ◌++◌, ◌&&◌, not, false, length, map, filter, drop, option_map, unwrap_or, IfOk, IsErrOf, OnOk};
 ghost use Rattle.std.specs.List.{list_any};
 ghost use Rattle.echo_addr.specs.Address.{net_node_of};
 ghost use Rattle.echo_packet.specs.Message.{HasNoZero};
@@ -10,6 +10,7 @@ ghost use Rattle.disk_io.specs.Disk.{Honestly};
 ghost use Rattle.base_file.specs.Base.{Base};
 ghost use Rattle.base_store.specs.Store.{HasStoreCause, LooksOn};
 ghost use Rattle.model_steps.specs.Scanning.{exported, message_out, targets};
+ghost use Rattle.echo_toss.specs.Bounds.{IsFullWhenRead};
 ghost use Rattle.echo_toss.specs.Exports.{GrowsByMessageAt, has_some, nowhere, outgoing_of, sent_of};
 
 use crate::sets::{address_set, entry_set};
@@ -51,6 +52,7 @@ pub(crate) fn waiting<T: Store>(
     ensures outgoing { Honestly (T.state store.new).disk ((base : Base) → (T.state store.old).keeps base
         → IfOk result (λ all. all.items ≡ sent_of links.now (drop base.cursor base.messages))) }
     ensures looks { LooksOn (T.state store.old) (T.state store.new) }
+    ensures many { IsErrOf result StoreError.TooMany → IsFullWhenRead T.state (T.state store.old) }
     ensures cause { HasStoreCause (T.state store.old) (T.state store.new) (T.failures store.old) (T.failures store.new) result }
 {
     let mut all = Vec::new(alloc);
@@ -76,6 +78,7 @@ pub(crate) fn push_message<T: Store>(
     ensures grown { Honestly (T.state store.new).disk ((base : Base) → (T.state store.old).keeps base
         → OnOk result (GrowsByMessageAt links.now base.messages place all.old.items all.new.items)) }
     ensures looks { LooksOn (T.state store.old) (T.state store.new) }
+    ensures many { IsErrOf result StoreError.TooMany → (T.state store.old).is_full }
     ensures cause { HasStoreCause (T.state store.old) (T.state store.new) (T.failures store.old) (T.failures store.new) result }
 {
     store.fetch(place)?;

@@ -1,11 +1,12 @@
 //! A packet made again, of scanned messages of one area for one address.
-ghost use Rattle.std.specs.Prelude.{◌≡◌, ◌<◌, [], ◌∷◌, ◌++◌, true, length, map, filter, IfErr, IfOk, OnOk};
+ghost use Rattle.std.specs.Prelude.{◌≡◌, ◌<◌, [], ◌∷◌, ◌++◌, true, length, map, filter, IfOk, IsErrOf, MatchResult, OnOk};
 ghost use Rattle.disk_io.specs.Disk.{Honestly};
 ghost use Rattle.base_file.specs.Base.{Base};
 ghost use Rattle.base_store.specs.Store.{HasStoreCause, LooksOn};
 ghost use Rattle.model_steps.specs.Resending.{IsResent, is_resent, is_whole_in, resent, resent_packet};
 ghost use Rattle.model_steps.specs.Scanning.{copy_to};
 ghost use Rattle.model_steps.specs.Stamps.{is_stamp};
+ghost use Rattle.echo_toss.specs.Bounds.{IsFullWhenRead};
 ghost use Rattle.echo_toss.specs.Exports.{IsResentAt, copy_out, goes_out};
 ghost use Rattle.echo_toss.specs.Stores.{IsScanStop, scan_answer};
 
@@ -41,11 +42,11 @@ pub fn resend_in<T: Store>(
     asked: Resend<'_>,
 ) -> Result<Packet, ScanStepError>
     requires { (T.state store.old).is_ready }
-    ensures stamp { OnOk result (is_stamp asked.entry.stamp ≡ true) }
     ensures packet { Honestly (T.state store.new).disk ((base : Base) → (T.state store.old).keeps base
         → IfOk result (λ packet. packet ≡ resent_packet links.now asked.entry.stamp asked.entry.area.now asked.entry.to asked.entry.first base.messages base.cursor)) }
-    ensures stop { IfErr result (IsScanStop asked.entry.stamp (T.state store.old) (T.state store.new)) }
+    ensures stamp { MatchResult result (λ _. is_stamp asked.entry.stamp ≡ true) (IsScanStop asked.entry.stamp (T.state store.old) (T.state store.new)) }
     ensures looks { LooksOn (T.state store.old) (T.state store.new) }
+    ensures many { IsErrOf (scan_answer result) StoreError.TooMany → IsFullWhenRead T.state (T.state store.old) }
     ensures cause { HasStoreCause (T.state store.old) (T.state store.new) (T.failures store.old) (T.failures store.new) (scan_answer result) }
 {
     if !is_stamp(asked.stamp) {
@@ -85,6 +86,7 @@ fn copies<T: Store>(
     ensures copies { Honestly (T.state store.new).disk ((base : Base) → (T.state store.old).keeps base
         → IfOk result (λ all. all.items ≡ resent links.now asked.entry.area.now asked.entry.to asked.entry.first base.messages base.cursor)) }
     ensures looks { LooksOn (T.state store.old) (T.state store.new) }
+    ensures many { IsErrOf result StoreError.TooMany → IsFullWhenRead T.state (T.state store.old) }
     ensures cause { HasStoreCause (T.state store.old) (T.state store.new) (T.failures store.old) (T.failures store.new) result }
 {
     let mut all = Vec::new(alloc);
@@ -112,6 +114,7 @@ fn push_at<T: Store>(
     ensures pushed { Honestly (T.state store.new).disk ((base : Base) → (T.state store.old).keeps base
         → OnOk result (IsResentAt links.now asked.entry.area.now asked.entry.to base.messages place all.old.items all.new.items)) }
     ensures looks { LooksOn (T.state store.old) (T.state store.new) }
+    ensures many { IsErrOf result StoreError.TooMany → (T.state store.old).is_full }
     ensures cause { HasStoreCause (T.state store.old) (T.state store.new) (T.failures store.old) (T.failures store.new) result }
 {
     store.fetch(place)?;

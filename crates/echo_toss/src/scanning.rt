@@ -1,10 +1,11 @@
-ghost use Rattle.std.specs.Prelude.{◌≡◌, true, false, IfErr, IfOk, OnErr, OnOk};
+ghost use Rattle.std.specs.Prelude.{◌≡◌, true, false, IfOk, IsErrOf, MatchResult, OnErr, OnOk};
 ghost use Rattle.disk_io.specs.Disk.{Honestly};
 ghost use Rattle.disk_io.specs.Runs.{ChangesNothing};
 ghost use Rattle.base_file.specs.Base.{Base};
 ghost use Rattle.base_store.specs.Store.{CommitsNothing, GoesOn, HasStoreCause, LooksOn, Undoes, all_scanned};
 ghost use Rattle.model_steps.specs.Scanning.{ScanStep, scanned};
 ghost use Rattle.model_steps.specs.Stamps.{is_stamp};
+ghost use Rattle.echo_toss.specs.Bounds.{IsFullWhenRead};
 ghost use Rattle.echo_toss.specs.Exports.{listed};
 ghost use Rattle.echo_toss.specs.Stores.{IsScanStop, scan_answer};
 
@@ -27,15 +28,15 @@ pub fn scan_step<T: Store>(
     stamp: Stamp,
 ) -> Result<Vec<Packet>, ScanStepError>
     requires { (T.state store.old).is_ready }
-    ensures stamp { OnOk result (is_stamp stamp ≡ true) }
     ensures packets { Honestly (T.state store.new).disk ((base : Base) → (T.state store.old).keeps base
         → IfOk result (λ all. all.items ≡ scanned links.now base.messages base.cursor stamp)) }
     ensures moved { Honestly (T.state store.new).disk ((base : Base) → (T.state store.old).keeps base → OnOk result ((T.state store.new).keeps (all_scanned base))) }
-    ensures stop { IfErr result (IsScanStop stamp (T.state store.old) (T.state store.new)) }
+    ensures stamp { MatchResult result (λ _. is_stamp stamp ≡ true) (IsScanStop stamp (T.state store.old) (T.state store.new)) }
     ensures goes_on { OnOk result (GoesOn (T.state store.old) (T.state store.new)) }
     ensures undone { OnErr result (Undoes (T.state store.old) (T.state store.new)) }
     ensures quiet { ChangesNothing (T.state store.old).disk (T.state store.new).disk }
     ensures commits { CommitsNothing (T.state store.old) (T.state store.new) }
+    ensures many { IsErrOf (scan_answer result) StoreError.TooMany → IsFullWhenRead T.state (T.state store.old) }
     ensures cause { HasStoreCause (T.state store.old) (T.state store.new) (T.failures store.old) (T.failures store.new) (scan_answer result) }
 {
     if !is_stamp(stamp) {
@@ -73,6 +74,7 @@ fn scanned<T: Store>(
     ensures packets { Honestly (T.state store.new).disk ((base : Base) → (T.state store.old).keeps base
         → IfOk result (λ all. all.items ≡ scanned links.now base.messages base.cursor stamp)) }
     ensures looks { LooksOn (T.state store.old) (T.state store.new) }
+    ensures many { IsErrOf result StoreError.TooMany → IsFullWhenRead T.state (T.state store.old) }
     ensures cause { HasStoreCause (T.state store.old) (T.state store.new) (T.failures store.old) (T.failures store.new) result }
 {
     let outgoing = waiting(alloc, links, store)?;

@@ -3,18 +3,23 @@ use Rattle.std.proofs.lemmas.Result.{err_from_is_err_and}
 use Rattle.cmd_report.specs.Scanned.{file_with}
 use Rattle.echo_toss.specs.Counts.{bytes_for}
 use Rattle.echo_toss.specs.PacketsIn.{state_in}
-use Rattle.cmd_store.proofs.Scans.{scan_caused, scan_stopped, scanned_at}
+use Rattle.cmd_store.proofs.Scans.{scan_caused, scan_many, scan_stopped, scanned_at}
 use Rattle.cmd_store.proofs.scanning.scan_on.Goals as goal
 
 pub returns-in_err-packets-clause-answers : goal.returns-in_err-packets-clause-answers
 returns-in_err-packets-clause-answers g c =
     let p = err_from_is_err_and c.from_residual.result c.from_residual.ensures.1 in
-    rw (p.1, p.2) (λ honest base kept. scan_stopped c.args.stamp (state_in c.args.links.now base) _ _ _ c.in_err-packets.field-0.0 c.in_err-packets.ensures.stop)
+    rw (p.1, p.2) (λ honest base kept. scan_stopped c.args.stamp (state_in c.args.links.now base) _ _ _ c.in_err-packets.field-0.0 c.in_err-packets.ensures.stamp)
 
 pub returns-in_err-packets-clause-cause : goal.returns-in_err-packets-clause-cause
 returns-in_err-packets-clause-cause g c =
     let p = err_from_is_err_and c.from_residual.result c.from_residual.ensures.1 in
     rw (p.1, p.2) (scan_caused (Unit {0}) (Unit {0}) _ _ _ _ c.in_err-packets.field-0.0 c.in_err-packets.ensures.cause)
+
+pub returns-in_err-packets-clause-many : goal.returns-in_err-packets-clause-many
+returns-in_err-packets-clause-many g c =
+    let p = err_from_is_err_and c.from_residual.result c.from_residual.ensures.1 in
+    rw (p.1, p.2) (scan_many _ (Unit {0}) (Unit {0}) c.in_err-packets.field-0.0 c.in_err-packets.ensures.many)
 
 pub returns-in_err-planned-clause-answers : goal.returns-in_err-planned-clause-answers
 returns-in_err-planned-clause-answers g c =

@@ -4,6 +4,8 @@ use Rattle.base_store.proofs.Runs.{looks_twice}
 use Rattle.echo_toss.specs.Counts.{counted_with, has_messages, link_set}
 use Rattle.echo_toss.specs.Exports.{Outgoing, sent_of}
 use Rattle.echo_toss.proofs.Counts.{all_counted, group_counted}
+use Rattle.std.proofs.lemmas.Result.{err_from_is_err_and}
+use Rattle.echo_toss.proofs.Bounds.{full_read, handed_many}
 use Rattle.echo_toss.proofs.counting.counted.Goals as goal
 
 pub groups-preserved : goal.groups-preserved
@@ -37,3 +39,8 @@ returns-clause-packets g c = λ honest base kept stamp.
     let all : sent ≡ sent_of file (drop base.cursor base.messages) =
     sym (append-nil sent) ∙ ap (λ (l : _). sent ++ sent_of file l) (sym (drop_all c.groups.at base.messages past)) ∙ was.1.2 in
     c.in_ok-with_messages.ensures ∙ ap (filter has_messages) (c.deref-2.ensures.value) ∙ all_counted file base.messages base.cursor sent _ all was.1.1 stamp
+
+pub returns-in_err-group-clause-many : goal.returns-in_err-group-clause-many
+returns-in_err-group-clause-many g c =
+    let p = err_from_is_err_and c.from_residual-in_err-group.result c.from_residual-in_err-group.ensures.1 in
+    rw (p.1, p.2) (λ is. full_read g.T.Store.state _ _ c.groups.invariant.1 (c.in_err-group.ensures.many (handed_many c.in_err-group.field-0.0 is)))

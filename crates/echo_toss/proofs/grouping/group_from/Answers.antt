@@ -1,7 +1,9 @@
 use Rattle.std.proofs.Common.{◌++◌, List, ap, arith, drop, sym}
-use Rattle.base_store.proofs.Runs.{looks_twice}
+use Rattle.base_store.proofs.Runs.{looks_twice, no_look}
 use Rattle.echo_toss.specs.Exports.{Outgoing, is_sent, outgoing_of, sent_of}
 use Rattle.echo_toss.proofs.Exports.{next_waits}
+use Rattle.std.proofs.lemmas.Result.{err_from_is_err_and}
+use Rattle.echo_toss.proofs.Bounds.{full_looked, handed_many}
 use Rattle.echo_toss.proofs.grouping.group_from.Goals as goal
 
 pub group-init : goal.group-init
@@ -28,3 +30,14 @@ group-preserved g c =
       omega (arith, so.3),
       omega (arith, c.group-test.true),
     )
+
+pub returns-in_err-push_message-clause-many : goal.returns-in_err-push_message-clause-many
+returns-in_err-push_message-clause-many g c =
+    let p = err_from_is_err_and c.from_residual.result c.from_residual.ensures.1 in
+    let ready = c.requires.ready in
+    rw (p.1, p.2) (λ is. full_looked g.T.Store.state _ c.args.store.now (no_look _ ready) (c.in_err-push_message.ensures.many (handed_many c.in_err-push_message.field-0.0 is)))
+
+pub returns-in_err-push_message-2-clause-many : goal.returns-in_err-push_message-2-clause-many
+returns-in_err-push_message-2-clause-many g c =
+    let p = err_from_is_err_and c.from_residual-in_err-push_message-2.result c.from_residual-in_err-push_message-2.ensures.1 in
+    rw (p.1, p.2) (λ is. full_looked g.T.Store.state _ c.group.store c.group.invariant.1 (c.in_err-push_message-2.ensures.many (handed_many c.in_err-push_message-2.field-0.0 is)))

@@ -2,6 +2,8 @@ use Rattle.std.proofs.Common.{sym, arith}
 use Rattle.base_store.proofs.Runs.{looks_twice}
 use Rattle.echo_toss.specs.Exports.{is_sent, outgoing_of}
 use Rattle.echo_toss.proofs.Exports.{next_waits}
+use Rattle.std.proofs.lemmas.Result.{err_from_is_err_and}
+use Rattle.echo_toss.proofs.Bounds.{full_looked, handed_many}
 use Rattle.echo_toss.proofs.outgoing.waiting.Goals as goal
 
 pub waiting-preserved : goal.waiting-preserved
@@ -16,3 +18,8 @@ waiting-preserved g c =
       looks_twice _ _ _ so.1 c.push_message.ensures.looks,
       omega (arith, so.2, c.push_message.ensures.cause.later),
     )
+
+pub returns-in_err-push_message-clause-many : goal.returns-in_err-push_message-clause-many
+returns-in_err-push_message-clause-many g c =
+    let p = err_from_is_err_and c.from_residual.result c.from_residual.ensures.1 in
+    rw (p.1, p.2) (λ is. full_looked g.T.Store.state _ c.waiting.store c.waiting.invariant.1 (c.in_err-push_message.ensures.many (handed_many c.in_err-push_message.field-0.0 is)))

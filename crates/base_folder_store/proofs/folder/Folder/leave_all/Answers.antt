@@ -1,35 +1,27 @@
-use Rattle.std.proofs.Common.{◌≡◌, ℕ, [], length, refl, sym, ap, subst, ◌∙◌, arith}
+use Rattle.std.proofs.Common.{◌≡◌, ◌/◌, ℕ, length, refl, sym, ap, subst, ◌∙◌, arith}
 use Rattle.base_log.specs.Standing.{BaseBytes}
-use Rattle.base_log.specs.declared.log.End.{End}
 use Rattle.base_folder_store.specs.Calls.{StagesOnly}
 use Rattle.base_folder_store.specs.Held.{HoldsBase}
-use Rattle.base_folder_store.specs.Left.{changed_in, first_left}
-use Rattle.base_folder_store.specs.Opened.{committed_by, held_by, path_of}
+use Rattle.base_folder_store.specs.Left.{IsPurgedTo, changed_in}
+use Rattle.base_folder_store.specs.Opened.{committed_by, path_of}
 use Rattle.base_folder_store.proofs.Beside.{committed_beside, many_readable}
 use Rattle.base_folder_store.proofs.Causes.{failed_since, handed_on}
 use Rattle.base_folder_store.proofs.Runs.{run_none, run_twice}
-use Rattle.base_folder_store.proofs.Stubbed.{at_most_one, left_none}
+use Rattle.base_folder_store.proofs.Stubbed.{at_most_one}
 use Rattle.base_folder_store.proofs.folder.Folder.leave_all.Given as given
 use Rattle.base_folder_store.proofs.folder.Folder.leave_all.Goals.{After-leave_next}
 use Rattle.base_folder_store.proofs.folder.Folder.leave_all.Goals as goal
 
 pub messages-init : goal.messages-init
-messages-init g c =
-    let d0 = g.D.Disk.state c.args.disk.now in
-    let n0 = c.args.next.now in
-    record {
-      paired = c.requires.paired;
-      opened = c.requires.opened;
-      left = λ honest keyed base holds.
-          left_none keyed (committed_by d0 n0) (held_by d0 n0) base holds
-          (c.requires.empty ∙ ap (λ (e : End). record { messages = []; keys = []; cursor = 0; mark = e.told.mark }) (sym c.requires.paired.beside.end));
-      changed = λ honest keyed base holds. refl;
-      few = omega arith;
-      same = λ honest. refl;
-      path = refl;
-      run = run_none d0 n0 c.requires.opened;
-      cause = omega arith;
-    }
+messages-init g c = record {
+  purged = c.requires;
+  changed = λ honest keyed base holds. refl;
+  few = omega arith;
+  same = λ honest. refl;
+  path = refl;
+  run = run_none (g.D.Disk.state c.args.disk.now) c.args.next.now c.requires.opened;
+  cause = omega arith;
+}
 
 -- the run so far, once one message more was to be left
 left : (g : given.Over) (c : After-leave_next g)
@@ -46,20 +38,16 @@ pub messages-preserved : goal.messages-preserved
 messages-preserved g c =
     let before = c.messages.invariant in
     record {
-      paired = c.leave_next.ensures.paired;
-      opened = c.in_ok-one.ensures.opened;
-      left = λ honest keyed base holds.
-          let h1 = c.leave_next.ensures.run.outside.honest honest in
-          (c.in_ok-one.ensures.left honest keyed base (subst (λ (b : BaseBytes). HoldsBase keyed b base) (sym (before.same h1)) holds)).left (before.left h1 keyed base holds);
+      purged = c.in_ok-one.ensures.purged;
       changed = λ honest keyed base holds.
           let h1 = c.leave_next.ensures.run.outside.honest honest in
           let was = before.changed h1 keyed base holds in
-          let more = (c.in_ok-one.ensures.left honest keyed base (subst (λ (b : BaseBytes). HoldsBase keyed b base) (sym (before.same h1)) holds)).changed in
+          let more = c.in_ok-one.ensures.changed honest keyed base (subst (λ (b : BaseBytes). HoldsBase keyed b base) (sym (before.same h1)) holds) in
           let one = c.one_if-changed.ensures in
           omega (arith, was, more, one);
       few = let most = at_most_one c.in_ok-one.one in let one = c.one_if-changed.ensures in let was = before.few in omega (arith, most, one, was);
       same = λ honest. c.in_ok-one.ensures.same honest ∙ before.same (c.leave_next.ensures.run.outside.honest honest);
-      path = c.leave_next.ensures.paired.beside.path ∙ sym c.requires.paired.beside.path;
+      path = c.in_ok-one.ensures.purged.paired.beside.path ∙ sym before.purged.paired.beside.path ∙ before.path;
       run = left g (goal.at.messages-preserved g c).After-leave_next;
       cause = let later = c.leave_next.ensures.cause.later in let was = before.cause in omega (arith, later, was);
     }
@@ -86,18 +74,21 @@ returns-in_err-one-clause-cause g c =
           cause.damaged honest (handed_on _ _ c.from_residual.result c.from_residual.ensures.1 is) keyed base (subst (λ (b : BaseBytes). HoldsBase keyed b base) (sym same) holds);
     }
 
-pub returns-clause-left : goal.returns-clause-left
-returns-clause-left g c honest =
+pub returns-clause-purged : goal.returns-clause-purged
+returns-clause-purged g c =
+    let past = c.messages-test.false in
+    let at : c.messages.place ≡ c.args.self.now.keys / 16 = omega (arith, past, c.count-place-end.ensures, c.messages.auto.place-end) in
+    subst (λ (n : ℕ). IsPurgedTo (g.D.Disk.state c.messages.disk) c.args.self.now c.messages.next n) at c.messages.invariant.purged
+
+pub returns-clause-changed : goal.returns-clause-changed
+returns-clause-changed g c honest =
     let d0 = g.D.Disk.state c.args.disk.now in
     let f = c.args.self.now in
     let before = c.messages.invariant in
-    let beside = c.requires.paired.beside in
+    let paired = c.requires.paired in
     λ keyed base holds.
-    let here = subst (λ (b : BaseBytes). HoldsBase keyed b base) (committed_beside d0 f c.args.next.now beside) holds in
-    let many = many_readable keyed d0 f base (c.requires.paired.readable (before.run.outside.honest honest)) here in
+    let here = subst (λ (b : BaseBytes). HoldsBase keyed b base) (committed_beside d0 f c.args.next.now paired.beside) holds in
+    let many = many_readable keyed d0 f base (paired.readable (before.run.outside.honest honest)) here in
     let past = c.messages-test.false in
     let at : c.messages.place ≡ length base.messages = omega (arith, many, past, c.count-place-end.ensures, c.messages.auto.place-end) in
-    record {
-      left = subst (λ (n : ℕ). HoldsBase keyed (held_by (g.D.Disk.state c.messages.disk) c.messages.next) (first_left base n)) at (before.left honest keyed base holds);
-      changed = before.changed honest keyed base holds ∙ ap (λ (n : ℕ). changed_in base n) at;
-    }
+    before.changed honest keyed base holds ∙ ap (λ (n : ℕ). changed_in base n) at

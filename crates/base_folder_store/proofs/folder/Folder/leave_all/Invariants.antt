@@ -3,16 +3,13 @@ use Rattle.disk_io.specs.Disk.{Honestly}
 use Rattle.base_file.specs.Base.{Base}
 use Rattle.base_folder_store.specs.Calls.{StagesOnly}
 use Rattle.base_folder_store.specs.Held.{HoldsBase}
-use Rattle.base_folder_store.specs.Left.{ArePaired, changed_in, first_left}
-use Rattle.base_folder_store.specs.Opened.{IsOpen, committed_by, held_by, path_of}
+use Rattle.base_folder_store.specs.Left.{IsPurgedTo, changed_in}
+use Rattle.base_folder_store.specs.Opened.{committed_by, path_of}
 use Rattle.base_folder_store.proofs.folder.Folder.leave_all.Given as goal
 
 abbrev pub invariant-messages : goal.invariant-messages
 invariant-messages g l = record {
-  paired : ArePaired (g.D.Disk.state l.disk) l.self l.next;
-  opened : Honestly (g.D.Disk.state l.disk) (IsOpen (g.D.Disk.state l.disk) l.next);
-  left : Honestly (g.D.Disk.state l.disk) ((keyed : ℕ → ℕ → List ℕ → ℕ) (base : Base) → HoldsBase keyed (committed_by (g.D.Disk.state l.fn.disk) l.fn.next) base
-      → HoldsBase keyed (held_by (g.D.Disk.state l.disk) l.next) (first_left base l.place));
+  purged : IsPurgedTo (g.D.Disk.state l.disk) l.self l.next l.place;
   changed : Honestly (g.D.Disk.state l.disk) ((keyed : ℕ → ℕ → List ℕ → ℕ) (base : Base) → HoldsBase keyed (committed_by (g.D.Disk.state l.fn.disk) l.fn.next) base → l.changed ≡ changed_in base l.place);
   few : l.changed ≤ l.place;
   same : Honestly (g.D.Disk.state l.disk) (committed_by (g.D.Disk.state l.disk) l.next ≡ committed_by (g.D.Disk.state l.fn.disk) l.fn.next);

@@ -1,14 +1,17 @@
-use Rattle.std.proofs.Common.{◌≡◌, ◌≤◌, refl, sym, subst, ◌∙◌, arith}
+use Rattle.std.proofs.Common.{◌≡◌, ◌≤◌, ℕ, List, [], length, refl, sym, ap, subst, ◌∙◌, arith}
 use Rattle.disk_io.specs.Disk.{Honestly}
 use Rattle.base_log.specs.Standing.{BaseBytes}
+use Rattle.base_log.specs.declared.log.CommitRecord.{CommitRecord}
+use Rattle.base_log.specs.declared.log.End.{End}
 use Rattle.base_folder_store.specs.Calls.{CommitsOnly}
 use Rattle.base_folder_store.specs.Held.{HoldsBase}
+use Rattle.base_folder_store.specs.Left.{first_left}
 use Rattle.base_folder_store.specs.Opened.{committed_by, held_by, path_of}
 use Rattle.base_folder_store.specs.declared.folder.Folder.{Folder}
-use Rattle.base_folder_store.proofs.Beside.{cursor_open, rest_readable}
-use Rattle.base_folder_store.proofs.Causes.{failed_since, handed_on}
+use Rattle.base_folder_store.proofs.Beside.{cursor_open, many_readable, rest_readable}
+use Rattle.base_folder_store.proofs.Causes.{failed_since, handed_on, on_ok_none}
 use Rattle.base_folder_store.proofs.Runs.{run_from_commit}
-use Rattle.base_folder_store.proofs.Stubbed.{changed_whole, left_whole}
+use Rattle.base_folder_store.proofs.Stubbed.{changed_whole, left_none, left_whole}
 use Rattle.base_folder_store.proofs.folder.Folder.purge.Given as given
 use Rattle.base_folder_store.proofs.folder.Folder.purge.Goals.{After-leave_all}
 use Rattle.base_folder_store.proofs.folder.Folder.purge.Goals as goal
@@ -17,6 +20,23 @@ pub anew-requires-clause-readable : goal.anew-requires-clause-readable
 anew-requires-clause-readable g c honest =
     let done = c.in_ok-commit.ensures.done in
     rest_readable (g.D.Disk.state c.commit.new.disk) c.commit.new.self (c.in_ok-commit.ensures.stays.opened honest) done.told done.written
+
+pub leave_all-requires : goal.leave_all-requires
+leave_all-requires g c =
+    let next = c.in_ok-next.next in
+    let e = g.D.Disk.state c.anew.new.disk in
+    let made = c.in_ok-next.ensures in
+    record {
+      paired = made.paired;
+      opened = made.opened;
+      few = let none = ap (λ (l : List ℕ). length l) c.in_ok-commit.ensures.done.written.messages in let counted = c.is_counted.ensures in omega (arith, none, counted);
+      left = λ honest keyed base holds. record {
+        left =
+            left_none keyed (committed_by e next) (held_by e next) base holds
+            (made.empty ∙ ap (λ (end : End). record { messages = []; keys = []; cursor = 0; mark = end.told.mark }) (sym made.paired.beside.end));
+        shorter = λ within. let none = ap (λ (b : BaseBytes). length b.messages) made.empty in omega (arith, none);
+      };
+    }
 
 -- the run so far, once what is left was to be staged
 record Left (g : given.Over) (c : After-leave_all g) : Type 0 where
@@ -91,12 +111,35 @@ returns-in_err-changed-clause-cause g c =
           cause.damaged honest (handed_on _ _ c.from_residual-in_err-changed.result c.from_residual-in_err-changed.ensures.1 is) keyed base (subst (λ (b : BaseBytes). HoldsBase keyed b base) (sym same) holds);
     }
 
-pub returns-clause-path : goal.returns-clause-path
-returns-clause-path g c = c.leave_all.ensures.paired.beside.path ∙ c.commit.ensures.stays.path
+-- it keeps its path, its owner and its key at an error
+pub returns-in_err-commit-clause-stays : goal.returns-in_err-commit-clause-stays
+returns-in_err-commit-clause-stays g c =
+    let was = c.commit.ensures.stays in
+    record { named = was.named; opened = λ honest. on_ok_none _ _ c.from_residual.result c.from_residual.ensures.1; path = was.path; mark = was.mark }
 
-pub returns-clause-opened : goal.returns-clause-opened
-returns-clause-opened g c honest =
-    cursor_open (g.D.Disk.state c.leave_all.new.disk) c.leave_all.new.next c.commit.new.self.end.told.cursor (c.in_ok-changed.ensures.opened honest)
+pub returns-in_err-next-clause-stays : goal.returns-in_err-next-clause-stays
+returns-in_err-next-clause-stays g c =
+    let was = c.commit.ensures.stays in
+    record { named = was.named; opened = λ honest. on_ok_none _ _ c.from_residual-in_err-next.result c.from_residual-in_err-next.ensures.1; path = was.path; mark = was.mark }
+
+pub returns-in_err-changed-clause-stays : goal.returns-in_err-changed-clause-stays
+returns-in_err-changed-clause-stays g c =
+    let was = c.commit.ensures.stays in
+    record { named = was.named; opened = λ honest. on_ok_none _ _ c.from_residual-in_err-changed.result c.from_residual-in_err-changed.ensures.1; path = was.path; mark = was.mark }
+
+pub returns-clause-stays : goal.returns-clause-stays
+returns-clause-stays g c =
+    let was = c.commit.ensures.stays in
+    let now = c.in_ok-changed.ensures.purged in
+    record {
+      named = now.paired.named;
+      opened = λ honest. cursor_open (g.D.Disk.state c.leave_all.new.disk) c.leave_all.new.next c.commit.new.self.end.told.cursor (now.opened honest);
+      path = now.paired.beside.path ∙ was.path;
+      mark = now.paired.beside.mark ∙ ap (λ (t : CommitRecord). t.mark) c.in_ok-commit.ensures.done.told ∙ was.mark;
+    }
+
+pub returns-in_err-commit-clause-many : goal.returns-in_err-commit-clause-many
+returns-in_err-commit-clause-many g c = λ is. c.in_err-commit.ensures.many (handed_on _ _ c.from_residual.result c.from_residual.ensures.1 is)
 
 pub returns-clause-committed : goal.returns-clause-committed
 returns-clause-committed g c honest = c.in_ok-changed.ensures.same honest ∙ (left g (goal.at.returns-clause-committed g c).After-leave_all).same honest
@@ -106,15 +149,19 @@ returns-clause-purged g c honest =
     let h1 = c.anew.ensures.run.outside.honest (c.leave_all.ensures.run.outside.honest honest) in
     let f1 = c.commit.new.self in
     let n3 = c.leave_all.new.next in
+    let d1 = g.D.Disk.state c.commit.new.disk in
     let d3 = g.D.Disk.state c.leave_all.new.disk in
-    let same = (left g (goal.at.returns-clause-purged g c).After-leave_all).same honest in
+    let purged = c.in_ok-changed.ensures.purged in
     λ keyed base holds.
-    let here = subst (λ (b : BaseBytes). HoldsBase keyed b base) (sym same) holds in
+    let was = subst (λ (b : BaseBytes). HoldsBase keyed b base) (sym (c.in_ok-commit.ensures.done.committed h1)) holds in
+    let made = (left g (goal.at.returns-clause-purged g c).After-leave_all).same honest in
+    let here = subst (λ (b : BaseBytes). HoldsBase keyed b base) (sym (c.in_ok-changed.ensures.same honest ∙ made)) holds in
+    let many = many_readable keyed d1 f1 base (rest_readable d1 f1 (c.in_ok-commit.ensures.stays.opened h1) c.in_ok-commit.ensures.done.told c.in_ok-commit.ensures.done.written) was in
+    let all = subst (λ (n : ℕ). HoldsBase keyed (held_by d3 n3) (first_left base n)) many (purged.left honest keyed base here).left in
     let now : Folder = record n3 { told = record n3.told { cursor = f1.end.told.cursor } } in
-    left_whole keyed (committed_by (g.D.Disk.state c.commit.new.disk) f1) (held_by d3 n3) (held_by d3 now) base (subst (λ (b : BaseBytes). HoldsBase keyed b base) (sym (c.in_ok-commit.ensures.done.committed h1)) holds)
-    (c.in_ok-changed.ensures.left honest keyed base here).left refl
+    left_whole keyed (committed_by d1 f1) (held_by d3 n3) (held_by d3 now) base was all refl
 
 pub returns-clause-count : goal.returns-clause-count
 returns-clause-count g c honest =
     let same = (left g (goal.at.returns-clause-count g c).After-leave_all).same honest in
-    λ keyed base holds. (c.in_ok-changed.ensures.left honest keyed base (subst (λ (b : BaseBytes). HoldsBase keyed b base) (sym same) holds)).changed ∙ changed_whole base
+    λ keyed base holds. c.in_ok-changed.ensures.changed honest keyed base (subst (λ (b : BaseBytes). HoldsBase keyed b base) (sym same) holds) ∙ changed_whole base

@@ -27,7 +27,7 @@ returns-clause-ready g c =
     let e = g.D.Disk.state c.purge.new.disk in
     let now = c.purge.new.self in
     on_ok_weaker {P = IsUsable e now} c.purge.result (λ usable. (usable, λ honest. c.new-index.ensures.index (held_by e now).keys))
-    (usable_after e now c.purge.result c.purge.ensures.named c.purge.ensures.opened)
+    (usable_after e now c.purge.result c.purge.ensures.stays.named c.purge.ensures.stays.opened)
 
 pub returns-clause-undone : goal.returns-clause-undone
 returns-clause-undone g c = at_error c.purge.result (λ honest undoes base holds. absurd undoes)
@@ -40,7 +40,7 @@ returns-clause-either g c =
     let keyed = g.H.Digest.keyed in
     let now = c.purge.new.self in
     may_commit_where (state_of d keyed s.folder s.alone) (state_of e keyed now s.alone) (IsIndexed d s.folder s.index) (IsIndexed e now c.new-index.result)
-    (may_commit d e keyed s.folder now s.alone s.alone c.purge.ensures.path c.purge.ensures.run)
+    (may_commit d e keyed s.folder now s.alone s.alone c.purge.ensures.stays.path c.purge.ensures.run)
 
 pub returns-clause-cause : goal.returns-clause-cause
 returns-clause-cause g c = record {

@@ -1,0 +1,75 @@
+-- What a purge leaves of a base folder has room where the folder had it.
+use Rattle.std.proofs.Common.{◌≡◌, ◌+◌, ◌*◌, ◌/◌, ◌^◌, ◌<◌, ◌≤◌, ◌⊎◌, ℕ, nat_lt, List, [], ◌∷◌, ◌++◌, length, map, take, drop, refl, sym, ap, subst, ◌∙◌, inl, inr, arith, length-append}
+use Rattle.std.specs.List.{AllByRecursion, flat_map}
+use Rattle.std.proofs.lemmas.Bool.{cond-true, lt-ltb}
+use Rattle.std.proofs.lemmas.List.{length-drop, length-map, length-take-le}
+use Rattle.echo_packet.specs.Header.{word}
+use Rattle.echo_filed.specs.Filed.{Filed}
+use Rattle.echo_filed.specs.Stored.{IsStored, Stored, after_length, last_bytes, message_in, stored_bytes}
+use Rattle.echo_filed.specs.declared.stored.Version.TheVariants.{Second}
+use Rattle.base_file.specs.Base.{Base}
+use Rattle.base_log.specs.Standing.{BaseBytes}
+use Rattle.base_store.specs.Keys.{HasBytesOf, StandWhereTold, place_at, place_behind}
+use Rattle.base_folder_store.specs.Added.{LacksRoom, next_place, with_stored}
+use Rattle.base_folder_store.specs.Held.{HoldsBase}
+use Rattle.base_folder_store.specs.Left.{HoldsLeft, first_left}
+use Rattle.base_folder_store.specs.declared.folder.Folder.{Folder}
+use Rattle.base_folder_store.proofs.Bases.{told_where}
+use Rattle.base_folder_store.proofs.Stubbed.{first_many}
+
+fourth : (k : ℕ) (a b c d e : List ℕ) → length d ≤ length (k ∷ (a ++ (b ++ (c ++ (d ++ e)))))
+fourth k a b c d e = omega (arith, length-append a (b ++ (c ++ (d ++ e))), length-append b (c ++ (d ++ e)), length-append c (d ++ e), length-append d e)
+
+-- a stored message has more bytes than its entry
+stored_some : (s : Stored) → IsStored Second s → 16 ≤ length (stored_bytes Second s)
+unfolding stored_bytes
+stored_some s size =
+    let names = after_length s.to_name ++ (after_length s.from_name ++ (after_length s.subject ++ last_bytes Second s)) in
+    let date = fourth s.kind (word s.zone) (word s.net) (word s.node) s.date names in
+    let long = size.date_len in
+    omega (arith, date, long)
+
+entries_few : (all : List Stored) → AllByRecursion (IsStored Second) all → 16 * length all ≤ length (flat_map (stored_bytes Second) all)
+entries_few [] sizes = omega arith
+entries_few (s ∷ all) sizes = omega (arith, stored_some s sizes.0, entries_few all sizes.1, length-append (stored_bytes Second s) (flat_map (stored_bytes Second) all))
+
+-- so eight bytes count the entries where they count the messages
+keys_few : (keyed : ℕ → ℕ → List ℕ → ℕ) (bytes : BaseBytes) (base : Base) → HoldsBase keyed bytes base → 16 * length base.messages < 2 ^ 64
+keys_few keyed bytes base holds =
+    let files = holds.files in
+    omega (arith, files.long, ap (λ (l : List ℕ). length l) files.stored, ap (λ (l : List Filed). length l) files.filed, length-map files.all (message_in Second), entries_few files.all files.sizes)
+
+-- the bytes of a message reach to the next one
+reaches : (messages keys : List ℕ) (i : ℕ) (s : Stored) → HasBytesOf messages keys i s → place_at keys i + length (stored_bytes Second s) ≡ place_behind messages keys i
+reaches messages keys i s has =
+    let ends = place_behind messages keys i in
+    omega (arith, has.begins, ap (λ (l : List ℕ). length l) has.bytes, length-drop (place_at keys i) (take ends messages), length-take-le ends messages has.ends)
+
+-- what is left of one message more has no more bytes
+pub shorter_more : (base : List Filed) (was held now : BaseBytes) (place number : ℕ) (bytes : List ℕ) (s : Stored) → StandWhereTold base was.messages was.keys → HasBytesOf was.messages was.keys place s
+    → length held.messages ≤ place_at was.keys place → length bytes ≤ length (stored_bytes Second s) → now ≡ with_stored held bytes number → place + 1 < length base → length now.messages ≤ place_at was.keys (place + 1)
+shorter_more base was held now place number bytes s told has less shorter staged within =
+    let inside : place + 1 < length was.keys / 16 = omega (arith, told.many, within) in
+    let next : place_behind was.messages was.keys place ≡ place_at was.keys (place + 1) =
+    cond-true (nat_lt (place + 1) (length was.keys / 16)) (place_at was.keys (place + 1)) (length was.messages) (lt-ltb (place + 1) (length was.keys / 16) inside) in
+    omega (arith, less, shorter, next, reaches was.messages was.keys place s has, ap (λ (b : BaseBytes). length b.messages) staged, length-append held.messages bytes)
+
+-- and there is room for it
+pub room_left : (keyed : ℕ → ℕ → List ℕ → ℕ) (base : Base) (was held : BaseBytes) (next : Folder) (place bytes : ℕ) (s : Stored) → HoldsBase keyed was base → HoldsLeft keyed base was place held → place < length base.messages
+    → HasBytesOf was.messages was.keys place s → bytes ≤ length (stored_bytes Second s) → length held.messages ≡ next_place next → length held.keys ≡ next.keys → next.keys ≡ next.told.keys + length next.waiting.keys.items
+    → LacksRoom next bytes → ⊥
+room_left keyed base was held next place bytes s holds left within has shorter messages keys sum lacks =
+    let behind = reaches was.messages was.keys place s has in
+    let ends = has.ends in
+    let long = holds.files.long in
+    let less = left.shorter within in
+    let few = keys_few keyed was base holds in
+    let entries : length held.keys ≡ 16 * place = first_keys keyed base held place within left.left in
+    elim lacks [
+      | inl (inl bytes_more) ↦ omega (arith, behind, ends, long, less, shorter, messages, bytes_more)
+      | inl (inr keys_more) ↦ omega (arith, few, entries, within, keys, keys_more)
+      | inr keys_more ↦ omega (arith, few, entries, within, keys, sum, keys_more)
+    ]
+  where
+    first_keys : (keyed : ℕ → ℕ → List ℕ → ℕ) (base : Base) (held : BaseBytes) (place : ℕ) → place < length base.messages → HoldsBase keyed held (first_left base place) → length held.keys ≡ 16 * place
+    first_keys keyed base held place within holds = omega (arith, (told_where keyed held (first_left base place) holds).many, first_many base place within)

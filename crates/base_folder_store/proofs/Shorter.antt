@@ -1,0 +1,199 @@
+-- What a purge leaves of a stored message has no more bytes than it had.
+use Rattle.std.proofs.Common.{◌≡◌, ℕ, ◌+◌, ◌-◌, ◌^◌, ◌<◌, ◌≤◌, ◌&&◌, nat_lt, min, Bool, true, false, List, [], ◌∷◌, ◌++◌, length, map, take, drop, refl, sym, ap, subst, ◌∙◌, Option, Some, None, inl, inr, arith, length-append}
+use Rattle.std.specs.Prelude.{filter, find, is_some, unwrap_or}
+use Rattle.std.specs.List.{flat_map, prefix_len, suffix_len}
+use Rattle.std.proofs.lemmas.Bool.{and_from, and_parts, cases_Bool, cond-false, cond-true, lt-ltb, ltb-true}
+use Rattle.std.proofs.lemmas.List.{append-nil, length-drop, length-take, take_all}
+use Rattle.echo_addr.specs.Entries.{is_blank}
+use Rattle.echo_addr.specs.ShortLines.{path_prefix, seen_prefix}
+use Rattle.echo_text.specs.Echo.{EchoText, ended, msgid_of}
+use Rattle.echo_text.specs.Lines.{after_feeds, after_word, area_word, begins, is_feed, msgid_word, trimmed}
+use Rattle.echo_filed.specs.Filed.{Filed}
+use Rattle.echo_filed.specs.Sending.{front_bytes, strings_bytes}
+use Rattle.echo_filed.specs.Stored.{IsStored, Stored, after_length, after_long_length, is_short, is_short_enough, message_in, stored_as, stored_bytes}
+use Rattle.echo_filed.specs.Stubs.{is_stub, stub_of, stub_with}
+use Rattle.echo_filed.specs.Written.{short_lines, text_of}
+use Rattle.echo_filed.specs.declared.stored.Version.TheVariants.{Second}
+use Rattle.echo_filed.proofs.Keys.{msgid_first, msgid_is_id, stub_of_stub}
+use Rattle.echo_filed.proofs.Sendings.{last_sent, stored_parts}
+use Rattle.echo_filed.proofs.StubTests.{stub_told}
+use Rattle.base_file.specs.BaseFile.{BaseOf, head_bytes, is_countable, magic, saved_bytes, stored_at}
+use Rattle.base_file.proofs.SavedAgain.{SavesAgain, saved_again}
+use Rattle.base_store.specs.Keys.{MayStandAlone, cursor_alone}
+use Rattle.base_folder_store.proofs.Single.{head_long}
+use Rattle.base_folder_store.proofs.Whole.{whole_loads}
+
+-- an id is no longer than its line
+in_line : (line : List ℕ) → length (trimmed (after_word msgid_word line)) ≤ length line
+unfolding trimmed after_word
+in_line line =
+    let fed = after_feeds line in
+    let rest = drop (length msgid_word) fed in
+    let front = drop (prefix_len is_blank rest) rest in
+    omega (arith, length-drop (prefix_len is_feed line) line, length-drop (length msgid_word) fed, length-drop (prefix_len is_blank rest) rest, length-take (length front - suffix_len is_blank front) front)
+
+-- nor than all lines
+in_lines : (p q : List ℕ → Bool) (f : List ℕ → List ℕ) → ((line : List ℕ) → length (f line) ≤ length line) → (kept : List (List ℕ)) (id : List ℕ) → find p (map f (filter q kept)) ≡ Some id
+    → length id ≤ length (flat_map ended kept)
+in_lines p q f short [] id found = absurd (cc)
+in_lines p q f short (line ∷ more) id found =
+    let all = length-append (ended line) (flat_map ended more) in
+    let end = length-append line (13 ∷ []) in
+    let one = short line in
+    elim (cases_Bool (q line)) [
+      | inl kind ↦
+          let here : find p (f line ∷ map f (filter q more)) ≡ Some id = ap (λ (l : List (List ℕ)). find p (map f l)) (sym (cond-true (q line) (line ∷ filter q more) (filter q more) kind)) ∙ found in
+          elim (cases_Bool (p (f line))) [
+            | inl passes ↦
+                let same : Some (f line) ≡ Some id = sym (cond-true (p (f line)) (Some (f line)) (find p (map f (filter q more))) passes) ∙ here in
+                let is : f line ≡ id = cc in
+                let size = ap (λ (l : List ℕ). length l) is in
+                omega (arith, all, end, one, size)
+            | inr fails ↦
+                let later = in_lines p q f short more id (sym (cond-false (p (f line)) (Some (f line)) (find p (map f (filter q more))) fails) ∙ here) in
+                omega (arith, all, end, later)
+          ]
+      | inr other ↦
+          let later = in_lines p q f short more id (ap (λ (l : List (List ℕ)). find p (map f l)) (sym (cond-false (q line) (line ∷ filter q more) (filter q more) other)) ∙ found) in
+          omega (arith, all, end, later)
+    ]
+
+id_within : (kept : List (List ℕ)) (id : List ℕ) → msgid_of kept ≡ Some id → length id ≤ length (flat_map ended kept)
+unfolding msgid_of
+id_within kept id found = in_lines (λ l. nat_lt 0 (length l)) (begins msgid_word) (λ line. trimmed (after_word msgid_word line)) in_line kept id found
+
+first_two : (a b c : List ℕ) → length a + length b ≤ length (a ++ (b ++ c))
+first_two a b c = omega (arith, length-append a (b ++ c), length-append b c)
+
+-- the text has the tag and the kept lines
+text_long : (e : EchoText) → 6 + length e.tag + length (flat_map ended e.kept) ≤ length (text_of e)
+unfolding text_of
+text_long e =
+    omega (
+      arith,
+      first_two (ended (area_word ++ e.tag)) (flat_map ended e.kept) (short_lines seen_prefix e.seen ++ short_lines path_prefix e.path),
+      length-append (area_word ++ e.tag) (13 ∷ []),
+      length-append area_word e.tag,
+    )
+
+-- how long a stored message is
+stored_long : (short : Bool) (m : Filed)
+    → length (stored_bytes Second (stored_as short m)) ≡ length (front_bytes (stored_as short m)) + (length (strings_bytes m.to_name m.from_name m.subject) + length (last_sent short m))
+stored_long short m =
+    ap (λ (l : List ℕ). length l) (sym (stored_parts short m))
+    ∙ length-append (front_bytes (stored_as short m)) (strings_bytes m.to_name m.from_name m.subject ++ last_sent short m)
+    ∙ ap (λ (n : ℕ). length (front_bytes (stored_as short m)) + n) (length-append (strings_bytes m.to_name m.from_name m.subject) (last_sent short m))
+
+-- a message, saved as scanned or not, is saved with no more bytes as its stub, and four bytes count these
+record IsLess (short : Bool) (m stub : Filed) : Type 0 where
+  less : length (stored_bytes Second (stored_at 1 0 stub)) ≤ length (stored_bytes Second (stored_as short m))
+  few : is_short_enough (stored_as short m) ≡ true → is_short_enough (stored_at 1 0 stub) ≡ true
+
+-- its last part
+last_less : (short : Bool) (m : Filed) (id : List ℕ) → msgid_of m.echo.kept ≡ Some id → length (after_length m.echo.tag ++ after_long_length id) ≤ length (last_sent short m)
+last_less true m id has = let same = ap (λ (o : Option (List ℕ)). length (after_length m.echo.tag ++ after_long_length (unwrap_or o []))) has in omega (arith, same)
+last_less false m id has = omega (arith, length-append (after_length m.echo.tag) (after_long_length id), id_within m.echo.kept id has, text_long m.echo)
+
+last_few : (short : Bool) (m : Filed) (id : List ℕ) → msgid_of m.echo.kept ≡ Some id → length id ≤ length (stored_as short m).last
+last_few true m id has = let same = ap (λ (o : Option (List ℕ)). length (unwrap_or o [])) has in omega (arith, same)
+last_few false m id has = omega (arith, id_within m.echo.kept id has, text_long m.echo)
+
+stub_is : (m : Filed) (id : List ℕ) → msgid_of m.echo.kept ≡ Some id → stub_of m ≡ stub_with m (Some id)
+unfolding stub_of
+stub_is m id has = ap (stub_with m) has
+
+front_same : (short : Bool) (m : Filed) (id : List ℕ) → length (front_bytes (stored_as true (stub_with m (Some id)))) ≡ length (front_bytes (stored_as short m))
+front_same short m id = refl
+
+-- with an id it is saved in short
+with_id : (short : Bool) (m : Filed) (id : List ℕ) → msgid_of m.echo.kept ≡ Some id → IsLess short m (stub_with m (Some id))
+unfolding stored_at
+with_id short m id has =
+    let stub = stub_with m (Some id) in
+    let told : msgid_of stub.echo.kept ≡ Some id = msgid_first id [] (msgid_is_id m.echo.kept id has) in
+    let one : stub_of m ≡ stub = stub_is m id has in
+    let again : stub_of stub ≡ stub = ap stub_of (sym one) ∙ stub_of_stub m ∙ one in
+    let is : is_short Second 1 0 stub ≡ true = and_from (is_some (msgid_of stub.echo.kept)) (is_stub stub) (ap is_some told) ((stub_told stub).1 again) in
+    let at : stored_at 1 0 stub ≡ stored_as true stub = ap (λ (b : Bool). stored_as b stub) is in
+    let last : last_sent true stub ≡ after_length m.echo.tag ++ after_long_length id = ap (λ (o : Option (List ℕ)). after_length m.echo.tag ++ after_long_length (unwrap_or o [])) told in
+    record {
+      less = omega (
+        arith,
+        ap (λ (s : Stored). length (stored_bytes Second s)) at,
+        stored_long true stub,
+        stored_long short m,
+        ap (λ (l : List ℕ). length l) last,
+        last_less short m id has,
+        front_same short m id,
+      );
+      few = λ fits.
+          let size = ap (λ (s : Stored). length s.last) at in
+          let short_last = ap (λ (o : Option (List ℕ)). length (unwrap_or o [])) told in
+          let below = ltb-true (length (stored_as short m).last) (2 ^ 32) fits in
+          lt-ltb (length (stored_at 1 0 stub).last) (2 ^ 32) (omega (arith, size, short_last, below, last_few short m id has));
+    }
+
+never : (past stub : Bool) (has : Option (List ℕ)) → has ≡ None → (past && (is_some has && stub)) ≡ false
+never true stub has none = ap (λ (o : Option (List ℕ)). is_some o && stub) none
+never false stub has none = refl
+
+-- without one it stays
+without_id : (cursor : ℕ) (m : Filed) → msgid_of m.echo.kept ≡ None → IsLess (is_short Second cursor 0 m) m m
+unfolding stored_at
+without_id cursor m none =
+    let not_now : is_short Second 1 0 m ≡ false = ap (λ (o : Option (List ℕ)). is_some o && is_stub m) none in
+    let not_then : is_short Second cursor 0 m ≡ false = never (nat_lt 0 cursor) (is_stub m) (msgid_of m.echo.kept) none in
+    let same : stored_at 1 0 m ≡ stored_as (is_short Second cursor 0 m) m = ap (λ (b : Bool). stored_as b m) (not_now ∙ sym not_then) in
+    record {
+      less = let size = ap (λ (s : Stored). length (stored_bytes Second s)) same in omega (arith, size);
+      few = λ fits. ap is_short_enough same ∙ fits;
+    }
+
+less_of : (cursor : ℕ) (m : Filed) (has : Option (List ℕ)) → msgid_of m.echo.kept ≡ has → IsLess (is_short Second cursor 0 m) m (stub_of m)
+unfolding stub_of
+less_of cursor m None is = subst (λ (o : Option (List ℕ)). IsLess (is_short Second cursor 0 m) m (stub_with m o)) (sym is) (without_id cursor m is)
+less_of cursor m (Some id) is = subst (λ (o : Option (List ℕ)). IsLess (is_short Second cursor 0 m) m (stub_with m o)) (sym is) (with_id (is_short Second cursor 0 m) m id is)
+
+front_of : (cursor : ℕ) (rest : List ℕ) → take 8 (head_bytes Second cursor 1 ++ rest) ≡ magic Second
+unfolding head_bytes
+front_of cursor rest = refl
+
+-- what is saved of a message that stands alone
+again : (s : Stored) → IsStored Second s → MayStandAlone s → SavesAgain (message_in Second s ∷ []) (cursor_alone s) (head_bytes Second (cursor_alone s) 1 ++ stored_bytes Second s)
+again s size alone =
+    let bytes = head_bytes Second (cursor_alone s) 1 ++ stored_bytes Second s in
+    let m = message_in Second s in
+    let whole : BaseOf (m ∷ []) (cursor_alone s) bytes = subst (λ (l : List ℕ). BaseOf (m ∷ []) (cursor_alone s) l) (take_all (length bytes) bytes (omega arith)) (whole_loads s size alone).1 in
+    saved_again (m ∷ []) (cursor_alone s) bytes whole (front_of (cursor_alone s) (stored_bytes Second s))
+
+-- what a purge leaves of a message that stands alone
+pub record LeavesLess (s : Stored) : Type 0 where
+  pub few : is_countable (stub_of (message_in Second s) ∷ []) 1 ≡ true
+  pub less : length (drop 16 (saved_bytes (stub_of (message_in Second s) ∷ []) 1)) ≤ length (stored_bytes Second s)
+
+saved_one : (m : Filed) (cursor : ℕ) → drop 16 (saved_bytes (m ∷ []) cursor) ≡ stored_bytes Second (stored_at cursor 0 m)
+unfolding saved_bytes
+saved_one m cursor = let here = stored_bytes Second (stored_at cursor 0 m) in head_long cursor 1 (here ++ []) ∙ append-nil here
+
+countable_one : (m : Filed) (cursor : ℕ) → (is_countable (m ∷ []) cursor ≡ true → is_short_enough (stored_at cursor 0 m) ≡ true) × (is_short_enough (stored_at cursor 0 m) ≡ true → is_countable (m ∷ []) cursor ≡ true)
+unfolding is_countable
+countable_one m cursor =
+    let one = is_short_enough (stored_at cursor 0 m) in
+    (λ is. (and_parts one true (and_parts true (one && true) is).1).0, λ is. and_from true (one && true) refl (and_from one true is refl))
+
+pub leaves_less : (s : Stored) → IsStored Second s → MayStandAlone s → LeavesLess s
+unfolding stored_at
+leaves_less s size alone =
+    let m = message_in Second s in
+    let cursor = cursor_alone s in
+    let saved = again s size alone in
+    let is : IsLess (is_short Second cursor 0 m) m (stub_of m) = less_of cursor m (msgid_of m.echo.kept) refl in
+    let was : stored_bytes Second (stored_at cursor 0 m) ≡ stored_bytes Second s = sym (saved_one m cursor) ∙ ap (λ (l : List ℕ). drop 16 l) saved.same ∙ head_long cursor 1 (stored_bytes Second s) in
+    record {
+      few = (countable_one (stub_of m) 1).1 (is.few ((countable_one m cursor).0 saved.countable));
+      less =
+          let now = ap (λ (l : List ℕ). length l) (saved_one (stub_of m) 1) in
+          let then = ap (λ (l : List ℕ). length l) was in
+          let less = is.less in
+          omega (arith, now, then, less);
+    }
