@@ -4,11 +4,10 @@ ghost use Rattle.disk_io.specs.Device.{Failed};
 ghost use Rattle.disk_io.specs.declared.disk_error.DiskError.TheVariants.{Device};
 
 use crate::paths::{folder_of, text_path};
-use cmd_status::{Fault, print_rest};
+use cmd_status::{Fault, FileLock, print_rest};
 use disk_io::{DiskError, Watched};
 use echo_addr::Items;
 use echo_charset::push_word;
-use station::FileLock;
 use std::alloc::AllocError;
 use std::fs::{File, Metadata, TryLockError};
 use std::io::{ErrorKind, IsTerminal};

@@ -3,11 +3,10 @@
 use crate::inputs::input_fault;
 use crate::paths::PathName;
 use crate::progress::{Progress, share_of};
-use cmd_status::Fault;
+use cmd_status::{Fault, StreamPackets};
 use disk_io::{Buffered, Watched};
 use disk_system::open_regular;
 use echo_packet::Limits;
-use station::StreamPackets;
 use std::fs::File;
 use std::io;
 use std::io::Read;

@@ -2,10 +2,9 @@
 ghost use Rattle.std.specs.Prelude.{string_bytes};
 
 use crate::inputs::{MAX_INPUT, read_given};
-use cmd_status::Fault;
+use cmd_status::{Fault, PacketName};
 use cmd_words::Paths;
 use echo_charset::push_word;
-use station::PacketName;
 use std::alloc::AllocError;
 use std::str;
 

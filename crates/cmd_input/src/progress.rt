@@ -1,9 +1,8 @@
 //! The progress of a command, for a terminal. One second after the command began, its line appears on standard error.
 //! It is overwritten in place, and erased before anything else is printed.
 
-use cmd_status::print_rest;
+use cmd_status::{MessageProgress, print_rest};
 use disk_io::Watched;
-use station::MessageProgress;
 use std::alloc::AllocError;
 use std::cell::Cell;
 use std::io;

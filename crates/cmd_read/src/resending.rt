@@ -8,14 +8,14 @@ use cmd_input::{
 };
 use cmd_numbered::resend;
 use cmd_report::{push_packet, resent_name};
-use cmd_status::{Fault, Status, number_of, parse_address, print_rest};
+use cmd_status::{Fault, FileLock, Status, number_of, parse_address, print_rest};
 use cmd_words::ResendWords;
 use disk_io::{Disk, Sink};
 use disk_system::{NewFile, OutputFault, RealDisk, Unknown, create_file, flush_folder};
 use echo_addr::Address;
 use echo_toss::Resend;
 use model_steps::Packet;
-use station::{FileLock, links_at};
+use station::links_at;
 use std::alloc::AllocError;
 use std::collections::hash_map::RandomState;
 use std::str;

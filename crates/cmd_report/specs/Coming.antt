@@ -1,12 +1,8 @@
 -- Packet files that are opened one after the other.
 use Rattle.std.specs.Prelude.{◌≡◌, ℕ, ◌⊎◌, List, [], ◌∷◌, Option, Some, None, Result, Ok, Err}
 use Rattle.cmd_status.specs.declared.fault.Fault.{Fault}
-use Rattle.cmd_status.specs.declared.fault.Fault.TheVariants.{CannotUse, OutOfMemory}
-
--- The file with this path cannot be used.
-abbrev pub IsCannotUse : List ℕ → Fault → Type 0
-IsCannotUse path (CannotUse other) = other.now ≡ path
-IsCannotUse path _ = ⊥
+use Rattle.cmd_status.specs.declared.fault.Fault.TheVariants.{OutOfMemory}
+use Rattle.cmd_status.specs.Ended.{IsCannotUse}
 
 -- The fact known of a packet file before it is opened: its bytes, or that it cannot be used at this path, or neither.
 pub data Coming : Type 0 where

@@ -9,13 +9,13 @@ use crate::running::{Before, run_on};
 use cmd_input::{MAX_TEXT_FILE, moment_of, read_file, read_standard_input, serial_from};
 use cmd_numbered::refuse_message;
 use cmd_report::{Answer, NewMessage};
-use cmd_status::{Fault, Status, number_of};
+use cmd_status::{Fault, FileLock, Status, number_of};
 use cmd_store::{Post, PostMail, Purge, Reply};
 use cmd_words::{PostStoredWords, PostWords, ReplyWords};
 use disk_io::Sink;
 use echo_stored::{StoredFault, read_stored};
 use model_steps::{PostFault, Stamp};
-use station::{FileLock, Locks};
+use station::Locks;
 
 /// A command with its words and its body.
 #[derive(Drop)]

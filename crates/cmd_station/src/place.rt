@@ -5,10 +5,10 @@ ghost use Rattle.station.specs.Opening.{AreFree};
 use crate::found::{FolderState, found_in};
 use cmd_base::BaseFiles;
 use cmd_input::{BaseLock, LinkLock, is_folder};
-use cmd_status::Fault;
+use cmd_status::{Fault, FileLock};
 use disk_io::Disk;
 use disk_system::{OutputFault, RealDisk, Unknown, target_of};
-use station::{FileLock, Locks, links_at, lock_at};
+use station::{Locks, links_at, lock_at};
 use station_bases::FolderProbe;
 
 /// The paths of the link file and of the base of a station.

@@ -7,7 +7,7 @@ use base_file::BaseFault;
 use cmd_input::{LinkLock, base_bytes, moment_of, serial_from};
 use cmd_numbered::{PostedWords, is_posted, own_serial};
 use cmd_report::NewMessage;
-use cmd_status::Fault;
+use cmd_status::{Fault, FileLock};
 use cmd_store::Post;
 use cmd_words::PostJamWords;
 use disk_io::{Disk, Sink};
@@ -15,7 +15,7 @@ use disk_system::{RealDisk, Unknown};
 use echo_addr::Address;
 use echo_jam::JamDraft;
 use model_steps::{PostFault, Stamp};
-use station::{FileLock, links_at};
+use station::links_at;
 use std::collections::hash_map::RandomState;
 
 /// A station that posts messages of a JAM base: its own address, the serial from which the first free one is taken, and

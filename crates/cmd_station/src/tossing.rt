@@ -5,13 +5,13 @@ ghost use Rattle.station.specs.Opening.{AreFree};
 use crate::place::{Place, Station, find_base, locks_of};
 use crate::running::{Before, by_name, run_on};
 use cmd_input::{PacketStreams, PathNames, Progress, Tossing, names_of};
-use cmd_status::{Fault, LIMITS, Status, limits_for, number_of};
+use cmd_status::{Fault, FileLock, LIMITS, Status, limits_for, number_of};
 use cmd_store::Toss;
 use cmd_words::TossWords;
 use disk_io::Sink;
 use disk_system::{RealDisk, Unknown};
 use echo_packet::Limits;
-use station::{FileLock, Locks, packets_on_disk};
+use station::{Locks, packets_on_disk};
 
 /// `toss`: the limit of a text is judged first. A list of packets is read before the lock is taken, and each packet file
 /// is opened when its turn comes. A fault of a packet is reported once the base is committed.

@@ -34,6 +34,11 @@ IsOutOfMemory TossMemory = Unit {0}
 IsOutOfMemory (Scan scan.Memory) = Unit {0}
 IsOutOfMemory _ = ⊥
 
+-- the file with this path cannot be used
+abbrev pub IsCannotUse : List ℕ → Fault → Type 0
+IsCannotUse path (CannotUse other) = other.now ≡ path
+IsCannotUse path _ = ⊥
+
 -- standard output cannot be used: it failed in the call
 abbrev pub CannotPrint : ℕ → ℕ → Fault → Type 0
 CannotPrint before after (CannotUse path) = (path.now ≡ codes "-") × Failed before after

@@ -7,20 +7,26 @@
 //!
 //! Begin with `fault`, `status` and `shown` (a path in a fault). `printing` writes lines to standard output,
 //! `options` parses addresses, stamps, serials and numbers, `inputs` reads link files and a nodelist. `limits`
-//! bounds packets.
+//! bounds packets. What a program gives a command: `locked` (locks), `packet_names` (packet files) and `progress`.
 #![tactic(auto)]
 
 mod fault;
 mod inputs;
 mod limits;
+mod locked;
 mod options;
+mod packet_names;
 mod printing;
+mod progress;
 mod shown;
 mod status;
 
 pub use fault::Fault;
 pub use inputs::{link_files, nodelist_given};
 pub use limits::{LIMITS, limits_for};
+pub use locked::FileLock;
 pub use options::{number_of, parse_address, serial_of, stamp_of};
+pub use packet_names::{PacketName, StreamPackets};
 pub use printing::{pass_on, print_rest};
+pub use progress::{MessageProgress, Unwatched};
 pub use status::{Status, ended};

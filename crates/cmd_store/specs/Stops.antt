@@ -10,7 +10,7 @@ use Rattle.echo_toss.specs.declared.step_error.PostStepError.{PostStepError}
 use Rattle.echo_toss.specs.declared.step_error.PostStepError.TheVariants as post
 use Rattle.echo_toss.specs.declared.step_error.ScanStepError.{ScanStepError}
 use Rattle.echo_toss.specs.declared.step_error.ScanStepError.TheVariants as scan
-use Rattle.cmd_report.specs.Coming.{IsCannotUse}
+use Rattle.cmd_status.specs.Ended.{IsCannotUse}
 use Rattle.cmd_store.specs.declared.command_error.CommandError.{CommandError}
 use Rattle.cmd_store.specs.declared.command_error.CommandError.TheVariants as stop
 

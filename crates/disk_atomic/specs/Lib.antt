@@ -1,3 +1,5 @@
+pub mod StagingPaths
+pub mod ListStaged
 pub mod Changes
 pub mod Finishing
 pub mod Naming

@@ -12,7 +12,7 @@ use Rattle.disk_atomic.specs.Finishing.{IsOfLeft}
 use Rattle.disk_atomic.specs.declared.finishing.Left.{Left}
 use Rattle.model_run.specs.Run.{nth}
 use Rattle.model_run.proofs.Lists.{none_some, some_same}
-use Rattle.station.specs.Paths.{dotted, staging_path}
+use Rattle.disk_atomic.specs.StagingPaths.{dotted, staging_path}
 use Rattle.cmd_status.specs.declared.fault.Fault.{Fault}
 use Rattle.cmd_status.specs.Devices.{Output}
 use Rattle.model_steps.specs.PacketFiles.{PacketFile}

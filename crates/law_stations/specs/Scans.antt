@@ -5,7 +5,7 @@ use Rattle.base_file.specs.Base.{Base}
 use Rattle.disk_io.specs.Disk.{DiskState, Files}
 use Rattle.echo_links.specs.Links.{LinkFile}
 use Rattle.echo_links.specs.LinkLines.{LinksOf}
-use Rattle.station.specs.Paths.{dotted, staging_path}
+use Rattle.disk_atomic.specs.StagingPaths.{dotted, staging_path}
 use Rattle.cmd_status.specs.declared.fault.Fault.{Fault}
 use Rattle.model_steps.specs.PacketFiles.{PacketFile}
 use Rattle.model_steps.specs.declared.stamp.Stamp.{Stamp}

@@ -6,10 +6,10 @@ ghost use Rattle.law_stations.specs.DiskKinds.{IsMail, IsPostAs, IsReplyAs};
 ghost use Rattle.law_stations.specs.OnDisks.{AsMay, StaysWhereMet, TossesAsMay};
 
 use cmd_report::PacketFiles;
-use cmd_status::Fault;
+use cmd_status::{Fault, FileLock};
 use cmd_store::{Post, PostMail, Purge, Reply, Toss};
 use disk_io::{Disk, Sink};
-use station::{BeforeCommand, Ended, FileLock, Locks, OpenStation, run_command};
+use station::{BeforeCommand, Ended, Locks, OpenStation, run_command};
 use std::alloc::Global;
 
 /// `purge` on a station. A crash at any time leaves what an earlier one might have left, or the station as before the

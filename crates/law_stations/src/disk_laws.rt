@@ -8,8 +8,9 @@ ghost use Rattle.law_stations.specs.Neighbours.{OthersStay};
 ghost use Rattle.law_stations.specs.Scans.{with_packets_in};
 
 use cmd_report::PacketFiles;
+use cmd_status::{PacketName, StreamPackets};
 use disk_io::Disk;
-use station::{OpenStation, PacketName, PacketsOnDisk, StreamPackets};
+use station::{OpenStation, PacketsOnDisk};
 
 /// A command on a station leaves the rest of the disk as it was. So another station of the net keeps its place: its
 /// link file and base are elsewhere and synced, and a crash at any time leaves them there. The same holds for a scan,

@@ -3,9 +3,11 @@ ghost use Rattle.disk_io.specs.Disk.{Honestly};
 ghost use Rattle.station.specs.Opening.{AreFree, HaveFailed};
 ghost use Rattle.law_stations.specs.Scans.{ScansAsMay, StaysWhereScanMet};
 
+use cmd_status::{FileLock, MessageProgress};
+use disk_atomic::ListStaged;
 use disk_io::{Disk, Sink};
-use station::{BeforeCommand, FileLock, LendStation, Locks, MessageProgress};
-use station_scan::{ListStaged, Scan, Scanned, run_scan};
+use station::{BeforeCommand, LendStation, Locks};
+use station_scan::{Scan, Scanned, run_scan};
 use std::alloc::Global;
 
 /// `scan` on a station. A crash at any time leaves what an earlier one might have left, or the station as before the

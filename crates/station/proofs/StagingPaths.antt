@@ -7,7 +7,7 @@ use Rattle.echo_addr.specs.Address.{IsAddress}
 use Rattle.echo_addr.proofs.Decimals.{IsDigit, digits_of_decimal}
 use Rattle.echo_filed.proofs.Choices.{all_weaker}
 use Rattle.disk_io.specs.Disk.{IsIn}
-use Rattle.station.specs.Paths.{dotted, staging_path}
+use Rattle.disk_atomic.specs.StagingPaths.{dotted, staging_path}
 
 -- a byte that is no slash
 abbrev pub IsPlain : ℕ → Type 0

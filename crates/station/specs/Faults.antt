@@ -6,7 +6,7 @@ use Rattle.disk_io.specs.declared.disk_error.DiskError.{DiskError}
 use Rattle.disk_io.specs.declared.disk_error.DiskError.TheVariants as disk_error
 use Rattle.cmd_status.specs.declared.fault.Fault.{Fault}
 use Rattle.cmd_status.specs.declared.fault.Fault.TheVariants.{OutOfMemory, TooLarge}
-use Rattle.cmd_report.specs.Coming.{IsCannotUse}
+use Rattle.cmd_status.specs.Ended.{IsCannotUse}
 
 -- The file with this path has more bytes than allowed.
 abbrev pub IsTooLarge : List ℕ → Fault → Type 0

@@ -3,18 +3,16 @@
 //! The contract for the commands: the link file is read as the disk shows it, at most a MiB, and never before its lock
 //! is held. What a command promises on a store, `run_command` promises on the disk.
 //!
-//! Begin with `opening` (the trait of a kind of station) and `running`. They use `locked` and `locks` (the locks of a
-//! station), `paths` (staging paths), `reading` and `links` (the link file) and `progress` (progress while a base file
-//! is read). `before` is what a program does with the store before the command. `lending` passes the disk of a store on
-//! for other files. `packets` opens the packet files of `toss`, `packet_reader` reads them, and `held_bytes` are those
-//! in memory.
+//! Begin with `opening` (the trait of a kind of station) and `running`. They use `locks` (the locks of a station), `paths`
+//! (the own name in paths), `reading` and `links` (the link file) and `progress` (progress while a base file is read).
+//! `before` is what a program does with the store before the command. `lending` passes the disk of a store on for other
+//! files. `packets` opens the packet files of `toss`, `packet_reader` reads them, and `held_bytes` are those in memory.
 #![tactic(auto)]
 
 mod before;
 mod held_bytes;
 mod lending;
 mod links;
-mod locked;
 mod locks;
 mod opening;
 mod packet_reader;
@@ -28,11 +26,10 @@ pub use before::{BeforeCommand, Nothing, Unread};
 pub use held_bytes::HeldBytes;
 pub use lending::{LendStation, OwnPaths};
 pub use links::{links_at, lock_at, lock_links};
-pub use locked::FileLock;
 pub use locks::Locks;
 pub use opening::{OpenStation, Opened, Stopped};
 pub use packet_reader::PacketReader;
-pub use packets::{PacketName, PacketsOnDisk, StreamPackets, packets_on_disk};
-pub use paths::{staging_path, system_name};
-pub use progress::{Followed, MessageProgress, Unwatched};
+pub use packets::{PacketsOnDisk, packets_on_disk};
+pub use paths::system_name;
+pub use progress::Followed;
 pub use running::{Ended, run_command};

@@ -6,9 +6,8 @@ ghost use Rattle.disk_io.specs.Runs.{ChangesNothing};
 ghost use Rattle.station.specs.Faults.{FailsAt, HaveFailed, LinksUnread, most_links};
 ghost use Rattle.station.specs.Links.{AreLinks, NoLinks};
 
-use crate::locked::FileLock;
 use crate::reading::{fault_at, read_links};
-use cmd_status::Fault;
+use cmd_status::{Fault, FileLock};
 use disk_io::Disk;
 use echo_links::LinkFile;
 use std::alloc::Global;

@@ -7,10 +7,9 @@ ghost use Rattle.cmd_status.specs.declared.fault.Fault.{Fault as TheFault};
 ghost use Rattle.station.specs.Opening.{AreFree, HaveFailed, IsNotOpened, IsOpened};
 ghost use Rattle.station.specs.Place.{Place};
 
-use crate::FileLock;
 use crate::locks::Locks;
 use base_store::PurgedStore;
-use cmd_status::Fault;
+use cmd_status::{Fault, FileLock};
 use disk_io::Disk;
 use echo_links::LinkFile;
 use std::alloc::Global;

@@ -1,8 +1,8 @@
 //! The packet files of `toss` on a disk: each is opened when its turn comes.
-ghost use Rattle.std.specs.Prelude.{◌≡◌, ◌≤◌, ℕ, Bool, true, false, List, Some, map, IfErr, IfOk};
+ghost use Rattle.std.specs.Prelude.{◌≡◌, ◌≤◌, Some, map, IfOk};
 ghost use Rattle.disk_io.specs.Disk.{Honestly};
 ghost use Rattle.disk_io.specs.Runs.{ChangesNothing, HasCause};
-ghost use Rattle.cmd_report.specs.Coming.{IsCannotUse, Opens};
+ghost use Rattle.cmd_report.specs.Coming.{Opens};
 ghost use Rattle.station.specs.PacketReader.{held_remaining};
 ghost use Rattle.station.specs.PacketsFound.{IsFound};
 ghost use Rattle.station.specs.Faults.{HasSize};
@@ -12,37 +12,12 @@ use crate::held_bytes::HeldBytes;
 use crate::packet_reader::PacketReader;
 use crate::reading::size_of;
 use cmd_report::PacketFiles;
-use cmd_status::Fault;
-use disk_io::{Disk, DiskError, Source, read_part};
+use cmd_status::{Fault, PacketName, StreamPackets};
+use disk_io::{Disk, DiskError, read_part};
 use std::alloc::{AllocError, Global};
 
 /// The most bytes of a packet file that is held in memory.
 const MOST_HELD: usize = 1_048_576;
-
-/// The name of a packet file.
-pub trait PacketName {
-    // The path, as it is printed.
-    ghost path: { Self → List ℕ };
-
-    // Whether a file can have the path.
-    ghost is_usable: { Self → Bool };
-
-    /// The path to open.
-    fn path(&self) -> Result<&str, Fault<'_>>
-        ensures path { IfOk result (λ found. (is_usable self.now ≡ true) × (found.now ≡ path self.now)) }
-        ensures none { IfErr result (λ fault. (is_usable self.now ≡ false) × IsCannotUse (path self.now) fault) };
-}
-
-/// Reads packet files that are too large to be held in memory, and reports progress. Packet files have numbers from 1 on.
-pub trait StreamPackets<'a> {
-    type Reader: Source + Drop;
-
-    /// Opens the packet file of this number and path, to be read piece by piece.
-    fn open(&self, number: usize, path: &'a str) -> Result<Self::Reader, Fault<'a>>;
-
-    /// The packet file of this number was read whole.
-    fn tell(&self, number: usize);
-}
 
 /// Packet files with these names. Those of at most a MiB are read whole, the others as they are tossed.
 #[derive(Drop)]

@@ -1,21 +1,10 @@
-//! Staging paths of files.
+//! The name of a system in paths of files.
 ghost use Rattle.std.specs.Prelude.{◌≡◌, ◌≢◌, All, IfOk};
-ghost use Rattle.station.specs.Paths.{dotted, staging_path};
+ghost use Rattle.disk_atomic.specs.StagingPaths.{dotted};
 
 use echo_addr::Address;
 use echo_links::LinkFile;
 use std::alloc::{AllocError, Global};
-
-/// The staging path of a file for the system of this name.
-pub fn staging_path(alloc: Global, path: &[u8], own: &[u8]) -> Result<Vec<u8>, AllocError>
-    ensures { IfOk result (λ staging. staging.items ≡ staging_path path.now own.now) }
-{
-    let mut staging = Vec::from_slice(alloc, path)?;
-    staging.extend_from_slice(b".~")?;
-    staging.extend_from_slice(own)?;
-    staging.extend_from_slice(b"~.new")?;
-    Ok(staging)
-}
 
 /// The own system of a link file, as names of files spell it.
 pub fn system_name(alloc: Global, links: &LinkFile) -> Result<Vec<u8>, AllocError>

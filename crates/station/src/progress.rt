@@ -4,6 +4,7 @@ ghost use Rattle.std.specs.Io.{ReadsAtMost};
 ghost use Rattle.std.specs.Io.KnownBytes.{ReadConsumes};
 ghost use Rattle.disk_io.specs.Device.{Failed};
 
+use cmd_status::MessageProgress;
 use disk_io::{Failure, Source};
 use std::io;
 use std::io::{ErrorKind, Read};
@@ -13,20 +14,6 @@ const MESSAGES: usize = 12;
 
 /// How many bytes are read between two reports.
 const SOME: usize = 65_536;
-
-/// Watches the progress of a command.
-pub trait MessageProgress {
-    /// The command is at the message of this number, counted from 0, of so many.
-    fn tell(&self, place: usize, messages: usize);
-}
-
-/// Reports nothing.
-#[derive(Clone, Copy, Drop)]
-pub struct Unwatched;
-
-impl MessageProgress for Unwatched {
-    fn tell(&self, _place: usize, _messages: usize) {}
-}
 
 /// A base file that is read, with reports of progress.
 #[derive(Drop)]

@@ -5,8 +5,7 @@ ghost use Rattle.disk_io.specs.Disk.{Honestly, bytes_in};
 ghost use Rattle.disk_io.specs.Runs.{ChangesNothing, HasCause};
 ghost use Rattle.station.specs.Faults.{HasSize, IsFaultAt, LinksUnread, most_links};
 
-use crate::locked::FileLock;
-use cmd_status::Fault;
+use cmd_status::{Fault, FileLock};
 use disk_io::{Disk, DiskError, read_file};
 use std::alloc::Global;
 

@@ -9,10 +9,10 @@ ghost use Rattle.base_store.specs.declared.store_error.StoreError.TheVariants.{T
 ghost use Rattle.cmd_store.specs.declared.command_error.CommandError.TheVariants.{Store};
 ghost use Rattle.station.specs.Running.{IsRefusedFull, RunsIn};
 
-use crate::FileLock;
 use crate::before::BeforeCommand;
 use crate::locks::Locks;
 use crate::opening::{OpenStation, Opened};
+use cmd_status::FileLock;
 use cmd_store::{CommandError, StoreCommand};
 use disk_io::{Disk, Sink};
 use std::alloc::Global;

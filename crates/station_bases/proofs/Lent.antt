@@ -6,7 +6,7 @@ use Rattle.disk_io.specs.Disk.{DiskState}
 use Rattle.disk_io.specs.Runs.{OneStepOn}
 use Rattle.disk_io.proofs.Moments.{left_now}
 use Rattle.disk_atomic.specs.Changes.{ChangesOnly, DifferAt}
-use Rattle.station.specs.Paths.{staging_path}
+use Rattle.disk_atomic.specs.StagingPaths.{staging_path}
 use Rattle.cmd_status.specs.Inputs.{IsBaseGiven}
 use Rattle.station.specs.Beneath.{IsGivenBack}
 use Rattle.station_bases.specs.InFile.{IsInFile, IsOfFile, file_state}

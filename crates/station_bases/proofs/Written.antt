@@ -6,7 +6,7 @@ use Rattle.disk_io.specs.Runs.{LeavesOnly, OneStepOn}
 use Rattle.disk_io.proofs.Moments.{no_call, weaker_run}
 use Rattle.disk_atomic.specs.Changes.{ChangesOnly, HasOnDisk}
 use Rattle.disk_atomic.specs.Replacing.{Replaces}
-use Rattle.station.specs.Paths.{staging_path}
+use Rattle.disk_atomic.specs.StagingPaths.{staging_path}
 use Rattle.cmd_status.specs.Inputs.{IsBaseGiven}
 use Rattle.base_store.specs.Store.{MayCommit, LeavesEither}
 use Rattle.station_bases.specs.InFile.{IsInFile, IsOfFile, PutsBase, StandsInFile, file_state}

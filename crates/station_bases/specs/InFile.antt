@@ -7,7 +7,7 @@ use Rattle.echo_filed.specs.Filed.{Filed}
 use Rattle.echo_filed.specs.Stored.{is_short_enough, stored_as}
 use Rattle.disk_atomic.specs.Changes.{DifferAt}
 use Rattle.cmd_status.specs.Inputs.{IsBaseGiven}
-use Rattle.station.specs.Paths.{staging_path}
+use Rattle.disk_atomic.specs.StagingPaths.{staging_path}
 use Rattle.base_store.specs.Store.{StoreState}
 use Rattle.base_store.specs.declared.store_error.StoreError.{StoreError}
 use Rattle.base_store.specs.declared.store_error.StoreError.TheVariants as error

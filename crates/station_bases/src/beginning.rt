@@ -12,10 +12,9 @@ use crate::opening::{Station, open_station};
 use crate::place::{FolderPlace, FolderProbe};
 use base_folder_store::FolderStore;
 use base_store::{Digest, Store};
-use cmd_status::Fault;
+use cmd_status::{Fault, FileLock};
 use disk_io::Disk;
 use echo_links::LinkFile;
-use station::FileLock;
 use std::alloc::Global;
 
 /// The link file of a station, and its folder as a store.

@@ -5,8 +5,9 @@ ghost use Rattle.station_bases.specs.Reading.{IsShutFor, file_place};
 
 use crate::file_store::FileStore;
 use crate::loading::{Read, read_station};
+use cmd_status::{FileLock, MessageProgress};
 use disk_io::Disk;
-use station::{FileLock, Locks, MessageProgress, OpenStation, Opened, Stopped};
+use station::{Locks, OpenStation, Opened, Stopped};
 use std::alloc::Global;
 use std::hash::BuildHasher;
 

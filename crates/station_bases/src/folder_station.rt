@@ -8,8 +8,9 @@ use crate::beginning::{Begun, open_store};
 use crate::place::{FolderPlace, FolderProbe};
 use base_folder_store::FolderStore;
 use base_store::{Digest, Store};
+use cmd_status::FileLock;
 use disk_io::Disk;
-use station::{FileLock, Locks, OpenStation, Opened, Stopped};
+use station::{Locks, OpenStation, Opened, Stopped};
 use std::alloc::Global;
 use std::marker::PhantomData;
 

@@ -1,12 +1,13 @@
 //! The disk of a station with a base file is used for other files.
 ghost use Rattle.std.specs.Prelude.{◌≡◌, ◌↔◌, ◌++◌, ℕ, List, IsTrue, codes};
-ghost use Rattle.station.specs.Paths.{staging_path};
+ghost use Rattle.disk_atomic.specs.StagingPaths.{staging_path};
 ghost use Rattle.station_bases.specs.InFile.{IsOfFile, file_state};
 
 use crate::file_station::FileStation;
 use crate::file_store::{FileRest, FileStore};
+use cmd_status::MessageProgress;
 use disk_io::Disk;
-use station::{LendStation, MessageProgress, OwnPaths};
+use station::{LendStation, OwnPaths};
 use std::alloc::Global;
 use std::hash::BuildHasher;
 

@@ -13,11 +13,11 @@ ghost use Rattle.station_bases.specs.Reading.{IsFileShut, IsSettled, IsUnreadFor
 
 use crate::file_station::FileStation;
 use base_file::Base;
-use cmd_status::Fault;
+use cmd_status::{Fault, FileLock, MessageProgress};
 use disk_io::{Disk, DiskError, folder_of, read_file};
 use echo_addr::Items;
 use echo_links::LinkFile;
-use station::{FileLock, Followed, Locks, MessageProgress, links_at, lock_at, system_name};
+use station::{Followed, Locks, links_at, lock_at, system_name};
 use std::alloc::Global;
 use std::hash::BuildHasher;
 

@@ -15,11 +15,11 @@ ghost use Rattle.station_bases.specs.Opening.{IsLockedOut, IsNotOpened, IsOpenSt
 use crate::place::{FolderPlace, FolderProbe};
 use base_folder::open_own;
 use base_folder_store::Folder;
-use cmd_status::Fault;
+use cmd_status::{Fault, FileLock};
 use disk_io::Disk;
 use echo_addr::Address;
 use echo_links::LinkFile;
-use station::{FileLock, links_at, lock_at};
+use station::{links_at, lock_at};
 use std::alloc::Global;
 
 // Opens the folder, which is locked like the link file, for the system with this address. A failure is returned as

@@ -4,18 +4,17 @@ ghost use Rattle.base_file.specs.BaseFile.{saved_bytes};
 ghost use Rattle.disk_io.specs.Runs.{HasCause, LeavesOnly, OneStepOn};
 ghost use Rattle.disk_atomic.specs.Changes.{ChangesOnly, HasOnDisk};
 ghost use Rattle.disk_atomic.specs.Replacing.{Replaces};
-ghost use Rattle.station.specs.Paths.{staging_path};
+ghost use Rattle.disk_atomic.specs.StagingPaths.{staging_path};
 ghost use Rattle.cmd_status.specs.Inputs.{IsBaseGiven};
 ghost use Rattle.base_folder_store.specs.Calls.{HasWriteCause};
 ghost use Rattle.station_bases.specs.InFile.{HasRoomFor, IsInFile, IsOfFile, IsUncounted, IsUnsaved, PutsBase};
 
 use base_file::{Base, BaseFault, saved_base_law};
 use base_store::StoreError;
-use disk_atomic::replace_file;
+use disk_atomic::{replace_file, staging_path};
 use disk_io::{Disk, DiskError, Watched, folder_of};
 use echo_addr::Items;
 use echo_filed::{Filed, is_short_enough};
-use station::staging_path;
 use std::alloc::Global;
 use std::hash::BuildHasher;
 

@@ -1,13 +1,13 @@
 -- What is found of what was listed, one by one.
 use Rattle.std.proofs.Common.{◌≡◌, ⊎_elim, ◌∙◌, ◌<◌, ◌≤◌, ℕ, List, [], ◌∷◌, ◌++◌, ap, arith, get_or, length, length-append, subst, sym}
 use Rattle.std.specs.Prelude.{All, AllPairs, Contains, IsSome, Option}
-use Rattle.station.specs.Paths.{staging_path}
+use Rattle.disk_atomic.specs.StagingPaths.{staging_path}
 use Rattle.std.proofs.lemmas.Bool.{cases_lt}
 use Rattle.std.proofs.lemmas.List.{get_or_append_left}
 use Rattle.std.proofs.Math.Seq.{get_or-append_seam}
 use Rattle.std.proofs.lemmas.List.Elements.{All-append, Contains-append_left}
 use Rattle.disk_io.specs.Disk.{Files}
-use Rattle.station_scan.specs.declared.listing.StagedPacket.{StagedPacket}
+use Rattle.disk_atomic.specs.declared.listing.StagedPacket.{StagedPacket}
 use Rattle.station_scan.specs.declared.finding.LeftPaths.{LeftPaths}
 use Rattle.station_scan.specs.Left.{Adds, AreFound, HaveOtherLeft, IsAmong, IsStagingThere, IsFound, IsFoundWhere}
 

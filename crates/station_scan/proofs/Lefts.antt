@@ -14,9 +14,9 @@ use Rattle.disk_atomic.specs.declared.placing_error.PlacingError.{PlacingError}
 use Rattle.disk_atomic.proofs.Changes.{only_nothing, then_only}
 use Rattle.disk_atomic.proofs.Ended.{quiet_then}
 use Rattle.station.proofs.StagingPaths.{staging_other}
-use Rattle.station_scan.specs.ListStaged.{AreListed, IsNumbered}
+use Rattle.disk_atomic.specs.ListStaged.{AreListed, IsNumbered}
 use Rattle.station_scan.specs.Sending.{IsOffOwn}
-use Rattle.station_scan.specs.declared.listing.StagedPacket.{StagedPacket}
+use Rattle.disk_atomic.specs.declared.listing.StagedPacket.{StagedPacket}
 use Rattle.station_scan.specs.declared.finding.LeftPaths.{LeftPaths}
 use Rattle.station_scan.specs.declared.sending.TwoPaths.{TwoPaths}
 use Rattle.station_scan.specs.Left.{AreAllLeft, AreFound, AreFreeLeft, AreLent, EndsLeft, EndsThese, IsStagingThere, IsFound, IsFreeFound, IsFoundWhere, IsEndedAt, IsLeftOf, IsLent, IsOfNameOff, IsOfPaths, IsToFind}

@@ -3,9 +3,9 @@ use Rattle.std.proofs.Common.{◌≡◌, ◌≢◌, ◌∙◌, ◌+◌, ◌<◌,
 use Rattle.std.specs.Prelude.{All}
 use Rattle.std.proofs.lemmas.List.{append-nil, append_cancel_left, append_cancel_right, get_or-append-add}
 use Rattle.disk_io.specs.Disk.{IsIn}
-use Rattle.station.specs.Paths.{staging_path}
+use Rattle.disk_atomic.specs.StagingPaths.{staging_path}
 use Rattle.station.proofs.StagingPaths.{staging_in}
-use Rattle.station_scan.specs.Sending.{IsNameByte}
+use Rattle.disk_atomic.specs.ListStaged.{IsNameByte}
 
 -- what stands behind a path in the one beside it
 abbrev pub ending : List ℕ → List ℕ

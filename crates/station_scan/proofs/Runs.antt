@@ -7,7 +7,7 @@ use Rattle.disk_io.specs.Runs.{ChangesNothing, LeavesOnly, OneStepOn}
 use Rattle.disk_io.proofs.Moments.{left_now, nothing_twice, then_nothing, then_run, weaker_run}
 use Rattle.echo_links.specs.Links.{LinkFile}
 use Rattle.disk_atomic.specs.declared.finishing.Left.{Left}
-use Rattle.station.specs.Paths.{dotted, staging_path}
+use Rattle.disk_atomic.specs.StagingPaths.{dotted, staging_path}
 use Rattle.cmd_status.specs.Devices.{Output}
 use Rattle.model_steps.specs.PacketFiles.{PacketFile}
 use Rattle.model_steps.specs.declared.stamp.Stamp.{Stamp}

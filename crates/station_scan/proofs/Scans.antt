@@ -6,7 +6,7 @@ use Rattle.disk_io.specs.Disk.{DiskState, Files}
 use Rattle.disk_io.specs.Runs.{ChangesNothing}
 use Rattle.disk_io.proofs.Moments.{no_call}
 use Rattle.echo_links.specs.Links.{LinkFile}
-use Rattle.station.specs.Paths.{dotted}
+use Rattle.disk_atomic.specs.StagingPaths.{dotted}
 use Rattle.cmd_status.specs.Devices.{Output}
 use Rattle.model_steps.specs.PacketFiles.{PacketFile}
 use Rattle.model_steps.specs.declared.stamp.Stamp.{Stamp}

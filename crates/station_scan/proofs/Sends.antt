@@ -11,7 +11,7 @@ use Rattle.disk_atomic.specs.Outgoing.{IsAtStaging, IsFree, IsOfOne}
 use Rattle.disk_atomic.specs.Trying.{WasTried}
 use Rattle.disk_atomic.specs.Publishing.{IsApartFrom}
 use Rattle.disk_atomic.specs.declared.outgoing.Outgoing.{Outgoing}
-use Rattle.station.specs.Paths.{staging_path}
+use Rattle.disk_atomic.specs.StagingPaths.{staging_path}
 use Rattle.echo_addr.specs.declared.address.Address.{Address}
 use Rattle.cmd_report.specs.Scanned.{file_with}
 use Rattle.cmd_report.specs.declared.scanning.PlannedPacket.{PlannedPacket}
@@ -21,7 +21,8 @@ use Rattle.base_store.specs.Store.{StoreState}
 use Rattle.station_scan.specs.Fitting.{AreFit, AreFitting, AreTaken}
 use Rattle.station_scan.specs.Left.{IsOfNameOff}
 use Rattle.station_scan.specs.Publishing.{AreGoing, ArePublished, IsGoingAt, IsPublishedAt, IsTriedWith, KeepsStoreBut, PublishesOn}
-use Rattle.station_scan.specs.Sending.{IsStagingOfPacket, IsNameByte, IsNamed, IsOfPacket, for_address}
+use Rattle.disk_atomic.specs.ListStaged.{IsNameByte}
+use Rattle.station_scan.specs.Sending.{IsStagingOfPacket, IsNamed, IsOfPacket, for_address}
 use Rattle.station_scan.specs.Sends.{AreSentOn, IsOfThese, SendsThese, WasTriedFor, files_for}
 use Rattle.station_scan.specs.Writing.{content_for}
 use Rattle.station_scan.specs.declared.pieces.Source.{Source}

@@ -15,11 +15,12 @@ use Rattle.disk_atomic.specs.Outgoing as outgoing
 use Rattle.disk_atomic.specs.Publishing.{IsApartFrom}
 use Rattle.disk_atomic.specs.declared.outgoing.Outgoing.{Outgoing}
 use Rattle.disk_atomic.proofs.Packets.{nobody}
-use Rattle.station.specs.Paths.{staging_path}
+use Rattle.disk_atomic.specs.StagingPaths.{staging_path}
 use Rattle.station.proofs.StagingPaths.{staging_other}
 use Rattle.station_scan.specs.declared.sending.TwoPaths.{TwoPaths}
 use Rattle.station_scan.specs.Publishing.{IsFreeIn}
-use Rattle.station_scan.specs.Sending.{AreSent, HasBytes, HaveOtherPaths, IsAtItsPath, IsFreeAt, IsNamed, IsStagingGone, IsNameByte, IsOffOwn, StandsWhole, file_paths, for_address, planned_paths}
+use Rattle.disk_atomic.specs.ListStaged.{IsNameByte}
+use Rattle.station_scan.specs.Sending.{AreSent, HasBytes, HaveOtherPaths, IsAtItsPath, IsFreeAt, IsNamed, IsStagingGone, IsOffOwn, StandsWhole, file_paths, for_address, planned_paths}
 use Rattle.station_scan.specs.Fitting.{AreFit, AreTaken, FitPlanned, IsUnfit}
 use Rattle.station_scan.specs.declared.publish_error.PublishError.{PublishError}
 use Rattle.station_scan.specs.declared.publish_error.PublishError.TheVariants.{Packets}

@@ -6,7 +6,7 @@ use Rattle.disk_io.specs.Disk.{DiskState, Files}
 use Rattle.disk_io.specs.Runs.{ChangesNothing}
 use Rattle.echo_links.specs.Links.{LinkFile}
 use Rattle.station.specs.Beneath.{HoldsAsBefore}
-use Rattle.station.specs.Paths.{dotted, staging_path}
+use Rattle.disk_atomic.specs.StagingPaths.{dotted, staging_path}
 use Rattle.station.specs.Place.{IsOfPlace, Place}
 use Rattle.cmd_status.specs.Devices.{Output}
 use Rattle.std.proofs.lemmas.List.{length-map}

@@ -3,7 +3,7 @@ use Rattle.std.specs.Prelude.{◌≡◌, ◌⊎◌, ℕ, List, All, AllPairs, ma
 use Rattle.disk_io.specs.Disk.{Files}
 use Rattle.disk_atomic.specs.declared.outgoing.Outgoing.{Outgoing}
 use Rattle.disk_atomic.specs.declared.placing_error.PlacingError.TheVariants.{Memory, Taken}
-use Rattle.station.specs.Paths.{staging_path}
+use Rattle.disk_atomic.specs.StagingPaths.{staging_path}
 use Rattle.cmd_report.specs.declared.scanning.PlannedPacket.{PlannedPacket}
 use Rattle.model_steps.specs.PacketFiles.{PacketFile}
 use Rattle.station_scan.specs.Sending.{AreSent, HaveOtherPaths, IsFreeAt, IsNamed, IsOffOwn, file_paths, planned_paths}

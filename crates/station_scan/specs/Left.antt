@@ -6,11 +6,12 @@ use Rattle.disk_atomic.specs.Changes.{ChangesOnly}
 use Rattle.disk_atomic.specs.Finishing.{FinishesEach, IsOfLeft, IsOver}
 use Rattle.disk_atomic.specs.declared.finishing.Left.{Left}
 use Rattle.disk_atomic.specs.declared.placing_error.PlacingError.{PlacingError}
-use Rattle.station.specs.Paths.{staging_path}
-use Rattle.station_scan.specs.declared.listing.StagedPacket.{StagedPacket}
+use Rattle.disk_atomic.specs.StagingPaths.{staging_path}
+use Rattle.disk_atomic.specs.declared.listing.StagedPacket.{StagedPacket}
 use Rattle.station_scan.specs.declared.finding.LeftPaths.{LeftPaths}
-use Rattle.station_scan.specs.ListStaged.{IsNumbered, HasStagingFile}
-use Rattle.station_scan.specs.Sending.{IsNameByte, IsOffOwn, two_paths}
+use Rattle.disk_atomic.specs.ListStaged.{IsNumbered, HasStagingFile}
+use Rattle.disk_atomic.specs.ListStaged.{IsNameByte}
+use Rattle.station_scan.specs.Sending.{IsOffOwn, two_paths}
 
 -- It has the two paths of the listed packet, and its number. Neither path is the station's own.
 pub record IsFoundAs (Own : List ℕ → Type 0) (folder own : List ℕ) (packet : StagedPacket) (l : LeftPaths) : Type 0 where

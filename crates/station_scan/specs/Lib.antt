@@ -1,6 +1,5 @@
 pub mod Sending
 pub mod Fitting
-pub mod ListStaged
 pub mod Left
 pub mod Beneath
 pub mod Publishing

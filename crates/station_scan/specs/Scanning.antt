@@ -8,7 +8,7 @@ use Rattle.disk_atomic.specs.Changes.{DifferAt}
 use Rattle.disk_atomic.specs.Finishing.{FinishesEach, IsOfLeft}
 use Rattle.disk_atomic.specs.Trying.{WasTried}
 use Rattle.disk_atomic.specs.declared.finishing.Left.{Left}
-use Rattle.station.specs.Paths.{dotted, staging_path}
+use Rattle.disk_atomic.specs.StagingPaths.{dotted, staging_path}
 use Rattle.cmd_status.specs.declared.fault.Fault.{Fault}
 use Rattle.cmd_status.specs.Devices.{Output}
 use Rattle.model_steps.specs.PacketFiles.{PacketFile}

@@ -7,13 +7,9 @@ use Rattle.cmd_report.specs.declared.scanning.PlannedPacket.{PlannedPacket}
 use Rattle.model_steps.specs.PacketFiles.{PacketFile}
 use Rattle.disk_atomic.specs.Changes.{HasOnDisk}
 use Rattle.disk_atomic.specs.declared.outgoing.Outgoing.{Outgoing}
-use Rattle.station.specs.Paths.{staging_path}
+use Rattle.disk_atomic.specs.ListStaged.{IsNameByte}
+use Rattle.disk_atomic.specs.StagingPaths.{staging_path}
 use Rattle.station_scan.specs.declared.sending.TwoPaths.{TwoPaths}
-
--- A byte of a packet's name: no slash, and no tilde, which only staging paths contain.
-pub record IsNameByte (b : ℕ) : Type 0 where
-  pub no_slash : b ≢ 47
-  pub no_tilde : b ≢ 126
 
 -- The path of a packet of this name in the folder, and its staging path.
 abbrev pub two_paths : List ℕ → List ℕ → List ℕ → TwoPaths

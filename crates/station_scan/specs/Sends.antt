@@ -6,7 +6,7 @@ use Rattle.disk_io.specs.Runs.{LeavesOnly, OneStepOn}
 use Rattle.disk_atomic.specs.Changes.{DifferAt}
 use Rattle.disk_atomic.specs.Trying.{WasTried}
 use Rattle.disk_atomic.specs.declared.placing_error.PlacingError.TheVariants as placing
-use Rattle.station.specs.Paths.{staging_path}
+use Rattle.disk_atomic.specs.StagingPaths.{staging_path}
 use Rattle.cmd_report.specs.Scanned.{file_with}
 use Rattle.cmd_report.specs.declared.scanning.PlannedPacket.{PlannedPacket}
 use Rattle.echo_toss.specs.Counts.{bytes_for}

@@ -10,10 +10,9 @@ ghost use Rattle.station_scan.specs.Beneath.{IsUsedAt};
 ghost use Rattle.station_scan.specs.Left.{AreFreeLeft, EndsLeft, IsOfNameOff};
 
 use crate::finishing::finish_left;
-use crate::listing::ListStaged;
 use crate::sending::Sending;
 use base_store::Store;
-use disk_atomic::{Outgoing, PlacingError, name_packets};
+use disk_atomic::{ListStaged, Outgoing, PlacingError, name_packets};
 use disk_io::{Disk, DiskError};
 use station::{LendStation, OwnPaths};
 use std::alloc::Global;

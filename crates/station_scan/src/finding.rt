@@ -6,8 +6,8 @@ ghost use Rattle.station_scan.specs.declared.finding.LeftPaths.{LeftPaths};
 ghost use Rattle.station_scan.specs.Left.{Adds, AreFound, HaveOtherLeft, IsStagingThere, IsFoundAs, IsFoundWhere, IsToFind};
 
 use crate::fitting::{differ, is_name, is_off_own};
-use crate::listing::StagedPacket;
 use crate::sending::{TwoPaths, two_paths};
+use disk_atomic::StagedPacket;
 use disk_io::{Disk, DiskError};
 use station::OwnPaths;
 use std::alloc::Global;

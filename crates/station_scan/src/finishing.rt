@@ -9,8 +9,7 @@ ghost use Rattle.disk_atomic.specs.declared.finishing.Left.{Left};
 ghost use Rattle.station_scan.specs.Left.{AreFreeLeft, AreLent, EndsLeft, EndsThese, IsStagingThere, IsFreeFound, IsOfNameOff, IsOfPaths};
 
 use crate::finding::{LeftPaths, find_left};
-use crate::listing::ListStaged;
-use disk_atomic::{Left, PlacingError, finish_stopped};
+use disk_atomic::{Left, ListStaged, PlacingError, finish_stopped};
 use disk_io::{Disk, sync_folder_of};
 use station::OwnPaths;
 use std::alloc::{AllocError, Global};

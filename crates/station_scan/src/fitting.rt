@@ -1,8 +1,9 @@
 //! Whether packets go to paths that nothing else uses.
 ghost use Rattle.std.specs.Prelude.{◌≡◌, ◌≢◌, true, false, All, AllPairs, map};
-ghost use Rattle.station.specs.Paths.{staging_path};
+ghost use Rattle.disk_atomic.specs.StagingPaths.{staging_path};
 ghost use Rattle.station_scan.specs.Fitting.{FitPlanned};
-ghost use Rattle.station_scan.specs.Sending.{HaveOtherPaths, IsNameByte, IsNamed, IsOffOwn, planned_paths};
+ghost use Rattle.disk_atomic.specs.ListStaged.{IsNameByte};
+ghost use Rattle.station_scan.specs.Sending.{HaveOtherPaths, IsNamed, IsOffOwn, planned_paths};
 
 use crate::sending::{Sending, TwoPaths};
 use cmd_report::PlannedPacket;

@@ -10,7 +10,7 @@
 //! Begin with `scanning` (the command), then `putting` and `outgoing` (earlier packets, then these) and `publishing`
 //! (packets and commit). They use `sending` (the two paths of each packet) and `fitting` (whether nothing else uses these
 //! paths). `filling` writes packets group by group, by `pieces` (what comes next), `writing` and `staging` (staging files
-//! on the disk). `listing`, `finding` and `finishing` list and end what earlier scans left. `beneath` works on the disk of
+//! on the disk). `finding` and `finishing` end what earlier scans left. `beneath` works on the disk of
 //! a store, `taking` plans the packets of waiting messages, and `reported` reports progress. `publish_error` and
 //! `scan_error` are the errors.
 #![tactic(auto)]
@@ -20,7 +20,6 @@ mod filling;
 mod finding;
 mod finishing;
 mod fitting;
-mod listing;
 mod outgoing;
 mod pieces;
 mod publish_error;
@@ -35,7 +34,6 @@ mod taking;
 mod writing;
 
 pub use beneath::Used;
-pub use listing::{ListStaged, StagedPacket};
 pub use pieces::Source;
 pub use publish_error::PublishError;
 pub use publishing::publish;

@@ -1,6 +1,6 @@
 //! The packets of a scan are written with the commit of its store, after earlier packets are named or removed.
 ghost use Rattle.std.specs.Prelude.{◌≡◌, ◌≢◌, ◌≤◌, ◌⊎◌, ℕ, List, All, IfErr, IfOk, IsErrOf, OnOk, map};
-ghost use Rattle.station.specs.Paths.{staging_path};
+ghost use Rattle.disk_atomic.specs.StagingPaths.{staging_path};
 ghost use Rattle.station.specs.Beneath.{HoldsAsBefore};
 ghost use Rattle.base_file.specs.Base.{Base};
 ghost use Rattle.disk_io.specs.Device.{Failed};
@@ -15,7 +15,6 @@ ghost use Rattle.station_scan.specs.Stops.{IsOfBase, scan_done};
 
 use crate::beneath::{Used, finish_on};
 use crate::fitting::are_fit;
-use crate::listing::ListStaged;
 use crate::publish_error::PublishError;
 use crate::publishing::publish;
 use crate::scan_error::ScanError;
@@ -23,9 +22,9 @@ use crate::sending::{Sending, TwoPaths, outgoing_of, paths_of};
 use crate::writing::Batch;
 use base_store::{Store, StoreError};
 use cmd_store::CommandError;
-use disk_atomic::{Outgoing, PlacingError};
+use disk_atomic::{ListStaged, Outgoing, PlacingError, staging_path};
 use disk_io::Disk;
-use station::{LendStation, OwnPaths, staging_path};
+use station::{LendStation, OwnPaths};
 use std::alloc::Global;
 
 // Commits the store of a scan without packets.

@@ -3,7 +3,7 @@ ghost use Rattle.std.specs.Prelude.{◌≡◌, ◌≤◌, ◌⊎◌, ℕ, List, 
 ghost use Rattle.base_file.specs.Base.{Base};
 ghost use Rattle.disk_io.specs.Device.{Failed};
 ghost use Rattle.disk_io.specs.Disk.{Honestly};
-ghost use Rattle.station.specs.Paths.{dotted};
+ghost use Rattle.disk_atomic.specs.StagingPaths.{dotted};
 ghost use Rattle.station.specs.Beneath.{HoldsAsBefore};
 ghost use Rattle.cmd_report.specs.Scanned.{file_with};
 ghost use Rattle.echo_toss.specs.Counts.{bytes_for};
@@ -12,7 +12,6 @@ ghost use Rattle.station_scan.specs.Scanning.{IsTouched, SendsOut};
 ghost use Rattle.station_scan.specs.Sends.{WasTriedFor};
 
 use crate::beneath::Used;
-use crate::listing::ListStaged;
 use crate::outgoing::send_out;
 use crate::pieces::Source;
 use crate::scan_error::ScanError;
@@ -21,6 +20,7 @@ use crate::sending::Sending;
 use base_store::{Store, StoreError};
 use cmd_report::PlannedPacket;
 use cmd_store::CommandError;
+use disk_atomic::ListStaged;
 use disk_io::Disk;
 use echo_links::LinkFile;
 use station::{LendStation, OwnPaths, system_name};

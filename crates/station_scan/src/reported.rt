@@ -1,7 +1,7 @@
 //! The progress of a scan: it fetches each waiting message once, so its store can report that.
 use base_store::{Store, StoreError};
+use cmd_status::MessageProgress;
 use echo_filed::{Filed, Key};
-use station::MessageProgress;
 
 /// A store that reports which of its messages is fetched.
 #[derive(Drop)]

@@ -10,16 +10,17 @@ ghost use Rattle.station_scan.specs.Publishing.{UnchangedExcept, KeepsStoreBut};
 ghost use Rattle.station_scan.specs.Scanning.{IsTouched, ScanTries, ScansIn, ScansOnStore, TriesOn};
 
 use crate::beneath::Used;
-use crate::listing::ListStaged;
 use crate::putting::put_taken;
 use crate::scan_error::ScanError;
 use crate::taking::{Taken, take_waiting};
 use base_store::{Store, StoreError};
+use cmd_status::{FileLock, MessageProgress};
 use cmd_store::CommandError;
+use disk_atomic::ListStaged;
 use disk_io::{Disk, Sink};
 use echo_links::LinkFile;
 use model_steps::Stamp;
-use station::{BeforeCommand, FileLock, LendStation, Locks, MessageProgress, OpenStation, Opened};
+use station::{BeforeCommand, LendStation, Locks, OpenStation, Opened};
 use std::alloc::Global;
 
 /// A scan: its stamp, its folder of packets, a list of what earlier scans left there, and a progress report. The folder

@@ -4,9 +4,8 @@ ghost use Rattle.station_scan.specs.Sending.{AreSent, planned_paths, two_paths};
 
 use crate::pieces::Source;
 use cmd_report::PlannedPacket;
-use disk_atomic::Outgoing;
+use disk_atomic::{Outgoing, staging_path};
 use echo_addr::Items;
-use station::staging_path;
 use std::alloc::{AllocError, Global};
 
 /// The path of a packet, and its staging path before that.

@@ -13,12 +13,12 @@ ghost use Rattle.echo_toss.specs.PacketsIn.{state_in};
 use crate::reported::ReportedStore;
 use base_store::Store;
 use cmd_report::PlannedPacket;
+use cmd_status::MessageProgress;
 use cmd_store::{CommandError, scan_on};
 use disk_io::Sink;
 use echo_addr::Items;
 use echo_links::LinkFile;
 use model_steps::Stamp;
-use station::MessageProgress;
 use std::alloc::Global;
 
 /// A store after a scan of it, and the packets that were planned.

@@ -1,9 +1,9 @@
 //! A station on a disk in memory, and its lock.
 ghost use Rattle.std.specs.Prelude.{◌≡◌, None};
 
+use cmd_status::{FileLock, Unwatched};
 use disk_io::DiskError;
 use echo_addr::Items;
-use station::{FileLock, Unwatched};
 use station_bases::FileStation;
 use std::alloc::Global;
 use std::hash::{BuildHasherDefault, FoldHasher};

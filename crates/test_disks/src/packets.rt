@@ -3,10 +3,10 @@ ghost use Rattle.std.specs.Prelude.{true};
 
 use crate::system_files::disk::{Disk, State};
 use cmd_report::PacketFiles;
-use cmd_status::Fault;
+use cmd_status::{Fault, PacketName, StreamPackets};
 use disk_io::Source;
 use disk_system::{NoFiles, RealDisk};
-use station::{PacketName, PacketReader, StreamPackets, packets_on_disk};
+use station::{PacketReader, packets_on_disk};
 use std::cell::RefCell;
 use std::test::Fail;
 

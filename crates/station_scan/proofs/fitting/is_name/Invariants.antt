@@ -1,6 +1,6 @@
 -- So are the bytes up to here.
 use Rattle.std.specs.List.{AllWithin}
-use Rattle.station_scan.specs.Sending.{IsNameByte}
+use Rattle.disk_atomic.specs.ListStaged.{IsNameByte}
 use Rattle.station_scan.proofs.fitting.is_name.Given as goal
 
 abbrev pub invariant-bytes : goal.invariant-bytes

@@ -8,7 +8,7 @@ use Rattle.echo_toss.specs.Counts.{bytes_for}
 use Rattle.base_store.specs.Store.{GoesOn, all_scanned}
 use Rattle.station.proofs.Failures.{failed_wider}
 use Rattle.station.specs.Beneath.{HoldsAsBefore}
-use Rattle.station.specs.Paths.{dotted}
+use Rattle.disk_atomic.specs.StagingPaths.{dotted}
 use Rattle.cmd_store.specs.Scanned.{ScansOn, files_made}
 use Rattle.cmd_store.specs.declared.command_error.CommandError.{CommandError}
 use Rattle.echo_toss.specs.PacketsIn.{state_in}

@@ -2,7 +2,7 @@
 ghost use Rattle.std.specs.Prelude.{ℕ, IfOk};
 ghost use Rattle.disk_io.specs.Disk.{Files};
 ghost use Rattle.disk_io.specs.Runs.{HasCause};
-ghost use Rattle.station_scan.specs.ListStaged.{AreListed};
+ghost use Rattle.disk_atomic.specs.ListStaged.{AreListed};
 
 use disk_io::DiskError;
 use echo_addr::Items;

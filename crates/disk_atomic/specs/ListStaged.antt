@@ -1,9 +1,13 @@
 -- The list of staging files that earlier scans left.
-use Rattle.std.specs.Prelude.{◌≡◌, ℕ, List, ◌++◌, All, Contains, codes, decimal, IsSome}
+use Rattle.std.specs.Prelude.{◌≡◌, ◌≢◌, ℕ, List, ◌++◌, All, Contains, codes, decimal, IsSome}
 use Rattle.disk_io.specs.Disk.{Files}
-use Rattle.station.specs.Paths.{staging_path}
-use Rattle.station_scan.specs.declared.listing.StagedPacket.{StagedPacket}
-use Rattle.station_scan.specs.Sending.{IsNameByte}
+use Rattle.disk_atomic.specs.StagingPaths.{staging_path}
+use Rattle.disk_atomic.specs.declared.listing.StagedPacket.{StagedPacket}
+
+-- A byte of a packet's name: no slash, and no tilde, which only staging paths contain.
+pub record IsNameByte (b : ℕ) : Type 0 where
+  pub no_slash : b ≢ 47
+  pub no_tilde : b ≢ 126
 
 -- The name of a packet of a scan before which so many messages were scanned.
 pub record IsNumbered (before : ℕ) (name : List ℕ) : Type 0 where
