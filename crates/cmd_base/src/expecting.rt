@@ -5,7 +5,7 @@ use disk_io::{Buffered, Source, Watched};
 use disk_system::open_regular;
 use echo_filed::Key;
 use echo_packet::{Limits, Packed, PacketReader};
-use echo_text::{EchoView, view_text};
+use echo_text::{FrontView, view_front};
 use std::alloc::AllocError;
 use std::fs;
 use std::fs::File;
@@ -120,21 +120,21 @@ fn push_messages<R: Source>(
 
 // Adds the key of a message, if it is echomail.
 fn push_key(rt: &HostRuntime, message: &Packed, keys: &mut Vec<Key>) -> Result<(), AllocError> {
-    let Ok((view, _)) = view_text(rt.alloc(), message.text()) else {
+    let Ok(front) = view_front(rt.alloc(), message.text()) else {
         return Ok(());
     };
-    push_view(rt, message, &view, keys)
+    push_front(rt, message, &front, keys)
 }
 
-// Adds the key of a message with this text.
-fn push_view(
+// Adds the key of a message with this front of its text.
+fn push_front(
     rt: &HostRuntime,
     message: &Packed,
-    view: &EchoView<'_>,
+    front: &FrontView<'_>,
     keys: &mut Vec<Key>,
 ) -> Result<(), AllocError> {
     let (date, to_name) = (message.date(), message.to_name());
     let (from_name, subject) = (message.from_name(), message.subject());
-    keys.push(Key::of_view(rt.alloc(), view, date, to_name, from_name, subject)?)?;
+    keys.push(Key::of_front(rt.alloc(), front, date, to_name, from_name, subject)?)?;
     Ok(())
 }

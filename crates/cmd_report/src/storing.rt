@@ -20,7 +20,7 @@ use base_store::Store;
 use disk_io::Source;
 use echo_addr::Address;
 use echo_links::LinkFile;
-use echo_packet::{HEADER_BYTES, Limits, Packed, read_next};
+use echo_packet::{Buffers, HEADER_BYTES, Limits, Packed, read_next};
 use echo_toss::{
     Outcome, StoppedToss, Tally, TossCause, TossStepError, check_destination, toss_step,
 };
@@ -96,14 +96,16 @@ fn note_messages_in<T: Store, R: Source>(
 {
     let mut given = 0;
     let mut place = HEADER_BYTES as u64;
+    let mut buffers = Buffers::new(alloc);
     'messages: loop {
         let begun = place;
-        match read_next(alloc, reader, limits, given, &mut place)? {
+        match read_next(buffers, reader, limits, given, &mut place)? {
             Some(message) => {
                 let outcome = toss_step(alloc, links, store, sender, &message)?;
                 note_in(alloc, text, room, given + 1, begun, outcome, &message)?;
                 tally.count(outcome);
                 given += 1;
+                buffers = message.into_buffers();
             }
             None => return Ok(()),
         }

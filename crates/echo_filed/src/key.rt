@@ -1,12 +1,13 @@
-ghost use Rattle.std.specs.Prelude.{◌≡◌, Option, IfOk};
+ghost use Rattle.std.specs.Prelude.{◌≡◌, List, Option, IfOk};
 ghost use Rattle.echo_addr.specs.declared.address.Address.{Address as Sender};
+ghost use Rattle.echo_addr.specs.declared.address.NetNode.{NetNode};
 ghost use Rattle.echo_filed.specs.declared.key.Key.TheVariants.{ByContent, ById};
 ghost use Rattle.echo_filed.specs.Filed.{key_of};
 
 use crate::boxed::{Boxed, BoxedLines};
 use crate::filed::Filed;
 use echo_addr::Items;
-use echo_text::{EchoView, Lines};
+use echo_text::{FrontView, Lines};
 use std::alloc::{AllocError, Global};
 
 /// The key, which makes two messages of a base one: the tag and the MSGID (FTS-0009). Without a MSGID: the tag,
@@ -44,29 +45,29 @@ impl Key {
         by_content(alloc, tag, date, to_name, from_name, subject, kept)
     }
 
-    /// The key that a message with this text, DateTime, names and subject has, whoever sent it.
-    pub fn of_view(
+    /// The key that a message with this front of its text, DateTime, names and subject has, whoever sent it.
+    pub fn of_front(
         alloc: Global,
-        view: &EchoView<'_>,
+        front: &FrontView<'_>,
         date: &[u8; 20],
         to_name: &[u8],
         from_name: &[u8],
         subject: &[u8],
     ) -> Result<Key, AllocError>
-        ensures { IfOk result (λ key. (sender : Option Sender) → key ≡ key_of (record {
+        ensures { IfOk result (λ key. (sender : Option Sender) (seen path : List NetNode) → key ≡ key_of (record {
           sender = sender;
           date = date.now;
           to_name = to_name.now;
           from_name = from_name.now;
           subject = subject.now;
-          echo = view.now;
+          echo = record { tag = front.now.tag; kept = front.now.kept; seen = seen; path = path };
         })) }
     {
-        let tag = view.tag.as_slice();
-        if let Some(msgid) = view.msgid() {
+        let tag = front.tag.as_slice();
+        if let Some(msgid) = front.msgid() {
             return by_id(alloc, tag, msgid);
         }
-        let kept = view.kept.to_lines(alloc)?;
+        let kept = front.kept.to_lines(alloc)?;
         by_content(alloc, tag, date, to_name, from_name, subject, kept)
     }
 }

@@ -7,7 +7,6 @@ ghost use Rattle.echo_packet.specs.Field.{BreaksString, Came, IsPast, IsPiece, S
 
 use disk_io::{Broken, Source, are_bytes};
 use memchr::memchr;
-use std::alloc::Global;
 
 /// The beginning of bytes where a string continues.
 #[derive(Clone, Copy, Debug, PartialEq, Eq)]
@@ -105,9 +104,9 @@ fn take_piece<R: Source>(reader: &mut R, string: &mut Vec<u8>, room: usize) -> R
 }
 
 /// A string of at most `most` bytes, without the 00 that ends it. None where `most + 1` bytes have
-/// no 00. No byte after the 00 is consumed.
+/// no 00. No byte after the 00 is consumed. The string fills `buffer`.
 pub(crate) fn read_string<R: Source>(
-    alloc: Global,
+    buffer: Vec<u8>,
     reader: &mut R,
     most: usize,
 ) -> Result<Option<Vec<u8>>, Broken>
@@ -117,7 +116,8 @@ pub(crate) fn read_string<R: Source>(
     ensures broken { IfErr result (BreaksString most (R.remaining reader.old) (R.remaining reader.new)) }
     ensures device { CountsBreak result (R.failures reader.old) (R.failures reader.new) }
 {
-    let mut string = Vec::new(alloc);
+    let mut string = buffer;
+    string.clear();
     'pieces: loop {
         let room = most - string.len();
         match take_piece(reader, &mut string, room)? {

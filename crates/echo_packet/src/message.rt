@@ -11,9 +11,8 @@ use crate::fault::{Field, PacketFault};
 use crate::field::read_string;
 use crate::header::number_at;
 use crate::limits::{Limits, MAX_NAME, MAX_SUBJECT};
-use crate::packed::Packed;
+use crate::packed::{Buffers, Packed};
 use disk_io::{Broken, Source, read_fixed};
-use std::alloc::Global;
 
 /// The fault of a field that was not read, by its place.
 pub(crate) fn broken_fault(broken: Broken, at: u64) -> PacketFault
@@ -61,9 +60,9 @@ fn fixed_at<R: Source>(reader: &mut R, field: &mut [u8], place: &mut u64) -> Res
     }
 }
 
-// The string of the field, which begins at the place; the place moves past it.
+// The string of the field, which begins at the place; the place moves past it. It fills `buffer`.
 fn string_at<R: Source>(
-    alloc: Global,
+    buffer: Vec<u8>,
     reader: &mut R,
     field: Field,
     most: usize,
@@ -76,7 +75,7 @@ fn string_at<R: Source>(
     ensures inside { IfErr result (FailsInString field most place.old (R.remaining reader.old) (R.remaining reader.new)) }
     ensures device { CountsFailures result (R.failures reader.old) (R.failures reader.new) }
 {
-    match read_string(alloc, reader, most) {
+    match read_string(buffer, reader, most) {
         Ok(Some(string)) => {
             *place = past_string(*place, &string);
             Ok(string)
@@ -88,7 +87,7 @@ fn string_at<R: Source>(
 
 // The fields of a message after its number 2, which is just before the place.
 fn read_fields<R: Source>(
-    alloc: Global,
+    buffers: Buffers,
     reader: &mut R,
     limits: Limits,
     place: &mut u64,
@@ -101,10 +100,10 @@ fn read_fields<R: Source>(
     fixed_at(reader, &mut numbers, place)?;
     let mut date = [0u8; 20];
     fixed_at(reader, &mut date, place)?;
-    let to_name = string_at(alloc, reader, Field::ToName, MAX_NAME, place)?;
-    let from_name = string_at(alloc, reader, Field::FromName, MAX_NAME, place)?;
-    let subject = string_at(alloc, reader, Field::Subject, MAX_SUBJECT, place)?;
-    let text = string_at(alloc, reader, Field::Text, limits.text, place)?;
+    let to_name = string_at(buffers.to_name, reader, Field::ToName, MAX_NAME, place)?;
+    let from_name = string_at(buffers.from_name, reader, Field::FromName, MAX_NAME, place)?;
+    let subject = string_at(buffers.subject, reader, Field::Subject, MAX_SUBJECT, place)?;
+    let text = string_at(buffers.text, reader, Field::Text, limits.text, place)?;
     Ok(Packed::from_parts(
         number_at(&numbers, 0),
         number_at(&numbers, 2),
@@ -121,9 +120,9 @@ fn read_fields<R: Source>(
 }
 
 /// The message that begins at the place, or none for 00 00. The place moves past it, and stays at a
-/// fault. `given` messages came before it.
+/// fault. `given` messages came before it. Its strings fill `buffers`.
 pub fn read_next<R: Source>(
-    alloc: Global,
+    buffers: Buffers,
     reader: &mut R,
     limits: Limits,
     given: u64,
@@ -153,7 +152,7 @@ pub fn read_next<R: Source>(
     if given >= limits.messages {
         return Err(PacketFault::TooManyMessages { at });
     }
-    let message = read_fields(alloc, reader, limits, &mut past)?;
+    let message = read_fields(buffers, reader, limits, &mut past)?;
     *place = past;
     Ok(Some(message))
 }

@@ -8,6 +8,7 @@ use crate::limits::{MAX_NAME, MAX_SUBJECT};
 use disk_io::are_bytes;
 use echo_addr::Items;
 use memchr::memchr;
+use std::alloc::Global;
 use std::marker::Model;
 
 /// A packed message: three strings and a text, without 00. The names have at most `MAX_NAME` bytes and the
@@ -25,6 +26,27 @@ pub struct Packed {
     from_name: Items<u8>,
     subject: Items<u8>,
     text: Items<u8>,
+}
+
+/// The buffers of a message's strings, for the strings of a later one.
+#[derive(Debug, Drop)]
+pub struct Buffers {
+    pub(crate) to_name: Vec<u8>,
+    pub(crate) from_name: Vec<u8>,
+    pub(crate) subject: Vec<u8>,
+    pub(crate) text: Vec<u8>,
+}
+
+impl Buffers {
+    /// Buffers without bytes. Takes no memory.
+    pub fn new(alloc: Global) -> Buffers {
+        Buffers {
+            to_name: Vec::new(alloc),
+            from_name: Vec::new(alloc),
+            subject: Vec::new(alloc),
+            text: Vec::new(alloc),
+        }
+    }
 }
 
 impl Model for Packed {
@@ -137,6 +159,16 @@ impl Packed {
             from_name: Items::new(from_name),
             subject: Items::new(subject),
             text: Items::new(text),
+        }
+    }
+
+    /// The buffers of its strings.
+    pub fn into_buffers(self) -> Buffers {
+        Buffers {
+            to_name: self.to_name.into_vec(),
+            from_name: self.from_name.into_vec(),
+            subject: self.subject.into_vec(),
+            text: self.text.into_vec(),
         }
     }
 

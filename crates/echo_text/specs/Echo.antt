@@ -36,9 +36,15 @@ pub record IsSetOf (set all : List NetNode) : Type 0 where
   pub ascending : AllPairs ComesBefore set
   pub members : (entry : NetNode) → Contains set entry ↔ Contains all entry
 
--- the parts in the lines after the AREA line
-pub record Says (later kept : List (List ℕ)) (seen path : List NetNode) (dropped : ℕ) : Type 0 where
-  pub kept_lines : kept ≡ kept_of later
+-- the text is an echo text with this tag and these kept lines
+pub record FrontOf (text tag : List ℕ) (kept : List (List ℕ)) : Type 0 where
+  pub area : is_area (first_line (lines text)) ≡ true
+  pub tag_is : tag ≡ area_tag (first_line (lines text))
+  pub tag_bytes : is_tag tag ≡ true
+  pub kept_lines : kept ≡ kept_of (later_lines (lines text))
+
+-- the lists in the lines after the AREA line; this many tokens are no entry
+pub record ListsOf (later : List (List ℕ)) (seen path : List NetNode) (dropped : ℕ) : Type 0 where
   pub seen_set : IsSetOf seen (all_entries (seen_lists later))
   pub path_list : path ≡ all_entries (path_lists later)
   pub dropped_tokens : dropped ≡ all_dropped (seen_lists later) + all_dropped (path_lists later)

@@ -16,7 +16,11 @@ refusal_of first =
 unfoldable pub text_refusal : List ℕ → Option TextFault
 text_refusal text = refusal_of (first_line (lines text))
 
--- a reader's answer: the parts of the text, the `text_refusal` that applies, or out of memory without a refusal
+-- a reader's fault: the `text_refusal` that applies, or out of memory without a refusal
+abbrev pub IsTextFault : List ℕ → TextFault → Type 0
+IsTextFault text fault = (text_refusal text ≡ Some fault) ⊎ ((text_refusal text ≡ None) × (fault ≡ Memory))
+
+-- a reader's answer: the parts of the text, or its fault
 abbrev pub TextAnswers : List ℕ → Result (EchoText × ℕ) TextFault → Type 0
 TextAnswers text (Ok read) = EchoOf text read.0 read.1
-TextAnswers text (Err fault) = (text_refusal text ≡ Some fault) ⊎ ((text_refusal text ≡ None) × (fault ≡ Memory))
+TextAnswers text (Err fault) = IsTextFault text fault

@@ -1,7 +1,6 @@
 use crate::found;
 use crate::kept::{KeptView, Lines};
 use echo_addr::{Items, NetNode};
-use std::alloc::{AllocError, Global};
 use std::marker::Model;
 
 /// A parsed echomail text (FTS-0004). The tag has 1 to 60 bytes from `!` to `~` without small
@@ -28,7 +27,14 @@ impl Model for Echo {
     ghost inverse = { λ e. record { tag = e.tag; kept = e.kept; seen = e.seen; path = e.path } };
 }
 
-/// The same over a text: each kept line is a slice of it.
+/// The tag and the kept lines over a text: each kept line is a slice of it.
+#[derive(Debug, Drop)]
+pub struct FrontView<'a> {
+    pub tag: Items<u8>,
+    pub kept: KeptView<'a>,
+}
+
+/// An echomail text in the same way, with its lists.
 #[derive(Debug, Drop)]
 pub struct EchoView<'a> {
     pub tag: Items<u8>,
@@ -81,8 +87,20 @@ impl Echo {
     }
 }
 
+impl<'a> FrontView<'a> {
+    ghost use Rattle.std.specs.Prelude.{◌≡◌, option_copied};
+    ghost use Rattle.echo_text.specs.Echo.{msgid_of};
+
+    /// The id of the message, as `Echo` has it.
+    pub fn msgid(&self) -> Option<&[u8]>
+        ensures { option_copied result ≡ msgid_of self.now.kept }
+    {
+        self.kept.msgid()
+    }
+}
+
 impl<'a> EchoView<'a> {
-    ghost use Rattle.std.specs.Prelude.{◌≡◌, option_copied, IfOk};
+    ghost use Rattle.std.specs.Prelude.{◌≡◌, option_copied};
     ghost use Rattle.echo_text.specs.Echo.{msgid_of, origin_of, reply_of, tear_of};
 
     /// The id of the message, as `Echo` has it.
@@ -111,34 +129,5 @@ impl<'a> EchoView<'a> {
         ensures { option_copied result ≡ origin_of self.now.kept }
     {
         self.kept.origin()
-    }
-
-    /// The same parts, with a copy of the lines.
-    pub fn to_echo(&self, alloc: Global) -> Result<Echo, AllocError>
-        ensures { IfOk result (λ echo. echo ≡ self.now) }
-    {
-        let tag = Vec::from_slice(alloc, self.tag.as_slice())?;
-        let kept = self.kept.to_lines(alloc)?;
-        let seen = Vec::from_slice(alloc, self.seen.as_slice())?;
-        let path = Vec::from_slice(alloc, self.path.as_slice())?;
-        Ok(Echo {
-            tag: Items::new(tag),
-            kept,
-            seen: Items::new(seen),
-            path: Items::new(path),
-        })
-    }
-
-    /// The same parts; only the lines are copied.
-    pub fn into_echo(self, alloc: Global) -> Result<Echo, AllocError>
-        ensures { IfOk result (λ echo. echo ≡ self.entry) }
-    {
-        let kept = self.kept.to_lines(alloc)?;
-        Ok(Echo {
-            tag: self.tag,
-            kept,
-            seen: self.seen,
-            path: self.path,
-        })
     }
 }

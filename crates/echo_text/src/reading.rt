@@ -1,10 +1,10 @@
-ghost use Rattle.std.specs.Prelude.{IfOk};
-ghost use Rattle.echo_text.specs.Echo.{HasNoZero, Says};
-ghost use Rattle.echo_text.specs.Lines.{lines};
-ghost use Rattle.echo_text.specs.Refusal.{TextAnswers};
+ghost use Rattle.std.specs.Prelude.{IfOk, MatchResult};
+ghost use Rattle.echo_text.specs.Echo.{EchoOf, FrontOf, HasNoZero, ListsOf};
+ghost use Rattle.echo_text.specs.Lines.{later_lines, lines};
+ghost use Rattle.echo_text.specs.Refusal.{IsTextFault, TextAnswers};
 
 use crate::area::tag_of;
-use crate::echo::{Echo, EchoView};
+use crate::echo::{Echo, EchoView, FrontView};
 use crate::fault::TextFault;
 use crate::kept::KeptView;
 use crate::lines::split_line;
@@ -20,17 +20,15 @@ pub fn view_text<'a>(alloc: Global, text: &'a [u8]) -> Result<(EchoView<'a>, usi
     requires { HasNoZero text.now }
     ensures { TextAnswers text.now result }
 {
-    let (first, rest) = split_line(text);
-    let raw = tag_of(first)?;
-    let tag = raw.to_ascii_uppercase(alloc)?;
-    let parts = parts_of(alloc, rest)?;
+    let front = view_front(alloc, text)?;
+    let lists = lists_in(alloc, text)?;
     let view = EchoView {
-        tag: Items::new(tag),
-        kept: parts.kept,
-        seen: Items::new(parts.seen),
-        path: Items::new(parts.path),
+        tag: front.tag,
+        kept: front.kept,
+        seen: Items::new(lists.seen),
+        path: Items::new(lists.path),
     };
-    Ok((view, parts.dropped))
+    Ok((view, lists.dropped))
 }
 
 /// The parts of the text, as `view_text` gives them, with a copy of the lines.
@@ -38,29 +36,61 @@ pub fn read_text(alloc: Global, text: &[u8]) -> Result<(Echo, usize), TextFault>
     requires { HasNoZero text.now }
     ensures { TextAnswers text.now result }
 {
-    let (view, dropped) = view_text(alloc, text)?;
-    let echo = view.into_echo(alloc)?;
-    Ok((echo, dropped))
+    let front = view_front(alloc, text)?;
+    let read = front.into_echo(alloc, text)?;
+    Ok(read)
 }
 
-/// The parts in the lines after the AREA line.
+/// The tag and the kept lines of the text, by which a message is known. SEEN-BY and PATH lines are not read.
+pub fn view_front<'a>(alloc: Global, text: &'a [u8]) -> Result<FrontView<'a>, TextFault>
+    ensures { MatchResult result (λ front. FrontOf text.now front.tag front.kept) (IsTextFault text.now) }
+{
+    let (first, rest) = split_line(text);
+    let raw = tag_of(first)?;
+    let tag = raw.to_ascii_uppercase(alloc)?;
+    let (body, tail) = split_tail(rest);
+    Ok(FrontView {
+        tag: Items::new(tag),
+        kept: KeptView::new(body, tail),
+    })
+}
+
+impl<'a> FrontView<'a> {
+    /// The parts of the text that this is the front of, with a copy of the lines, and how many tokens are no entries.
+    pub fn into_echo(self, alloc: Global, text: &[u8]) -> Result<(Echo, usize), AllocError>
+        requires zero { HasNoZero text.now }
+        requires front { FrontOf text.now self.tag self.kept }
+        ensures { IfOk result (λ read. EchoOf text.now read.0 read.1) }
+    {
+        let lists = lists_in(alloc, text)?;
+        let kept = self.kept.to_lines(alloc)?;
+        let echo = Echo {
+            tag: self.tag,
+            kept,
+            seen: Items::new(lists.seen),
+            path: Items::new(lists.path),
+        };
+        Ok((echo, lists.dropped))
+    }
+}
+
+/// The entries of the SEEN-BY and PATH lines, and how many of their tokens are none.
 #[derive(Drop)]
-struct Parts<'a> {
-    kept: KeptView<'a>,
+struct Lists {
     seen: Vec<NetNode>,
     path: Vec<NetNode>,
     dropped: usize,
 }
 
-/// The parts in the lines of `rest`.
-fn parts_of<'a>(alloc: Global, rest: &'a [u8]) -> Result<Parts<'a>, AllocError>
-    ensures { IfOk result (λ p. Says (lines rest.now) p.kept p.seen.items p.path.items p.dropped) }
+/// The lists of the text's control tail.
+fn lists_in(alloc: Global, text: &[u8]) -> Result<Lists, AllocError>
+    ensures { IfOk result (λ l. ListsOf (later_lines (lines text.now)) l.seen.items l.path.items l.dropped) }
 {
-    let (body, tail) = split_tail(rest);
+    let (_, rest) = split_line(text);
+    let (_, tail) = split_tail(rest);
     let (seen, seen_dropped) = entries_of(alloc, SEEN_BY, tail)?;
     let (path, path_dropped) = entries_of(alloc, PATH, tail)?;
-    Ok(Parts {
-        kept: KeptView::new(body, tail),
+    Ok(Lists {
         seen: set_of(seen),
         path,
         dropped: seen_dropped + path_dropped,

@@ -1,15 +1,17 @@
 -- What becomes of a received message.
 use Rattle.std.proofs.Common.{◌≡◌, ℕ, Bool, true, false, List, refl, sym, ap, subst, ◌∙◌, Option, Some, None, not, if◌then◌else◌, Result, Ok, Err, IfOk, ◌⊎◌, inl, inr}
 use Rattle.echo_addr.specs.declared.address.Address.{Address}
+use Rattle.echo_addr.specs.declared.address.NetNode.{NetNode}
 use Rattle.echo_packet.specs.Message.{Message}
 use Rattle.echo_text.specs.declared.fault.TextFault.{TextFault}
 use Rattle.echo_text.specs.declared.fault.TextFault.TheVariants as text
-use Rattle.echo_text.specs.Echo.{EchoOf, EchoText}
+use Rattle.echo_text.specs.Echo.{EchoOf, EchoText, FrontOf}
 use Rattle.echo_text.specs.Refusal.{text_refusal}
 use Rattle.echo_links.specs.Links.{LinkFile, has_area, is_link}
 use Rattle.echo_filed.specs.Filed.{Filed, key_of}
 use Rattle.echo_filed.specs.Written.{echo_of}
-use Rattle.echo_filed.proofs.Texts.{says_accepted, says_one}
+use Rattle.echo_text.proofs.SaidAfter.{front_accepted}
+use Rattle.echo_filed.proofs.Texts.{says_one}
 use Rattle.base_file.specs.Base.{is_known}
 use Rattle.model_steps.specs.declared.outcome.Outcome.{Outcome}
 use Rattle.model_steps.specs.declared.outcome.Outcome.TheVariants as outcome
@@ -32,9 +34,18 @@ no_echo file sender packed h = not_filed file sender packed outcome.NotEcho (λ 
 pub bad_tag : (file : LinkFile) (sender : Address) (packed : Message) → text_refusal packed.text ≡ Some text.BadTag → IsUnwanted file sender packed outcome.BadTag
 bad_tag file sender packed h = not_filed file sender packed outcome.BadTag (λ m. refl) (λ base. h)
 
--- what the text says
-pub text_said : (packed : Message) (e : EchoText) (dropped : ℕ) → EchoOf packed.text e dropped → (text_refusal packed.text ≡ None) × (e ≡ echo_of packed.text)
-text_said packed e dropped h = (says_accepted packed.text e dropped h, sym (says_one packed.text e dropped h))
+-- the tag and the kept lines are those that the text says
+tag_said : (text tag : List ℕ) (kept : List (List ℕ)) → FrontOf text tag kept → tag ≡ (echo_of text).tag
+unfolding echo_of
+tag_said text tag kept h = h.tag_is
+
+kept_said : (text tag : List ℕ) (kept : List (List ℕ)) → FrontOf text tag kept → kept ≡ (echo_of text).kept
+unfolding echo_of
+kept_said text tag kept h = h.kept_lines
+
+front_said : (text tag : List ℕ) (kept : List (List ℕ)) → FrontOf text tag kept
+    → record { tag = tag; kept = kept; seen = (echo_of text).seen; path = (echo_of text).path } ≡ echo_of text
+front_said text tag kept h = λ i. record { tag = tag_said text tag kept h i; kept = kept_said text tag kept h i; seen = (echo_of text).seen; path = (echo_of text).path }
 
 -- the link file refuses it, or not
 abbrev choice : Bool → Bool → Option Outcome
@@ -51,48 +62,51 @@ accepted true true h = (refl, refl)
 accepted true false h = absurd (cc)
 accepted false link h = absurd (cc)
 
-pub link_refused : (file : LinkFile) (sender : Address) (packed : Message) (e : EchoText) (o : Outcome) → text_refusal packed.text ≡ None → e ≡ echo_of packed.text
-    → refused_by file e.tag sender ≡ Some o → IsUnwanted file sender packed o
-link_refused file sender packed e o none said h =
+pub link_refused : (file : LinkFile) (sender : Address) (packed : Message) (own : List ℕ) (kept : List (List ℕ)) (o : Outcome) → FrontOf packed.text own kept
+    → refused_by file own sender ≡ Some o → IsUnwanted file sender packed o
+link_refused file sender packed own kept o front h =
     let P : Outcome → Type 0 = λ x. IsUnwanted file sender packed x in
-    let tag : e.tag ≡ (echo_of packed.text).tag = ap (λ (x : EchoText). x.tag) said in
+    let none = front_accepted packed.text own kept front in
+    let tag : own ≡ (echo_of packed.text).tag = tag_said packed.text own kept front in
     let A : List ℕ → Type 0 = λ t. has_area file t ≡ true in
     let N : List ℕ → Type 0 = λ t. has_area file t ≡ false in
     let L : List ℕ → Type 0 = λ t. is_link file t sender ≡ false in
-    elim (refused (has_area file e.tag) (is_link file e.tag sender) o h) [
+    elim (refused (has_area file own) (is_link file own sender) o h) [
       | inl area ↦ subst P area.1 (not_filed file sender packed outcome.NoArea (λ m. refl) (λ base. (none, subst N tag area.0)))
       | inr link ↦ subst P link.2 (not_filed file sender packed outcome.NotLinked (λ m. refl) (λ base. (none, subst A tag link.0, subst L tag link.1)))
     ]
 
 -- the area is there, and the sender links it
-wanted_area : (file : LinkFile) (sender : Address) (packed : Message) (e : EchoText) → IsWanted file sender packed e
+wanted_area : (file : LinkFile) (sender : Address) (packed : Message) (own : List ℕ) (kept : List (List ℕ)) → IsWanted file sender packed own kept
     → (has_area file (echo_of packed.text).tag ≡ true) × (is_link file (echo_of packed.text).tag sender ≡ true)
-wanted_area file sender packed e h =
-    let tag : e.tag ≡ (echo_of packed.text).tag = ap (λ (x : EchoText). x.tag) h.said in
+wanted_area file sender packed own kept h =
+    let tag : own ≡ (echo_of packed.text).tag = tag_said packed.text own kept h.front in
     let A : List ℕ → Type 0 = λ t. has_area file t ≡ true in
     let L : List ℕ → Type 0 = λ t. is_link file t sender ≡ true in
-    let both = accepted (has_area file e.tag) (is_link file e.tag sender) h.allowed in
+    let both = accepted (has_area file own) (is_link file own sender) h.allowed in
     (subst A tag both.0, subst L tag both.1)
 
 -- a message whose key is known
-pub known_left : (file : LinkFile) (base : List Filed) (sender : Address) (packed : Message) (e : EchoText) (key : Key) → IsWanted file sender packed e → key ≡ key_of (received sender packed)
+pub known_left : (file : LinkFile) (base : List Filed) (sender : Address) (packed : Message) (tag : List ℕ) (kept : List (List ℕ)) (key : Key) → IsWanted file sender packed tag kept → key ≡ key_of (received sender packed)
     → is_known base key ≡ true → (outcome.Known ≡ toss_outcome file base sender packed) × (None ≡ tossing file base sender packed)
 unfolding tossing
-known_left file base sender packed e key h is known =
-    let both = wanted_area file sender packed e h in
+known_left file base sender packed tag kept key h is known =
+    let both = wanted_area file sender packed tag kept h in
+    let none = front_accepted packed.text tag kept h.front in
     let P : Key → Type 0 = λ k. is_known base k ≡ true in
-    let same : toss_outcome file base sender packed ≡ outcome.Known = (outcome_is_first file base sender packed outcome.Known).1 (h.text, both.0, both.1, subst P is known) in
+    let same : toss_outcome file base sender packed ≡ outcome.Known = (outcome_is_first file base sender packed outcome.Known).1 (none, both.0, both.1, subst P is known) in
     (sym same, ap (λ x. where_filed x (received sender packed)) (sym same))
 
 -- a message that is new
-pub found_new : (file : LinkFile) (base : List Filed) (sender : Address) (packed : Message) (e : EchoText) (key : Key) (m : Filed) → IsWanted file sender packed e
+pub found_new : (file : LinkFile) (base : List Filed) (sender : Address) (packed : Message) (tag : List ℕ) (kept : List (List ℕ)) (key : Key) (m : Filed) → IsWanted file sender packed tag kept
     → key ≡ key_of (received sender packed) → is_known base key ≡ false → m ≡ received sender packed → IsNew file base sender packed key m
 unfolding tossing
-found_new file base sender packed e key m h is new made =
-    let both = wanted_area file sender packed e h in
+found_new file base sender packed tag kept key m h is new made =
+    let both = wanted_area file sender packed tag kept h in
+    let none = front_accepted packed.text tag kept h.front in
     let P : Key → Type 0 = λ k. is_known base k ≡ false in
     let same : toss_outcome file base sender packed ≡ outcome.Filed =
-    (outcome_is_first file base sender packed outcome.Filed).1 (record { text = h.text; area = both.0; link = both.1; new = subst P is new }) in
+    (outcome_is_first file base sender packed outcome.Filed).1 (record { text = none; area = both.0; link = both.1; new = subst P is new }) in
     record {
       answer = sym same;
       message = ap (λ x. Some x) made ∙ ap (λ x. where_filed x (received sender packed)) (sym same);
@@ -108,19 +122,22 @@ refused_text packed bytes f is other h =
     subst P is (elim h [ inl refused ↦ refused | inr memory ↦ absurd (other memory.1) ])
 
 -- the key of what is received
-pub key_received : {E : Type 0} (r : Result Key E) (packed : Message) (date to_name from_name subject : List ℕ) (e : EchoText)
-    → date ≡ packed.date → to_name ≡ packed.to_name → from_name ≡ packed.from_name → subject ≡ packed.subject → e ≡ echo_of packed.text
-    → IfOk r (λ key. (s : Option Address) → key ≡ key_of (record { sender = s; date = date; to_name = to_name; from_name = from_name; subject = subject; echo = e }))
+pub key_received : {E : Type 0} (r : Result Key E) (packed : Message) (date to_name from_name subject tag : List ℕ) (kept : List (List ℕ))
+    → date ≡ packed.date → to_name ≡ packed.to_name → from_name ≡ packed.from_name → subject ≡ packed.subject → FrontOf packed.text tag kept
+    → IfOk r (λ key. (s : Option Address) (seen path : List NetNode)
+    → key ≡ key_of (record { sender = s; date = date; to_name = to_name; from_name = from_name; subject = subject; echo = record { tag = tag; kept = kept; seen = seen; path = path } }))
     → IfOk r (λ key. (s : Address) → key ≡ key_of (received s packed))
 unfolding received
-key_received (Ok key) packed date to_name from_name subject e d t f j k h = λ s.
-    h (Some s) ∙ (λ i. key_of (record { sender = Some s; date = d i; to_name = t i; from_name = f i; subject = j i; echo = k i }))
-key_received (Err e') packed date to_name from_name subject e d t f j k h = tt
+key_received (Ok key) packed date to_name from_name subject tag kept d t f j front h = λ s.
+    let k = front_said packed.text tag kept front in
+    h (Some s) (echo_of packed.text).seen (echo_of packed.text).path ∙ (λ i. key_of (record { sender = Some s; date = d i; to_name = t i; from_name = f i; subject = j i; echo = k i }))
+key_received (Err e) packed date to_name from_name subject tag kept d t f j front h = tt
 
 -- what is received, part by part
 pub made_received : (sender : Address) (packed : Message) (date to_name from_name subject : List ℕ) (e : EchoText)
-    → date ≡ packed.date → to_name ≡ packed.to_name → from_name ≡ packed.from_name → subject ≡ packed.subject → e ≡ echo_of packed.text
+    → date ≡ packed.date → to_name ≡ packed.to_name → from_name ≡ packed.from_name → subject ≡ packed.subject → ((n : ℕ) × EchoOf packed.text e n)
     → record { sender = Some sender; date = date; to_name = to_name; from_name = from_name; subject = subject; echo = e } ≡ received sender packed
 unfolding received
-made_received sender packed date to_name from_name subject e d t f j k =
+made_received sender packed date to_name from_name subject e d t f j says =
+    let k = sym (says_one packed.text e says.0 says.1) in
     λ i. record { sender = Some sender; date = d i; to_name = t i; from_name = f i; subject = j i; echo = k i }

@@ -2,15 +2,13 @@
 use Rattle.std.specs.Prelude.{◌≡◌, false, ℕ, not, List, if◌then◌else◌, Option, Some, None}
 use Rattle.echo_addr.specs.declared.address.Address.{Address}
 use Rattle.echo_packet.specs.Message.{Message}
-use Rattle.echo_text.specs.Echo.{EchoText}
-use Rattle.echo_text.specs.Refusal.{text_refusal}
+use Rattle.echo_text.specs.Echo.{FrontOf}
 use Rattle.echo_links.specs.Links.{LinkFile, has_area, is_link}
 use Rattle.echo_filed.specs.Filed.{Filed, key_of}
 use Rattle.echo_filed.specs.declared.key.Key.{Key}
 use Rattle.base_file.specs.Base.{is_known}
 use Rattle.echo_toss.specs.declared.tossing.Verdict.{Verdict}
 use Rattle.echo_toss.specs.declared.tossing.Verdict.TheVariants.{Left, New}
-use Rattle.echo_filed.specs.Written.{echo_of}
 use Rattle.model_steps.specs.declared.outcome.Outcome.{Outcome}
 use Rattle.model_steps.specs.declared.outcome.Outcome.TheVariants as outcome
 use Rattle.model_steps.specs.Tossing.{toss_outcome, tossing}
@@ -24,11 +22,10 @@ refused_by file tag sender =
     else if not (is_link file tag sender) then Some outcome.NotLinked
     else None
 
--- the text is echomail that says e, and the sender is a link of its area
-pub record IsWanted (file : LinkFile) (sender : Address) (packed : Message) (e : EchoText) : Type 0 where
-  pub text : text_refusal packed.text ≡ None
-  pub said : e ≡ echo_of packed.text
-  pub allowed : refused_by file e.tag sender ≡ None
+-- the text is echomail with this tag and these kept lines, and the sender is a link of its area
+pub record IsWanted (file : LinkFile) (sender : Address) (packed : Message) (tag : List ℕ) (kept : List (List ℕ)) : Type 0 where
+  pub front : FrontOf packed.text tag kept
+  pub allowed : refused_by file tag sender ≡ None
 
 -- whatever the base, this becomes of the message, and it is not filed
 abbrev pub IsUnwanted : LinkFile → Address → Message → Outcome → Type 0
@@ -37,7 +34,7 @@ IsUnwanted file sender packed answer =
 
 -- the message was read in this way
 abbrev pub IsRead : LinkFile → Address → Message → Reading → Type 0
-IsRead file sender packed (Wanted e) = IsWanted file sender packed e
+IsRead file sender packed (Wanted front) = IsWanted file sender packed front.tag front.kept
 IsRead file sender packed (Unwanted answer) = IsUnwanted file sender packed answer
 
 -- a message that is to be filed, and its key

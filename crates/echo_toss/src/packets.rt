@@ -20,7 +20,7 @@ use base_store::Store;
 use disk_io::Source;
 use echo_addr::Address;
 use echo_links::LinkFile;
-use echo_packet::{HEADER_BYTES, Header, Limits, read_header, read_next};
+use echo_packet::{Buffers, HEADER_BYTES, Header, Limits, read_header, read_next};
 use std::alloc::Global;
 use std::hash::BuildHasher;
 
@@ -116,12 +116,14 @@ fn toss_messages<T: Store, R: Source>(
 {
     let mut given = 0;
     let mut place = HEADER_BYTES as u64;
+    let mut buffers = Buffers::new(alloc);
     'messages: loop {
-        match read_next(alloc, reader, limits, given, &mut place)? {
+        match read_next(buffers, reader, limits, given, &mut place)? {
             Some(message) => {
                 let outcome = toss_step(alloc, links, store, sender, &message)?;
                 tally.count(outcome);
                 given += 1;
+                buffers = message.into_buffers();
             }
             None => return Ok(()),
         }

@@ -1,9 +1,8 @@
 //! Reads a received message: it is refused, or becomes a filed message.
-ghost use Rattle.std.specs.Prelude.{◌≡◌, None, IfOk};
-ghost use Rattle.echo_text.specs.Refusal.{text_refusal};
+ghost use Rattle.std.specs.Prelude.{◌≡◌, IfOk};
+ghost use Rattle.echo_text.specs.Echo.{FrontOf};
 ghost use Rattle.echo_addr.specs.declared.address.Address.{Address as System};
 ghost use Rattle.echo_filed.specs.Filed.{key_of};
-ghost use Rattle.echo_filed.specs.Written.{echo_of};
 ghost use Rattle.model_steps.specs.Tossing.{received};
 ghost use Rattle.echo_toss.specs.Wanted.{IsRead, refused_by};
 
@@ -12,15 +11,15 @@ use echo_addr::Address;
 use echo_filed::{Filed, Key};
 use echo_links::LinkFile;
 use echo_packet::Packed;
-use echo_text::{EchoView, TextFault, view_text};
+use echo_text::{FrontView, TextFault, view_front};
 use model_steps::Outcome;
 use std::alloc::{AllocError, Global};
 
 /// The kind of a message, whatever the base.
 #[derive(Drop)]
 pub(crate) enum Reading<'a> {
-    /// Its text is this echomail, and its sender is a link of the area.
-    Wanted(EchoView<'a>),
+    /// Its text is echomail with this front, and its sender is a link of the area.
+    Wanted(FrontView<'a>),
     /// It is not filed.
     Unwanted(Outcome),
 }
@@ -34,15 +33,15 @@ pub(crate) fn read<'a>(
 ) -> Result<Reading<'a>, AllocError>
     ensures { IfOk result (IsRead links.now sender packed.now) }
 {
-    let view = match view_text(alloc, packed.text()) {
-        Ok((view, _)) => view,
+    let front = match view_front(alloc, packed.text()) {
+        Ok(front) => front,
         Err(TextFault::NotEcho) => return Ok(Reading::Unwanted(Outcome::NotEcho)),
         Err(TextFault::BadTag) => return Ok(Reading::Unwanted(Outcome::BadTag)),
         Err(_) => return Err(AllocError),
     };
-    match refused_by(links, view.tag.as_slice(), sender) {
+    match refused_by(links, front.tag.as_slice(), sender) {
         Some(outcome) => Ok(Reading::Unwanted(outcome)),
-        None => Ok(Reading::Wanted(view)),
+        None => Ok(Reading::Wanted(front)),
     }
 }
 
@@ -59,14 +58,18 @@ fn refused_by(links: &LinkFile, tag: &[u8], sender: Address) -> Option<Outcome>
     None
 }
 
-/// The key of the message, of which `view` is what the text says.
-pub(crate) fn key_in(alloc: Global, packed: &Packed, view: &EchoView<'_>) -> Result<Key, AllocError>
-    requires { view.now ≡ echo_of packed.now.text }
+/// The key of the message, whose text has this front.
+pub(crate) fn key_in(
+    alloc: Global,
+    packed: &Packed,
+    front: &FrontView<'_>,
+) -> Result<Key, AllocError>
+    requires { FrontOf packed.now.text front.now.tag front.now.kept }
     ensures { IfOk result (λ key. (sender : System) → key ≡ key_of (received sender packed.now)) }
 {
-    Key::of_view(
+    Key::of_front(
         alloc,
-        view,
+        front,
         packed.date(),
         packed.to_name(),
         packed.from_name(),
@@ -74,23 +77,21 @@ pub(crate) fn key_in(alloc: Global, packed: &Packed, view: &EchoView<'_>) -> Res
     )
 }
 
-/// The filed message; `view` is its parsed text.
+/// The filed message, whose text has this front.
 pub(crate) fn received(
     alloc: Global,
     sender: Address,
     packed: &Packed,
-    view: EchoView<'_>,
+    front: FrontView<'_>,
 ) -> Result<Filed, AllocError>
-    requires echomail { text_refusal packed.now.text ≡ None }
-    requires said { view ≡ echo_of packed.now.text }
+    requires { FrontOf packed.now.text front.tag front.kept }
     ensures { IfOk result (λ m. m ≡ received sender packed.now) }
 {
-    // For the prover: a property of every packed message.
-    packed.text();
+    let text = packed.text();
     let to_name = copied(alloc, packed.to_name())?;
     let from_name = copied(alloc, packed.from_name())?;
     let subject = copied(alloc, packed.subject())?;
-    let echo = view.into_echo(alloc)?;
+    let (echo, _) = front.into_echo(alloc, text)?;
     let Address { zone, net, node } = sender;
     Ok(Filed {
         sender: Some(Address { zone, net, node }),

@@ -90,12 +90,12 @@ fn judged<T: Store>(
     let reading = read(alloc, links, sender, packed)?;
     match reading {
         Reading::Unwanted(outcome) => Ok(Verdict::Left(outcome)),
-        Reading::Wanted(view) => {
-            let key = key_in(alloc, packed, &view)?;
+        Reading::Wanted(front) => {
+            let key = key_in(alloc, packed, &front)?;
             if store.knows(&key)? {
                 return Ok(Verdict::Left(Outcome::Known));
             }
-            let message = received(alloc, sender, packed, view)?;
+            let message = received(alloc, sender, packed, front)?;
             Ok(Verdict::New(key, message))
         }
     }

@@ -1,9 +1,6 @@
-//! The parts of message ids (commands say only whether one is an id), and copies of texts from their views.
+//! The parts of message ids: commands say only whether one is an id.
 
-ghost use Rattle.std.specs.Prelude.{IfSome};
-ghost use Rattle.echo_text.specs.Echo.{HasNoZero};
-
-use echo_text::{MsgId, view_text};
+use echo_text::MsgId;
 use std::alloc::Global;
 use std::test::Fail;
 
@@ -47,25 +44,4 @@ fn quoted_ids(rt: HostRuntime) -> Result<(), Fail> {
 #[test]
 fn nothing_is_no_id(rt: HostRuntime) {
     assert!(rt; MsgId::read(b"").is_err());
-}
-
-/// The text, which has no 00.
-fn checked(text: &[u8]) -> Option<&[u8]>
-    ensures { IfSome result (λ t. HasNoZero t.now) }
-{
-    if text.iter().all(|b| *b != 0) {
-        Some(text)
-    } else {
-        None
-    }
-}
-
-// Commands make a text from its view instead of a copy.
-#[test]
-fn views_are_copied(rt: HostRuntime) -> Result<(), Fail> {
-    let text = checked(b"AREA:T\rx\r\x01FOO\rSEEN-BY: 10/2\r").ok_or("a text has no 00")?;
-    let (view, _) = view_text(rt.alloc(), text)?;
-    let copy = view.to_echo(rt.alloc())?;
-    assert!(rt; copy == view.into_echo(rt.alloc())?);
-    Ok(())
 }

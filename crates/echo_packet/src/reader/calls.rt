@@ -11,7 +11,7 @@ use crate::fault::PacketFault;
 use crate::header::{HEADER_BYTES, Header, header_of, number_at};
 use crate::limits::Limits;
 use crate::message::{broken_fault, read_next};
-use crate::packed::Packed;
+use crate::packed::{Buffers, Packed};
 use crate::reader::{PacketReader, Stage};
 use disk_io::{Source, read_fixed};
 use std::alloc::Global;
@@ -86,7 +86,7 @@ impl<R: Source> PacketReader<R> {
             Stage::Stopped => return Err(PacketFault::Stopped),
         }
         match read_next(
-            self.alloc,
+            Buffers::new(self.alloc),
             &mut self.source,
             self.limits,
             self.given,

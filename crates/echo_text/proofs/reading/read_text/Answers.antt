@@ -1,7 +1,10 @@
-use Rattle.echo_text.proofs.SaidAfter.{answers_memory, not_refused}
+use Rattle.echo_text.proofs.SaidAfter.{answers_fault, answers_memory, front_accepted}
 use Rattle.echo_text.proofs.reading.read_text.Goals as goal
 
-pub returns-in_err-echo : goal.returns-in_err-echo
-returns-in_err-echo c =
-    answers_memory c.args.text.now c.from_residual-in_err-echo.result c.from_residual-in_err-echo.ensures.1
-    (not_refused c.args.text.now _ _ c.in_ok-view.ensures)
+pub returns-in_err-front : goal.returns-in_err-front
+returns-in_err-front c = answers_fault c.args.text.now c.in_err-front.field-0.0 c.from_residual.result c.from_residual.ensures.1 c.in_err-front.ensures
+
+pub returns-in_err-read : goal.returns-in_err-read
+returns-in_err-read c =
+    answers_memory c.args.text.now c.from_residual-in_err-read.result c.from_residual-in_err-read.ensures.1
+    (front_accepted c.args.text.now _ _ c.in_ok-front.ensures)

@@ -1,9 +1,16 @@
-use Rattle.std.proofs.Common.{◌≡◌, sym, subst, ◌∙◌, Some, arith}
+use Rattle.std.proofs.Common.{◌≡◌, ℕ, List, sym, subst, ◌∙◌, Some, arith}
+use Rattle.echo_text.specs.Echo.{EchoOf, FrontOf}
+use Rattle.echo_text.proofs.SaidAfter.{front_accepted}
 use Rattle.echo_filed.specs.Filed.{IsFiled}
 use Rattle.model_steps.specs.Tossing.{received}
 use Rattle.model_steps.proofs.Kept.{received_filed}
 use Rattle.echo_toss.proofs.Tossed.{made_received}
 use Rattle.echo_toss.proofs.receiving.received.Goals as goal
+
+pub into_echo-requires-clause-front : goal.into_echo-requires-clause-front
+into_echo-requires-clause-front c =
+    let P : List ℕ → Type 0 = λ t. FrontOf t c.args.front.tag c.args.front.kept in
+    subst P (sym c.text-text.ensures.text) c.requires
 
 made : (c : goal.After-result-1) → record {
   sender = Some c.args.sender;
@@ -14,11 +21,14 @@ made : (c : goal.After-result-1) → record {
   echo = c.in_ok-echo.echo;
 } ≡ received c.args.sender c.args.packed.now
 made c =
+    let P : List ℕ → Type 0 = λ t. EchoOf t c.in_ok-echo.echo c.in_ok-echo.field-0-1 in
     made_received c.args.sender c.args.packed.now _ _ _ _ _ c.date.ensures (c.in_ok-to_name.ensures ∙ c.to_name.ensures) (c.in_ok-from_name.ensures ∙ c.from_name.ensures)
-    (c.in_ok-subject.ensures ∙ c.subject.ensures) (c.in_ok-echo.ensures ∙ c.requires.said)
+    (c.in_ok-subject.ensures ∙ c.subject.ensures) (_, subst P c.text-text.ensures.text c.in_ok-echo.ensures)
 
 pub invariant_of-result : goal.invariant_of-result
-invariant_of-result c = subst IsFiled (sym (made c)) (received_filed _ c.args.sender c.args.packed.now (omega arith, omega arith, omega arith) c.text.ensures.message c.requires.echomail)
+invariant_of-result c =
+    subst IsFiled (sym (made c)) (received_filed _ c.args.sender c.args.packed.now (omega arith, omega arith, omega arith) c.text-text.ensures.message
+    (front_accepted c.args.packed.now.text c.args.front.tag c.args.front.kept c.requires))
 
 pub returns : goal.returns
 returns c = made c

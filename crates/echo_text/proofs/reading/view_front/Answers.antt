@@ -1,0 +1,18 @@
+use Rattle.std.proofs.Common.{◌∙◌, inl, inr, refl}
+use Rattle.echo_text.proofs.SaidAfter.{fails, front_is, refusal_is}
+use Rattle.echo_text.proofs.reading.view_front.Goals as goal
+
+pub returns-in_err-raw : goal.returns-in_err-raw
+returns-in_err-raw c =
+    fails _ c.args.text.now c.in_err-raw.field-0.0 c.from_residual.result c.from_residual.ensures.1
+    (inl (refusal_is c.args.text.now c.split_line.result.0.now _ c.split_line.ensures.first c.in_err-raw.ensures.refused))
+
+pub returns-in_err-tag : goal.returns-in_err-tag
+returns-in_err-tag c =
+    fails _ c.args.text.now _ c.from_residual-in_err-tag.result c.from_residual-in_err-tag.ensures.1
+    (inr (refusal_is c.args.text.now c.split_line.result.0.now _ c.split_line.ensures.first c.in_ok-raw.ensures.refused, refl))
+
+pub returns : goal.returns
+returns c =
+    front_is c.args.text.now c.split_line.result.0.now c.split_line.result.1.now _ _ _ _ c.split_line.ensures.first c.split_line.ensures.later
+    c.in_ok-raw.ensures.refused (c.new.ensures ∙ c.in_ok-tag.ensures.ok ∙ c.in_ok-raw.ensures.tag) c.split_tail.ensures.body c.split_tail.ensures.tail c.new-2.ensures
