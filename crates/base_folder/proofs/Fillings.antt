@@ -1,6 +1,6 @@
 -- A folder filled with the messages of a base, one after another.
-use Rattle.std.proofs.Common.{◌≡◌, ◌+◌, ℕ, List, [], Some, length, take, false, inl, inr, ⊎_elim, Bool, refl, sym, subst, ◌∙◌, arith}
-use Rattle.std.specs.Prelude.{slice_get}
+use Rattle.std.proofs.Common.{◌≡◌, ◌+◌, ℕ, List, [], Some, length, take, false, inl, inr, ⊎_elim, Bool, Err, refl, sym, subst, ◌∙◌, arith}
+use Rattle.std.specs.Prelude.{IsErrOf, slice_get}
 use Rattle.std.proofs.lemmas.List.{length-take-le, take_all}
 use Rattle.std.proofs.lemmas.Option.{get_or_from_slice_get, slice_get_within}
 use Rattle.disk_io.specs.Disk.{DiskState, Files}
@@ -22,7 +22,7 @@ use Rattle.base_folder_store.proofs.Stubbed.{new_at}
 use Rattle.base_file.specs.declared.fault.BaseFault.TheVariants as fault
 use Rattle.base_store.specs.declared.store_error.StoreError.{StoreError}
 use Rattle.base_store.specs.declared.store_error.StoreError.TheVariants as store
-use Rattle.base_folder.specs.Filled.{HoldsFront, HoldsMore, IsKept, IsUnfilled, StandsForOneOf, StandsForOneOfOrWasLeft, unfilled_cause}
+use Rattle.base_folder.specs.Filled.{HoldsFront, HoldsMore, IsFilledFull, IsKept, IsUnfilled, StandsForOneOf, StandsForOneOfOrWasLeft, unfilled_cause}
 use Rattle.base_folder.specs.OpenError.{IsWrong}
 use Rattle.base_folder.specs.declared.open_error.OpenError.{OpenError}
 use Rattle.base_folder.specs.declared.open_error.OpenError.TheVariants as unread
@@ -127,3 +127,18 @@ unfilled_as_caused strange path files store.Memory why is = subst (λ (w : OpenE
 unfilled_as_caused strange path files store.Device why is = subst (λ (w : OpenError). IsUnfilled strange path files w) (sym is) tt
 unfilled_as_caused strange path files store.Damaged why is = subst (λ (w : OpenError). IsUnfilled strange path files w) (sym is) tt
 unfilled_as_caused strange path files store.TooMany why is = subst (λ (w : OpenError). IsUnfilled strange path files w) (sym is) tt
+
+-- a full folder, by its path
+pub full_at : {D : Type 0} (state : D → DiskState) (keyed : ℕ → ℕ → List ℕ → ℕ) (path at : List ℕ) (base : Base) → path ≡ at → IsFilledFull state keyed path base → IsFilledFull state keyed at base
+full_at state keyed path at base same full = record { disk = full.disk; folder = full.folder; at = full.at ∙ same; full = full.full }
+
+-- a folder that is opened is not too much
+pub never_many : {T : Type 0} (strange : Bool) (path : List ℕ) (files : Files) (why : OpenError) → IsWrong strange path files why → IsErrOf {T = T} (Err why) (unread.Wrong fault.TooMany) → ⊥
+never_many strange path files why was is = let same : why ≡ unread.Wrong fault.TooMany = cc (is) in subst (λ (w : OpenError). IsWrong strange path files w) same was
+
+-- too much for the folder is too much for its store
+pub many_unfilled : (cause : StoreError) (why : OpenError) → why ≡ unfilled_cause cause → IsErrOf {T = Unit {0}} (Err why) (unread.Wrong fault.TooMany) → IsErrOf {T = Unit {0}} (Err cause) store.TooMany
+many_unfilled store.Memory why same is = absurd (cc (same, is))
+many_unfilled store.Device why same is = absurd (cc (same, is))
+many_unfilled store.Damaged why same is = absurd (cc (same, is))
+many_unfilled store.TooMany why same is = refl

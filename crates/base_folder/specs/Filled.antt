@@ -1,10 +1,13 @@
 -- A base folder that is filled with messages.
-use Rattle.std.specs.Prelude.{◌≡◌, ◌⊎◌, ℕ, Bool, List, [], false, take}
+use Rattle.std.specs.Prelude.{◌≡◌, ◌⊎◌, ℕ, Bool, List, [], false, take, Some, slice_get}
 use Rattle.base_file.specs.Base.{Base, is_known}
 use Rattle.echo_filed.specs.Filed.{Filed, key_of}
 use Rattle.base_log.specs.Standing.{BaseBytes}
 use Rattle.disk_io.specs.Disk.{DiskState, Files}
+use Rattle.base_folder_store.specs.Added.{HasRoomFor, IsFull}
 use Rattle.base_folder_store.specs.Held.{HoldsBase, StandsForBase, StandsForBaseAlone}
+use Rattle.base_folder_store.specs.Opened.{held_by, path_of}
+use Rattle.base_folder_store.specs.declared.folder.Folder.{Folder}
 use Rattle.base_file.specs.declared.fault.BaseFault.TheVariants as fault
 use Rattle.base_store.specs.Store.{with_message}
 use Rattle.base_store.specs.declared.store_error.StoreError.{StoreError}
@@ -37,6 +40,22 @@ no_messages = record { messages = []; cursor = 0 }
 pub record IsKept (keyed : ℕ → ℕ → List ℕ → ℕ) (path : List ℕ) (disk : DiskState) (base : Base) : Type 0 where
   pub seen : StandsForBase keyed path base disk.seen
   pub stays : (c : Files) → disk.may_leave c → StandsForBase keyed path base c
+
+-- The folder holds the first messages of a base, and has no room for the next one of them.
+pub record LacksNext (keyed : ℕ → ℕ → List ℕ → ℕ) (disk : DiskState) (folder : Folder) (messages : List Filed) : Type 0 where
+  pub place : ℕ
+  pub cursor : ℕ
+  pub message : Filed
+  pub holds : HoldsFront keyed (held_by disk folder) messages place cursor
+  pub is : slice_get messages place ≡ Some message
+  pub lacks : HasRoomFor folder message → ⊥
+
+-- The folder of this path had no room for the next message of a base, or was full with all of them.
+pub record IsFilledFull {D : Type 0} (state : D → DiskState) (keyed : ℕ → ℕ → List ℕ → ℕ) (path : List ℕ) (base : Base) : Type 0 where
+  pub disk : D
+  pub folder : Folder
+  pub at : path_of folder ≡ path
+  pub full : LacksNext keyed (state disk) folder base.messages ⊎ (HoldsBase keyed (held_by (state disk) folder) base × IsFull folder)
 
 -- A fault of the store, as one of the folder.
 abbrev pub unfilled_cause : StoreError → OpenError

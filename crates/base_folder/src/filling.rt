@@ -1,5 +1,5 @@
 //! A base folder filled with the messages of a base.
-ghost use Rattle.std.specs.Prelude.{◌≡◌, ◌≢◌, ◌≤◌, ◌<◌, ◌+◌, ℕ, List, IfErr, OnOk, length};
+ghost use Rattle.std.specs.Prelude.{◌≡◌, ◌≢◌, ◌≤◌, ◌<◌, ◌+◌, ℕ, List, IfErr, IsErrOf, OnOk, Some, length, slice_get};
 ghost use Rattle.base_file.specs.Base as model;
 ghost use Rattle.base_file.specs.Base.{IsBase};
 ghost use Rattle.disk_io.specs.Disk.{Honestly};
@@ -7,13 +7,15 @@ ghost use Rattle.disk_io.specs.Runs.{LeavesOnly};
 ghost use Rattle.base_log.specs.AtRest.{IsAtRest};
 ghost use Rattle.base_log.specs.Moments.{KeepsOutside};
 ghost use Rattle.base_log.specs.Opening.{AreAlone};
+ghost use Rattle.echo_filed.specs.Filed.{Filed as TheMessage};
+ghost use Rattle.base_folder_store.specs.Added.{HasRoomFor};
 ghost use Rattle.base_folder_store.specs.Answers.{HasReadCause};
 ghost use Rattle.base_folder_store.specs.Held.{HoldsBase, StandsForBase};
 ghost use Rattle.base_folder_store.specs.Calls.{StagesOnly, StaysOpen};
 ghost use Rattle.base_folder_store.specs.Opened.{IsOpen, committed_by, held_by, path_of};
 ghost use Rattle.base_folder_store.specs.Owned.{with_mark};
 ghost use Rattle.base_folder_store.specs.State.{IsUsable};
-ghost use Rattle.base_folder.specs.Filled.{HoldsFront, HoldsMore, IsKept, IsUnfilled, StandsForOneOf, StandsForOneOfOrWasLeft, no_messages, unfilled_cause};
+ghost use Rattle.base_folder.specs.Filled.{HoldsFront, HoldsMore, IsFilledFull, IsKept, IsUnfilled, StandsForOneOf, StandsForOneOfOrWasLeft, no_messages, unfilled_cause};
 ghost use Rattle.base_folder.specs.Ours.{SameKey};
 ghost use Rattle.base_folder.specs.OpenError.{HasUnreadCause};
 
@@ -41,6 +43,7 @@ fn add<D: Disk, H: Digest>(
     ensures same { Honestly (D.state disk.new) (OnOk result (committed_by (D.state disk.new) folder.new ≡ committed_by (D.state disk.old) folder.old)) }
     ensures run { StagesOnly (path_of folder.old) (committed_by (D.state disk.old) folder.old) (D.state disk.old) (D.state disk.new) }
     ensures cause { HasReadCause (D.failures disk.old) (D.failures disk.new) result }
+    ensures many { IsErrOf result StoreError.TooMany → HasRoomFor folder.old message.now → ⊥ }
 {
     let bytes = bytes_alone(alloc, message)?;
     let key = Key::of_message(alloc, message)?;
@@ -66,6 +69,7 @@ fn add_next<D: Disk, H: Digest, S: BuildHasher>(
     ensures same { Honestly (D.state disk.new) (OnOk result (committed_by (D.state disk.new) folder.new ≡ committed_by (D.state disk.old) folder.old)) }
     ensures run { StagesOnly (path_of folder.old) (committed_by (D.state disk.old) folder.old) (D.state disk.old) (D.state disk.new) }
     ensures cause { HasReadCause (D.failures disk.old) (D.failures disk.new) result }
+    ensures many { IsErrOf result StoreError.TooMany → (m : TheMessage) × (slice_get base.now.messages place ≡ Some m) × (HasRoomFor folder.old m → ⊥) }
 {
     match base.message(place) {
         Some(message) => add::<D, H>(alloc, disk, folder, message),
@@ -92,6 +96,8 @@ fn add_from<D: Disk, H: Digest, S: BuildHasher>(
     ensures same { Honestly (D.state disk.new) (OnOk result (committed_by (D.state disk.new) folder.new ≡ committed_by (D.state disk.old) folder.old)) }
     ensures run { StagesOnly (path_of folder.old) (committed_by (D.state disk.old) folder.old) (D.state disk.old) (D.state disk.new) }
     ensures cause { HasReadCause (D.failures disk.old) (D.failures disk.new) result }
+    ensures many { Honestly (D.state disk.new) ((cursor : ℕ) → HoldsFront H.keyed (held_by (D.state disk.old) folder.old) base.now.messages from cursor
+        → IsErrOf result StoreError.TooMany → IsFilledFull D.state H.keyed (path_of folder.old) base.now) }
 {
     'messages: for i in from..to {
         add_next::<D, H, S>(alloc, disk, folder, base, i)?;
@@ -113,6 +119,8 @@ fn add_scanned<D: Disk, H: Digest, S: BuildHasher>(
     ensures same { Honestly (D.state disk.new) (OnOk result (committed_by (D.state disk.new) folder.new ≡ committed_by (D.state disk.old) folder.old)) }
     ensures run { StagesOnly (path_of folder.old) (committed_by (D.state disk.old) folder.old) (D.state disk.old) (D.state disk.new) }
     ensures cause { HasReadCause (D.failures disk.old) (D.failures disk.new) result }
+    ensures many { Honestly (D.state disk.new) (HoldsFront H.keyed (held_by (D.state disk.old) folder.old) base.now.messages 0 0
+        → IsErrOf result StoreError.TooMany → IsFilledFull D.state H.keyed (path_of folder.old) base.now) }
 {
     add_from::<D, H, S>(alloc, disk, folder, base, 0, base.cursor())?;
     folder.move_to_end();
@@ -133,6 +141,8 @@ fn add_all<D: Disk, H: Digest, S: BuildHasher>(
     ensures same { Honestly (D.state disk.new) (OnOk result (committed_by (D.state disk.new) folder.new ≡ committed_by (D.state disk.old) folder.old)) }
     ensures run { StagesOnly (path_of folder.old) (committed_by (D.state disk.old) folder.old) (D.state disk.old) (D.state disk.new) }
     ensures cause { HasReadCause (D.failures disk.old) (D.failures disk.new) result }
+    ensures many { Honestly (D.state disk.new) (HoldsFront H.keyed (held_by (D.state disk.old) folder.old) base.now.messages 0 0
+        → IsErrOf result StoreError.TooMany → IsFilledFull D.state H.keyed (path_of folder.old) base.now) }
 {
     add_scanned::<D, H, S>(alloc, disk, folder, base)?;
     add_from::<D, H, S>(alloc, disk, folder, base, base.cursor(), base.len())
@@ -158,6 +168,8 @@ fn fill_opened<D: Disk, H: Digest, S: BuildHasher>(
         → LeavesOnly (D.state disk.old) (D.state disk.new) (StandsForOneOf H.keyed (path_of folder.old) (D.state disk.old) first base.now)) }
     ensures outside { KeepsOutside (path_of folder.old) (D.state disk.old) (D.state disk.new) }
     ensures cause { HasReadCause (D.failures disk.old) (D.failures disk.new) result }
+    ensures many { Honestly (D.state disk.new) (HoldsFront H.keyed (held_by (D.state disk.old) folder.old) base.now.messages 0 0
+        → IsErrOf result StoreError.TooMany → IsFilledFull D.state H.keyed (path_of folder.old) base.now) }
 {
     add_all::<D, H, S>(alloc, disk, folder, base)?;
     folder.commit(disk)
@@ -212,6 +224,8 @@ pub fn fill<D: Disk, H: Digest, S: BuildHasher>(
     ensures outside { KeepsOutside path.now (D.state disk.old) (D.state disk.new) }
     ensures wrong { Honestly (D.state disk.new) (IfErr result (IsUnfilled strange path.now (D.state disk.old).seen)) }
     ensures cause { HasUnreadCause (D.failures disk.old) (D.failures disk.new) result }
+    ensures many { Honestly (D.state disk.new) (StandsForBase H.keyed path.now no_messages (D.state disk.old).seen
+        → IsErrOf result (OpenError.Wrong BaseFault.TooMany) → IsFilledFull D.state H.keyed path.now base.now) }
 {
     let mut folder = open_base(alloc, disk, path, strange)?;
     give_key(&mut folder, key.0, key.1);

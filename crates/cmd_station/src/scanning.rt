@@ -175,6 +175,7 @@ fn report_scanned<E: Sink>(
     match done {
         Ok(()) => Status::Good,
         Err(ScanError::Command(stop)) => fault_of(scan.at, stop).report(errors),
+        // Four bytes do not count the messages that were scanned before (`IsOfPlacing` of station_scan).
         Err(ScanError::TooFar) => {
             fault_of(scan.at, CommandError::Store(StoreError::TooMany)).report(errors)
         }

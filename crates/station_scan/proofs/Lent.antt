@@ -7,7 +7,11 @@ use Rattle.disk_atomic.proofs.Changes.{only_nothing, then_only, wider}
 use Rattle.base_store.specs.Store.{LooksOn, StoreState}
 use Rattle.base_store.proofs.Runs.{same_twice}
 use Rattle.station.specs.Beneath.{HoldsAsBefore, IsGivenBack}
+use Rattle.disk_atomic.specs.Outgoing.{IsAtStaging}
 use Rattle.station_scan.specs.Beneath.{IsUsedAt}
+use Rattle.station_scan.specs.Writing.{IsBatchOff}
+use Rattle.station_scan.specs.declared.writing.Batch.{Batch}
+use Rattle.station_scan.proofs.Published.{own_not_staging}
 
 module _ (paths : List ℕ → Type 0) (s0 a b : StoreState) (d0 d1 : DiskState) (looks : LooksOn s0 a) (out : ChangesNothing s0.disk d0) (back : IsGivenBack a d0 d1 b) (off : (m : List ℕ) → s0.is_own m → paths m → ⊥)
     (run : ChangesOnly paths d0 d1) where
@@ -26,3 +30,14 @@ module _ (paths : List ℕ → Type 0) (s0 a b : StoreState) (d0 d1 : DiskState)
     };
     changes = then_only paths s0.disk d1 s1.disk (then_only paths s0.disk d0 d1 (only_nothing paths s0.disk d0 out) run) (only_nothing paths d1 s1.disk into);
   }
+
+-- The same of the staging files of a batch.
+module _ (batch : Batch) (s0 a b : StoreState) (d0 d1 : DiskState) (going : IsBatchOff s0 batch) (looks : LooksOn s0 a) (out : ChangesNothing s0.disk d0) (back : IsGivenBack a d0 d1 b) (run : ChangesOnly (IsAtStaging batch.packets.now batch.trial.now) d0 d1) where
+  off_staging : (m : List ℕ) → s0.is_own m → IsAtStaging batch.packets.now batch.trial.now m → ⊥
+  off_staging = own_not_staging s0 batch.outbound.now batch.trial.now batch.packets.now going
+
+  pub staged_ready : b.is_ready
+  staged_ready = (held (IsAtStaging batch.packets.now batch.trial.now) s0 a b d0 d1 looks out back off_staging run).ready
+
+  pub staged_used : (s1 : StoreState) → LooksOn b s1 → ChangesNothing d1 s1.disk → IsUsedAt (IsAtStaging batch.packets.now batch.trial.now) s0 s1
+  staged_used s1 last into = used (IsAtStaging batch.packets.now batch.trial.now) s0 a b d0 d1 looks out back off_staging run s1 last into

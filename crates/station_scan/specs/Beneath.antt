@@ -10,3 +10,9 @@ pub record IsUsedAt (paths : List ℕ → Type 0) (old new : StoreState) : Type 
   pub same : IsSameStore old new
   pub holds : HoldsAsBefore old new
   pub changes : ChangesOnly paths old.disk new.disk
+
+-- A store that holds what this one holds is full.
+pub record IsFullOnWay {S : Type 0} (state : S → StoreState) (old : StoreState) : Type 0 where
+  pub store : S
+  pub holds : HoldsAsBefore old (state store)
+  pub full : (state store).is_full

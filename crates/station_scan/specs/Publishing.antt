@@ -17,6 +17,7 @@ use Rattle.base_store.specs.Store.{Commits, IsSameStore, StoreState}
 use Rattle.base_store.specs.declared.store_error.StoreError.{StoreError}
 use Rattle.base_store.specs.declared.store_error.StoreError.TheVariants as store
 use Rattle.station.specs.Beneath.{HoldsAsBefore}
+use Rattle.station_scan.specs.Beneath.{IsFullOnWay}
 use Rattle.station_scan.specs.declared.publish_error.PublishError.{PublishError}
 use Rattle.station_scan.specs.declared.publish_error.PublishError.TheVariants.{Base as OfBase, Reading, Staging, Packets}
 
@@ -92,8 +93,8 @@ StopsPublishing content packets trial old new (Staging cause) = HoldsAsBefore ol
 StopsPublishing content packets trial old new (OfBase cause) = (base : Base) → old.keeps base → All (IsFilled (content base) new.disk) packets
 
 -- A failure of the device is reported only if its count of failures rose. On an honest disk, damage is reported only for a store that holds
--- no base.
-pub record HasPublishCause {T : Type 0} (old new : StoreState) (before now : ℕ) (result : Result T PublishError) : Type 0 where
+-- no base, and too much only if the store was full.
+pub record HasPublishCause {S T : Type 0} (state : S → StoreState) (old new : StoreState) (before now : ℕ) (result : Result T PublishError) : Type 0 where
   pub later : before ≤ now
   pub packets : IsErrOf result (Packets placing.Device) → Failed before now
   pub staging : IsErrOf result (Staging disk_error.Device) → Failed before now
@@ -101,6 +102,8 @@ pub record HasPublishCause {T : Type 0} (old new : StoreState) (before now : ℕ
   pub reading : IsErrOf result (Reading store.Device) → Failed before now
   pub damaged : Honestly new.disk (IsErrOf result (OfBase store.Damaged) → (base : Base) → old.keeps base → ⊥)
   pub unread : Honestly new.disk (IsErrOf result (Reading store.Damaged) → (base : Base) → old.keeps base → ⊥)
+  pub many : IsErrOf result (Reading store.TooMany) → IsFullOnWay state old
+  pub full : IsErrOf result (OfBase store.TooMany) → IsFullOnWay state old
 
 -- Nothing has the packet's path, and that is on the disk.
 pub record IsClear (disk : DiskState) (p : Outgoing) : Type 0 where
@@ -133,13 +136,14 @@ NoneStays packets trial new (Staging cause) = Unit {0}
 NoneStays packets trial new (OfBase cause) = ⊥
 
 -- A failure of the device is reported only if its count of failures rose. On an honest disk, damage is reported only for a store that holds
--- no base. A used path and a failed commit are never reported.
-pub record HasStageCause {T : Type 0} (old new : StoreState) (before now : ℕ) (result : Result T PublishError) : Type 0 where
+-- no base, and too much only if the store was full. A used path and a failed commit are never reported.
+pub record HasStageCause {S T : Type 0} (state : S → StoreState) (old new : StoreState) (before now : ℕ) (result : Result T PublishError) : Type 0 where
   pub later : before ≤ now
   pub packets : IsErrOf result (Packets placing.Device) → Failed before now
   pub staging : IsErrOf result (Staging disk_error.Device) → Failed before now
   pub reading : IsErrOf result (Reading store.Device) → Failed before now
   pub unread : Honestly new.disk (IsErrOf result (Reading store.Damaged) → (base : Base) → old.keeps base → ⊥)
+  pub many : IsErrOf result (Reading store.TooMany) → IsFullOnWay state old
   pub free : IsErrOf result (Packets placing.Taken) → ⊥
   pub base : (cause : StoreError) → IsErrOf result (OfBase cause) → ⊥
 
@@ -181,6 +185,6 @@ IsNamedAs (Ok false) result = result ≡ Err (Packets placing.Taken)
 IsNamedAs (Err cause) result = result ≡ Err (Packets (placing_cause cause))
 
 -- Why it failed from the commit on. A used path is reported only if there was one.
-pub record HasCommitCause {T : Type 0} (packets : List Outgoing) (old new : StoreState) (before now : ℕ) (result : Result T PublishError) : Type 0 where
-  pub causes : HasPublishCause old new before now result
+pub record HasCommitCause {S T : Type 0} (state : S → StoreState) (packets : List Outgoing) (old new : StoreState) (before now : ℕ) (result : Result T PublishError) : Type 0 where
+  pub causes : HasPublishCause state old new before now result
   pub taken : Honestly new.disk (IsErrOf result (Packets placing.Taken) → All (IsFree old.disk) packets → ⊥)

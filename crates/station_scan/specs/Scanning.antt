@@ -97,6 +97,13 @@ pub record ScansOnStore (stamp : Stamp) (Own : List ℕ → Type 0) (outbound : 
   pub put : IsPutOn Own outbound (dotted file.system) IsTrue failed old new base made result
   pub whole : IsErrOf result (Command (Store Damaged)) → ⊥
 
+-- A store that held this base, or the same with the cursor at its end, was full. The base was committed, and no other since.
+pub record IsScanFull {S : Type 0} (state : S → StoreState) (base : Base) : Type 0 where
+  pub store : S
+  pub keeps : (state store).keeps base ⊎ (state store).keeps (all_scanned base)
+  pub committed : (state store).committed base
+  pub full : (state store).is_full
+
 -- The steps of a scan of this base before the commit, or from the commit on. These files were seen once the station was open.
 abbrev pub IsOnItsWay : Place → List ℕ → List ℕ → DiskState → Base → List Left → List PacketFile → Files → Files → Type 0
 IsOnItsWay place outbound own old base found files opened c =

@@ -15,6 +15,7 @@ use Rattle.echo_toss.specs.Exports.{Outgoing as Sent, sent_of}
 use Rattle.base_store.specs.Store.{StoreState}
 use Rattle.base_store.specs.declared.store_error.StoreError.TheVariants as store
 use Rattle.station.specs.Beneath.{AreSettledByOwn}
+use Rattle.station_scan.specs.Beneath.{IsFullOnWay}
 use Rattle.station_scan.specs.Publishing.{AreGoing, AreOpen, IsWritten}
 use Rattle.disk_atomic.specs.Publishing.{placing_cause}
 use Rattle.station_scan.specs.declared.publish_error.PublishError.{PublishError}
@@ -55,12 +56,13 @@ pub record HasCopies (file : LinkFile) (messages : List Filed) (from next : ℕ)
   pub longer : All (IsLonger (λ to. messages_bytes (copies_out to sent)) old new) packets
 
 -- A failure of the device is reported only if its count of failures rose. On an honest disk, damage is reported only for a store that holds
--- no base.
-pub record HasStopCause {T : Type 0} (old new : StoreState) (before now : ℕ) (result : Result T StageStop) : Type 0 where
+-- no base, and too much only if the store was full.
+pub record HasStopCause {S T : Type 0} (state : S → StoreState) (old new : StoreState) (before now : ℕ) (result : Result T StageStop) : Type 0 where
   pub later : before ≤ now
   pub of_disk : IsErrOf result (OfDisk disk.Device) → Failed before now
   pub of_store : IsErrOf result (OfStore store.Device) → Failed before now
   pub damaged : Honestly new.disk (IsErrOf result (OfStore store.Damaged) → (base : Base) → old.keeps base → ⊥)
+  pub many : IsErrOf result (OfStore store.TooMany) → IsFullOnWay state old
 
 -- Why packets were not written, with no staging file left.
 abbrev pub stop_told : StageStop → PublishError

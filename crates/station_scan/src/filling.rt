@@ -35,7 +35,7 @@ fn group_on<'a, D: Disk, P: LendStation<'a, D>>(
     ensures copies { Honestly (P.Kept.state result.store).disk ((base : Base) → (P.Kept.state store).keeps base
         → IfOk result.done (λ next. HasCopies source.entry.links.now base.messages at next batch.entry.packets.now (P.Kept.state store).disk (P.Kept.state result.store).disk)) }
     ensures next { IfOk result.done (λ next. (at < next) × (next ≤ end)) }
-    ensures cause { HasStopCause (P.Kept.state store) (P.Kept.state result.store) (P.Kept.failures store) (P.Kept.failures result.store) result.done }
+    ensures cause { HasStopCause P.Kept.state (P.Kept.state store) (P.Kept.state result.store) (P.Kept.failures store) (P.Kept.failures result.store) result.done }
 {
     let mut store = store;
     match group_from(alloc, source.links, &mut store, at, end) {
@@ -72,7 +72,7 @@ fn groups_on<'a, D: Disk, P: LendStation<'a, D>>(
     ensures opened { OnOk result.done (IsOpen batch.entry (P.Kept.state result.store).disk) }
     ensures copies { Honestly (P.Kept.state result.store).disk ((base : Base) → (P.Kept.state store).keeps base
         → OnOk result.done (HasCopies source.entry.links.now base.messages source.entry.from (length base.messages) batch.entry.packets.now (P.Kept.state store).disk (P.Kept.state result.store).disk)) }
-    ensures cause { HasStopCause (P.Kept.state store) (P.Kept.state result.store) (P.Kept.failures store) (P.Kept.failures result.store) result.done }
+    ensures cause { HasStopCause P.Kept.state (P.Kept.state store) (P.Kept.state result.store) (P.Kept.failures store) (P.Kept.failures result.store) result.done }
 {
     let mut store = store;
     let mut at = source.from;
@@ -113,7 +113,7 @@ fn write_on<'a, D: Disk, P: LendStation<'a, D>>(
     ensures opened { OnOk result.done (IsOpen batch.entry (P.Kept.state result.store).disk) }
     ensures written { Honestly (P.Kept.state result.store).disk ((base : Base) → (P.Kept.state store).keeps base
         → OnOk result.done (All (IsWritten (content_for source.entry base) (P.Kept.state result.store).disk.seen) batch.entry.packets.now)) }
-    ensures cause { HasStopCause (P.Kept.state store) (P.Kept.state result.store) (P.Kept.failures store) (P.Kept.failures result.store) result.done }
+    ensures cause { HasStopCause P.Kept.state (P.Kept.state store) (P.Kept.state result.store) (P.Kept.failures store) (P.Kept.failures result.store) result.done }
 {
     let Used { store, done } = append_on::<D, P, Headers<'_>>(
         alloc,
@@ -172,7 +172,7 @@ fn fill_on<'a, D: Disk, P: LendStation<'a, D>>(
         → OnOk result.done (All (IsWritten (content_for source.entry base) (P.Kept.state result.store).disk.seen) batch.entry.packets.now)) }
     ensures tried { IfOk result.done (λ free. free ≡ true → IsTriedWith D.state batch.entry.packets.now batch.entry.trial.now (P.Kept.state store).disk) }
     ensures taken { Honestly (P.Kept.state result.store).disk (IfOk result.done (λ free. free ≡ false → ⊥)) }
-    ensures cause { HasStopCause (P.Kept.state store) (P.Kept.state result.store) (P.Kept.failures store) (P.Kept.failures result.store) result.done }
+    ensures cause { HasStopCause P.Kept.state (P.Kept.state store) (P.Kept.state result.store) (P.Kept.failures store) (P.Kept.failures result.store) result.done }
 {
     let Used { store, done } = write_on::<D, P>(alloc, store, batch, source);
     match done {
@@ -211,7 +211,7 @@ fn try_stage_on<'a, D: Disk, P: LendStation<'a, D>>(
         → IfOk result.done (λ free. free ≡ true → All (IsWritten (content_for source.entry base) (P.Kept.state result.store).disk.seen) batch.entry.packets.now)) }
     ensures tried { IfOk result.done (λ free. free ≡ true → IsTriedWith D.state batch.entry.packets.now batch.entry.trial.now (P.Kept.state store).disk) }
     ensures taken { Honestly (P.Kept.state result.store).disk (IfOk result.done (λ free. free ≡ false → All (IsFree (P.Kept.state store).disk) batch.entry.packets.now → ⊥)) }
-    ensures cause { HasStopCause (P.Kept.state store) (P.Kept.state result.store) (P.Kept.failures store) (P.Kept.failures result.store) result.done }
+    ensures cause { HasStopCause P.Kept.state (P.Kept.state store) (P.Kept.state result.store) (P.Kept.failures store) (P.Kept.failures result.store) result.done }
 {
     let Used { store, done } = begin_on::<D, P>(alloc, store, batch);
     match done {
@@ -244,7 +244,7 @@ pub(crate) fn stage_on<'a, D: Disk, P: LendStation<'a, D>>(
     ensures tried { IfOk result.done (λ free. free ≡ true → IsTriedWith D.state batch.entry.packets.now batch.entry.trial.now (P.Kept.state store).disk) }
     ensures taken { Honestly (P.Kept.state result.store).disk (IfOk result.done (λ free. free ≡ false → All (IsFree (P.Kept.state store).disk) batch.entry.packets.now → ⊥)) }
     ensures gone { Honestly (P.Kept.state result.store).disk (IfErr result.done (NoneStays batch.entry.packets.now batch.entry.trial.now (P.Kept.state result.store).disk)) }
-    ensures cause { HasStageCause (P.Kept.state store) (P.Kept.state result.store) (P.Kept.failures store) (P.Kept.failures result.store) result.done }
+    ensures cause { HasStageCause P.Kept.state (P.Kept.state store) (P.Kept.state result.store) (P.Kept.failures store) (P.Kept.failures result.store) result.done }
 {
     let Used { store, done } = try_stage_on::<D, P>(alloc, store, batch, source);
     match done {

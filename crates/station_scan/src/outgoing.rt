@@ -6,6 +6,7 @@ ghost use Rattle.base_file.specs.Base.{Base};
 ghost use Rattle.disk_io.specs.Device.{Failed};
 ghost use Rattle.disk_io.specs.Disk.{Honestly};
 ghost use Rattle.base_store.specs.Store.{Commits, MayCommit};
+ghost use Rattle.station_scan.specs.Beneath.{IsFullOnWay};
 ghost use Rattle.station_scan.specs.Fitting.{AreFitting, IsUnfit};
 ghost use Rattle.station_scan.specs.Publishing.{HasPublishCause, KeepsStoreBut};
 ghost use Rattle.station_scan.specs.Scanning.{IsTouched, SendsOut};
@@ -35,7 +36,7 @@ fn commit_alone<'a, D: Disk, P: LendStation<'a, D>>(
     ensures base { IfErr result.done IsOfBase }
     ensures committed { OnOk result.done (Commits (P.Kept.state store) (P.Kept.state result.store)) }
     ensures either { MayCommit (P.Kept.state store) (P.Kept.state result.store) }
-    ensures cause { HasPublishCause (P.Kept.state store) (P.Kept.state result.store) (P.Kept.failures store) (P.Kept.failures result.store) result.done }
+    ensures cause { HasPublishCause P.Kept.state (P.Kept.state store) (P.Kept.state result.store) (P.Kept.failures store) (P.Kept.failures result.store) result.done }
 {
     let mut store = store;
     match store.commit() {
@@ -86,7 +87,7 @@ fn publish_packets<'a, D: Disk, P: LendStation<'a, D>>(
     ensures keeps { (base : Base) → KeepsStoreBut (IsOfThese (P.Kept.state store).is_own sending.entry.outbound.now sending.entry.own.now (files_for sending.entry.source sending.entry.planned.now base)) (P.Kept.state store) (P.Kept.state result.store) }
     ensures tried { HoldsAsBefore (P.Kept.state store) (P.Kept.state result.store) ⊎ WasTriedFor D.state (P.Paths.is_own paths.now) sending.entry.outbound.now sending.entry.own.now sending.entry.planned.now (P.Kept.state store).disk }
     ensures taken { (base : Base) → TakenIfTold (P.Paths.is_own paths.now) sending.entry.outbound.now sending.entry.own.now (files_for sending.entry.source sending.entry.planned.now base) (P.Kept.state store) (P.Kept.state result.store) result.done }
-    ensures cause { HasPublishCause (P.Kept.state store) (P.Kept.state result.store) (P.Kept.failures store) (P.Kept.failures result.store) result.done }
+    ensures cause { HasPublishCause P.Kept.state (P.Kept.state store) (P.Kept.state result.store) (P.Kept.failures store) (P.Kept.failures result.store) result.done }
 {
     let two = match paths_of(alloc, sending.outbound, sending.own, sending.planned) {
         Ok(two) => two,
@@ -140,7 +141,7 @@ fn publish_files<'a, D: Disk, P: LendStation<'a, D>>(
     ensures keeps { (base : Base) → KeepsStoreBut (IsOfThese (P.Kept.state store).is_own sending.entry.outbound.now sending.entry.own.now (files_for sending.entry.source sending.entry.planned.now base)) (P.Kept.state store) (P.Kept.state result.store) }
     ensures tried { HoldsAsBefore (P.Kept.state store) (P.Kept.state result.store) ⊎ WasTriedFor D.state (P.Paths.is_own paths.now) sending.entry.outbound.now sending.entry.own.now sending.entry.planned.now (P.Kept.state store).disk }
     ensures taken { (base : Base) → TakenIfTold (P.Paths.is_own paths.now) sending.entry.outbound.now sending.entry.own.now (files_for sending.entry.source sending.entry.planned.now base) (P.Kept.state store) (P.Kept.state result.store) result.done }
-    ensures cause { HasPublishCause (P.Kept.state store) (P.Kept.state result.store) (P.Kept.failures store) (P.Kept.failures result.store) result.done }
+    ensures cause { HasPublishCause P.Kept.state (P.Kept.state store) (P.Kept.state result.store) (P.Kept.failures store) (P.Kept.failures result.store) result.done }
 {
     if sending.planned.is_empty() {
         commit_alone::<D, P>(store)
@@ -172,6 +173,7 @@ pub(crate) fn send_out<'a, D: Disk, P: LendStation<'a, D>, G: ListStaged>(
     ensures later { P.Kept.failures store ≤ P.Kept.failures result.store }
     ensures listing_later { G.failures listing.old ≤ G.failures listing.new }
     ensures device { IsErrOf result.done (ScanError.Command (CommandError.Store StoreError.Device)) → Failed (P.Kept.failures store) (P.Kept.failures result.store) }
+    ensures many { IsErrOf result.done (ScanError.Command (CommandError.Store StoreError.TooMany)) → IsFullOnWay P.Kept.state (P.Kept.state store) }
 {
     let Used { store, done } = finish_on::<D, P, G>(alloc, store, paths, listing, cursor, sending);
     match done {

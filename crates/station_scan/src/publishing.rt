@@ -40,7 +40,7 @@ pub fn publish<'a, D: Disk, P: LendStation<'a, D>>(
     // A crash at any time leaves no commit and no packet at its path, or the commit and each packet whole.
     ensures any_moment { MayPublish (content_for source.entry) batch.entry.packets.now batch.entry.trial.now (P.Kept.state store) (P.Kept.state result.store) }
     ensures keeps { KeepsStoreBut (IsPublishedAt (P.Kept.state store) (IsGoingAt batch.entry.packets.now batch.entry.trial.now)) (P.Kept.state store) (P.Kept.state result.store) }
-    ensures cause { HasPublishCause (P.Kept.state store) (P.Kept.state result.store) (P.Kept.failures store) (P.Kept.failures result.store) result.done }
+    ensures cause { HasPublishCause P.Kept.state (P.Kept.state store) (P.Kept.state result.store) (P.Kept.failures store) (P.Kept.failures result.store) result.done }
 {
     let Used { store, done } = stage_on::<D, P>(alloc, store, batch, source);
     match done {
@@ -71,7 +71,7 @@ fn commit_staged<'a, D: Disk, P: LendStation<'a, D>>(
     ensures left { IfErr result.done (StopsCommitting packets.now (P.Kept.state store) (P.Kept.state result.store)) }
     ensures any_moment { MayCommitWith packets.now (P.Kept.state store) (P.Kept.state result.store) }
     ensures keeps { KeepsStoreBut (IsPublishedAt (P.Kept.state store) (IsOfOne packets.now)) (P.Kept.state store) (P.Kept.state result.store) }
-    ensures cause { HasCommitCause packets.now (P.Kept.state store) (P.Kept.state result.store) (P.Kept.failures store) (P.Kept.failures result.store) result.done }
+    ensures cause { HasCommitCause P.Kept.state packets.now (P.Kept.state store) (P.Kept.state result.store) (P.Kept.failures store) (P.Kept.failures result.store) result.done }
 {
     let mut store = store;
     match store.commit() {

@@ -7,6 +7,7 @@ ghost use Rattle.disk_atomic.specs.StagingPaths.{dotted};
 ghost use Rattle.station.specs.Beneath.{HoldsAsBefore};
 ghost use Rattle.cmd_report.specs.Scanned.{file_with};
 ghost use Rattle.echo_toss.specs.Counts.{bytes_for};
+ghost use Rattle.station_scan.specs.Beneath.{IsFullOnWay};
 ghost use Rattle.station_scan.specs.Publishing.{KeepsStoreBut};
 ghost use Rattle.station_scan.specs.Scanning.{IsTouched, SendsOut};
 ghost use Rattle.station_scan.specs.Sends.{WasTriedFor};
@@ -49,6 +50,7 @@ pub(crate) fn put_taken<'a, 's, D: Disk, P: LendStation<'a, D>, G: ListStaged, T
     ensures later { P.Kept.failures store ≤ P.Kept.failures result.store }
     ensures listing_later { G.failures scan.old.listing ≤ G.failures scan.new.listing }
     ensures device { IsErrOf result.done (ScanError.Command (CommandError.Store StoreError.Device)) → Failed (P.Kept.failures store) (P.Kept.failures result.store) }
+    ensures many { IsErrOf result.done (ScanError.Command (CommandError.Store StoreError.TooMany)) → IsFullOnWay P.Kept.state (P.Kept.state store) }
 {
     if cursor > MOST {
         return Used {

@@ -7,7 +7,7 @@ ghost use Rattle.disk_io.specs.Runs.{ChangesNothing};
 ghost use Rattle.cmd_status.specs.Devices.{output_of};
 ghost use Rattle.station.specs.Opening.{AreFree, HaveFailed};
 ghost use Rattle.station_scan.specs.Publishing.{UnchangedExcept, KeepsStoreBut};
-ghost use Rattle.station_scan.specs.Scanning.{IsTouched, ScanTries, ScansIn, ScansOnStore, TriesOn};
+ghost use Rattle.station_scan.specs.Scanning.{IsScanFull, IsTouched, ScanTries, ScansIn, ScansOnStore, TriesOn};
 
 use crate::beneath::Used;
 use crate::putting::put_taken;
@@ -75,6 +75,8 @@ pub fn run_scan<
     // Packets are committed only after a file of their folder got a second path.
     ensures tried { Honestly (D.state result.disk) (OnOk result.done (ScanTries D.state scan.old.stamp (P.place station) scan.old.outbound.now (P.reads station (D.state disk)) (D.state disk) (D.state result.disk)
         (output_of W.contents W.failures W.holds out.old) (output_of W.contents W.failures W.holds out.new))) }
+    ensures many { Honestly (D.state result.disk) ((base : Base) → (P.place station).stands_for base (D.state disk).seen
+        → IsErrOf result.done (ScanError.Command (CommandError.Store StoreError.TooMany)) → IsScanFull P.Kept.state base) }
     ensures keeps { UnchangedExcept (IsTouched (P.place station).is_own scan.old.outbound.now) (D.state disk) (D.state result.disk) }
     ensures passed { OnOk result.done (Q.lets before.old) }
 {
@@ -129,6 +131,8 @@ fn scan_kept<'a, 's, D: Disk, P: LendStation<'a, D>, G: ListStaged, T: MessagePr
     ensures later { P.Kept.failures store ≤ P.Kept.failures result.store }
     ensures listing_later { G.failures scan.old.listing ≤ G.failures scan.new.listing }
     ensures device { IsErrOf result.done (ScanError.Command (CommandError.Store StoreError.Device)) → Failed (P.Kept.failures store) (P.Kept.failures result.store) }
+    ensures many { Honestly (P.Kept.state result.store).disk ((base : Base) → (P.Kept.state store).keeps base → (P.Kept.state store).committed base
+        → IsErrOf result.done (ScanError.Command (CommandError.Store StoreError.TooMany)) → IsScanFull P.Kept.state base) }
 {
     let cursor = store.cursor();
     let Taken { store, planned } = take_waiting(alloc, scan.stamp, links, store, &scan.watch, out);

@@ -1,5 +1,5 @@
 //! The packets of the messages that wait in a store are planned.
-ghost use Rattle.std.specs.Prelude.{◌≡◌, OnOk};
+ghost use Rattle.std.specs.Prelude.{◌≡◌, IsErrOf, OnOk};
 ghost use Rattle.base_file.specs.Base.{Base};
 ghost use Rattle.disk_io.specs.Disk.{Honestly};
 ghost use Rattle.disk_io.specs.Runs.{ChangesNothing};
@@ -7,11 +7,12 @@ ghost use Rattle.cmd_status.specs.Devices.{output_of};
 ghost use Rattle.base_store.specs.Store.{GoesOn, HasStoreCause, IsSameStore, all_scanned};
 ghost use Rattle.cmd_store.specs.Scanned.{ScansOn, files_made};
 ghost use Rattle.cmd_store.specs.Stops.{store_answer};
+ghost use Rattle.echo_toss.specs.Bounds.{IsFullWhenRead};
 ghost use Rattle.echo_toss.specs.Counts.{bytes_for};
 ghost use Rattle.echo_toss.specs.PacketsIn.{state_in};
 
 use crate::reported::ReportedStore;
-use base_store::Store;
+use base_store::{Store, StoreError};
 use cmd_report::PlannedPacket;
 use cmd_status::MessageProgress;
 use cmd_store::{CommandError, scan_on};
@@ -46,6 +47,7 @@ pub(crate) fn take_waiting<'a, S: Store, T: MessageProgress, W: Sink>(
     ensures goes_on { OnOk result.planned (GoesOn (S.state store) (S.state result.store)) }
     ensures same { IsSameStore (S.state store) (S.state result.store) }
     ensures quiet { ChangesNothing (S.state store).disk (S.state result.store).disk }
+    ensures many { IsErrOf (store_answer result.planned) StoreError.TooMany → IsFullWhenRead S.state (S.state store) }
     ensures cause { HasStoreCause (S.state store) (S.state result.store) (S.failures store) (S.failures result.store) (store_answer result.planned) }
 {
     let mut reported = ReportedStore { store, watch };

@@ -1,9 +1,9 @@
-use Rattle.std.proofs.Common.{List, ℕ, refl, sym, ap, subst, ◌∙◌}
+use Rattle.std.proofs.Common.{List, ℕ, length, refl, sym, ap, subst, ◌∙◌}
 use Rattle.base_store.specs.Keys.{digested_key}
 use Rattle.echo_filed.specs.Filed.{key_of}
-use Rattle.base_folder_store.specs.Added.{IsStoredAlone}
+use Rattle.base_folder_store.specs.Added.{IsStoredAlone, LacksRoom}
 use Rattle.base_folder_store.specs.Opened.{held_by}
-use Rattle.base_folder_store.proofs.Causes.{done_both}
+use Rattle.base_folder_store.proofs.Causes.{done_both, handed_on}
 use Rattle.base_folder_store.proofs.Seen.{filed_more}
 use Rattle.base_folder.proofs.filling.add.Goals as goal
 
@@ -17,3 +17,14 @@ returns-clause-added g c = λ honest.
     done_both (λ staged fits base holds unknown. filed_more keyed after before base m (key_of m) c.deref-2.result.now c.deref.result.now c.digest-number.result staged fits holds stored c.in_ok-bytes.ensures.filed refl unknown
     (c.deref.ensures.value ∙ c.in_ok-digested.ensures ∙ ap digested_key c.in_ok-key.ensures) c.digest-number.ensures)
     c.stage.result (c.stage.ensures.staged honest) (c.stage.ensures.fits honest)
+
+pub returns-in_err-bytes-clause-many : goal.returns-in_err-bytes-clause-many
+returns-in_err-bytes-clause-many g c is room =
+    let long = c.in_err-bytes.ensures.many (handed_on _ _ c.from_residual.result c.from_residual.ensures.1 is) in
+    let short = room.text in
+    cc
+
+pub returns-clause-many : goal.returns-clause-many
+returns-clause-many g c is room =
+    let size = ap (λ (l : List ℕ). length l) (c.deref-2.ensures.value ∙ c.in_ok-bytes.ensures.bytes) in
+    room.room (subst (λ (n : ℕ). LacksRoom c.args.folder.now n) size (c.stage.ensures.many is))

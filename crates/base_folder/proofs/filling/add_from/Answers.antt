@@ -1,7 +1,7 @@
-use Rattle.std.proofs.Common.{◌≡◌, ℕ, ◌∙◌, subst, arith}
+use Rattle.std.proofs.Common.{◌≡◌, ℕ, ◌∙◌, inl, subst, arith}
 use Rattle.base_folder_store.specs.Calls.{StagesOnly}
 use Rattle.base_folder_store.specs.Opened.{committed_by, held_by, path_of}
-use Rattle.base_folder_store.proofs.Causes.{on_ok_none}
+use Rattle.base_folder_store.proofs.Causes.{handed_on, on_ok_none}
 use Rattle.base_folder_store.proofs.Runs.{run_twice, stays_twice}
 use Rattle.base_folder.specs.Filled.{HoldsFront}
 use Rattle.base_folder.proofs.filling.add_from.Given as given
@@ -42,3 +42,14 @@ pub returns-clause-added : goal.returns-clause-added
 returns-clause-added g c = λ honest cursor front.
     let end : c.messages.i ≡ c.args.to = omega (arith, c.requires.order) in
     subst (λ (n : ℕ). HoldsFront g.H.Digest.keyed (held_by (g.D.Disk.state c.messages.disk) c.messages.folder) c.args.base.now.messages n cursor) end (c.messages.invariant.held honest cursor front)
+
+pub returns-in_err-add_next-clause-many : goal.returns-in_err-add_next-clause-many
+returns-in_err-add_next-clause-many g c = λ honest cursor front is.
+    let was = c.messages.invariant in
+    let next = c.in_err-add_next.ensures.many (handed_on _ _ c.from_residual.result c.from_residual.ensures.1 is) in
+    record {
+      disk = c.messages.disk;
+      folder = c.messages.folder;
+      at = was.stays.path;
+      full = inl (record { place = c.messages.i; cursor = cursor; message = next.0; holds = was.held (c.add_next.ensures.run.outside.honest honest) cursor front; is = next.1; lacks = next.2 });
+    }

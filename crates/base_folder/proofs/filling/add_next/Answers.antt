@@ -15,3 +15,6 @@ returns-in-Some-clause-added g c = λ honest cursor was.
     let now = held_by (g.D.Disk.state c.add.new.disk) c.add.new.folder in
     let at : slice_get base.messages c.args.place ≡ Some m = sym c.in-Some.ensures in
     on_ok_weaker {P = HoldsMore keyed old now m} c.add.result (λ more. front_one keyed old now base c.args.place cursor m c.requires.base at more was) (c.add.ensures.added honest)
+
+pub returns-in-Some-clause-many : goal.returns-in-Some-clause-many
+returns-in-Some-clause-many g c is = (c.in-Some.message.now, sym c.in-Some.ensures, c.add.ensures.many is)

@@ -4,6 +4,7 @@ use Rattle.base_folder_store.specs.declared.folder.Folder.{Folder}
 use Rattle.base_folder_store.proofs.Seen.{end_open}
 use Rattle.base_folder.specs.Filled.{HoldsFront}
 use Rattle.base_folder.proofs.Fillings.{front_scanned}
+use Rattle.base_folder_store.proofs.Causes.{handed_on}
 use Rattle.base_folder.proofs.filling.add_scanned.Goals as goal
 
 pub returns-clause-stays : goal.returns-clause-stays
@@ -30,3 +31,6 @@ returns-clause-added g c = λ honest front.
     subst (λ n. HoldsFront keyed (held_by d c.add_from.new.folder) base.messages n 0) cursor (c.in_ok-add_from.ensures.added honest 0 front) in
     subst (λ (f : Folder). HoldsFront keyed (held_by d f) base.messages base.cursor base.cursor) (sym c.move_to_end.ensures)
     (front_scanned keyed d c.add_from.new.folder base (c.in_ok-add_from.ensures.stays.opened honest) c.cursor.ensures.base scanned)
+
+pub returns-in_err-add_from-clause-many : goal.returns-in_err-add_from-clause-many
+returns-in_err-add_from-clause-many g c = λ honest front is. c.in_err-add_from.ensures.many honest 0 front (handed_on _ _ c.from_residual.result c.from_residual.ensures.1 is)

@@ -1,7 +1,9 @@
 use Rattle.std.proofs.Common.{◌≡◌, ◌∙◌, ap}
 use Rattle.base_folder_store.specs.Opened.{path_of}
+use Rattle.base_folder_store.specs.declared.folder.Folder.{Folder}
+use Rattle.base_folder_store.proofs.Causes.{handed_on}
 use Rattle.base_folder.specs.Filled.{IsUnfilled, no_messages}
-use Rattle.base_folder.proofs.Fillings.{adds_outside, fill_run, filled_is_kept, opened_run, unfilled_as_caused, unfilled_where_wrong}
+use Rattle.base_folder.proofs.Fillings.{adds_outside, fill_run, filled_is_kept, full_at, many_unfilled, never_many, opened_run, unfilled_as_caused, unfilled_where_wrong}
 use Rattle.base_folder.proofs.Lookings.{err_is}
 use Rattle.base_folder.proofs.Openings.{claimed_committed, claimed_named, claimed_opened, claimed_same}
 use Rattle.base_folder.proofs.filling.fill.Goals as goal
@@ -79,3 +81,21 @@ returns-in_err-folder-clause-wrong g c = λ honest.
 pub returns-clause-wrong : goal.returns-clause-wrong
 returns-clause-wrong g c = λ honest.
     unfilled_as_caused c.args.strange c.args.path.now (g.D.Disk.state c.args.disk.now).seen _ c.unfilled_by.result c.unfilled_by.ensures
+
+pub returns-in_err-folder-clause-many : goal.returns-in_err-folder-clause-many
+returns-in_err-folder-clause-many g c = λ honest stands is.
+    let path = c.args.path.now in
+    let files = (g.D.Disk.state c.args.disk.now).seen in
+    absurd (never_many {T = Folder} c.args.strange path files c.in_err-folder.field-0.0 (c.in_err-folder.ensures.wrong honest) (handed_on _ _ c.from_residual.result c.from_residual.ensures.1 is))
+
+pub returns-clause-many : goal.returns-clause-many
+returns-clause-many g c = λ honest stands is.
+    let keyed = g.H.Digest.keyed in
+    let f = c.in_ok-folder.folder in
+    let n = c.give_key.new.folder in
+    let d1 = g.D.Disk.state c.open_base.new.disk in
+    let only = c.give_key.ensures.only in
+    let h1 = c.fill_opened.ensures.outside.honest honest in
+    let at : path_of n ≡ c.args.path.now = ap path_of only ∙ c.in_ok-folder.ensures.fresh.path in
+    let front = claimed_same keyed g.met.H.Digest.fits d1 f n no_messages (c.in_ok-folder.ensures.opened h1) only c.give_key.ensures.key c.give_key.ensures.kept (c.in_ok-folder.ensures.same h1 keyed no_messages stands) in
+    full_at g.D.Disk.state keyed _ _ c.args.base.now at (c.in-Err.ensures.many honest front (many_unfilled c.in-Err.error c.unfilled_by.result c.unfilled_by.ensures is))

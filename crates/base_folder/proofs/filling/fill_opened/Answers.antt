@@ -1,9 +1,10 @@
-use Rattle.std.proofs.Common.{◌≡◌, sym, subst}
+use Rattle.std.proofs.Common.{◌≡◌, inr, sym, subst}
 use Rattle.std.proofs.lemmas.Result.{on_ok_weaker}
 use Rattle.base_log.specs.Standing.{BaseBytes}
 use Rattle.base_folder_store.specs.Held.{HoldsBase}
 use Rattle.base_folder_store.specs.Opened.{committed_by, held_by, path_of}
 use Rattle.base_folder.proofs.Fillings.{adds_outside, commits_run, fills_before, fills_run}
+use Rattle.base_folder_store.proofs.Causes.{handed_on}
 use Rattle.base_folder.proofs.filling.fill_opened.Goals as goal
 
 pub returns-clause-committed : goal.returns-clause-committed
@@ -36,3 +37,16 @@ returns-clause-any_moment g c = λ honest first was front.
 pub returns-clause-outside : goal.returns-clause-outside
 returns-clause-outside g c =
     adds_outside (path_of c.args.folder.now) (path_of c.add_all.new.folder) (g.D.Disk.state c.args.disk.now) (g.D.Disk.state c.add_all.new.disk) (g.D.Disk.state c.commit.new.disk) c.in_ok-add_all.ensures.stays.path c.in_ok-add_all.ensures.run.outside c.commit.ensures.run.outside
+
+pub returns-in_err-add_all-clause-many : goal.returns-in_err-add_all-clause-many
+returns-in_err-add_all-clause-many g c = λ honest front is. c.in_err-add_all.ensures.many honest front (handed_on _ _ c.from_residual.result c.from_residual.ensures.1 is)
+
+pub returns-clause-many : goal.returns-clause-many
+returns-clause-many g c = λ honest front is.
+    let says = c.in_ok-add_all.ensures in
+    record {
+      disk = c.add_all.new.disk;
+      folder = c.add_all.new.folder;
+      at = says.stays.path;
+      full = inr (says.added (c.commit.ensures.run.outside.honest honest) front, c.commit.ensures.many is);
+    }

@@ -6,8 +6,10 @@ use Rattle.station.proofs.Failures.{failed_wider}
 use Rattle.station_scan.specs.Fitting.{AreTaken}
 use Rattle.station_scan.specs.Left.{EndsLeft}
 use Rattle.station_scan.specs.Sends.{files_for}
+use Rattle.station_scan.specs.Beneath.{IsFullOnWay}
+use Rattle.station_scan.proofs.Causes.{full_later}
 use Rattle.station_scan.proofs.Outs.{not_sent, out_keeps, scan_sent, sends_out, tried_ended}
-use Rattle.station_scan.proofs.Stops.{sent_why}
+use Rattle.station_scan.proofs.Stops.{sent_many, sent_why}
 use Rattle.station_scan.proofs.outgoing.send_out.Goals as goal
 
 pub returns-in-Ok-clause-sends : goal.returns-in-Ok-clause-sends
@@ -61,3 +63,12 @@ returns-in-Ok-clause-keeps g c =
     let none : Base = record { messages = []; cursor = 0 } in
     out_keeps (g.P.Paths.OwnPaths.is_own c.args.paths.now) to.outbound.now to.own.now (files_for to.source to.planned.now none) (g.P.Kept.Store.state c.args.store) (g.P.Kept.Store.state c.finish_on-store.result.store)
     (g.P.Kept.Store.state c.publish_files-store.result.store) c.finish_on-store.ensures.used (c.publish_files-store.ensures.keeps none)
+
+pub returns-in-Ok-clause-many : goal.returns-in-Ok-clause-many
+returns-in-Ok-clause-many g c =
+    let state = g.P.Kept.Store.state in
+    let s0 = state c.args.store in
+    let s1 = state c.finish_on-store.result.store in
+    let holds = c.finish_on-store.ensures.used.holds in
+    let cause = c.publish_files-store.ensures.cause in
+    sent_many (IsFullOnWay state s0) c.publish_files-store.result.done c.stop_done-done.result c.stop_done-done.ensures (λ e. full_later state s0 s1 holds (cause.many e)) (λ e. full_later state s0 s1 holds (cause.full e))

@@ -6,6 +6,7 @@ use Rattle.cmd_report.specs.Scanned.{file_with}
 use Rattle.cmd_report.specs.declared.scanning.PlannedPacket.{PlannedPacket}
 use Rattle.echo_toss.specs.Counts.{bytes_for}
 use Rattle.base_store.specs.Store.{GoesOn, all_scanned}
+use Rattle.echo_toss.specs.Bounds.{IsFullWhenRead}
 use Rattle.station.proofs.Failures.{failed_wider}
 use Rattle.station.specs.Beneath.{HoldsAsBefore}
 use Rattle.disk_atomic.specs.StagingPaths.{dotted}
@@ -15,6 +16,7 @@ use Rattle.echo_toss.specs.PacketsIn.{state_in}
 use Rattle.station_scan.specs.Scanning.{SendsOut}
 use Rattle.station_scan.specs.Sends.{WasTriedFor}
 use Rattle.station_scan.proofs.Scans.{scans_ok}
+use Rattle.station_scan.proofs.Stops.{taken_many}
 use Rattle.station_scan.proofs.Tries.{tries_on}
 use Rattle.station_scan.proofs.scanning.scan_kept.Goals as goal
 
@@ -71,3 +73,20 @@ returns-in-Ok-clause-tried g c = λ honest base keeps committed.
     let own = dotted c.args.links.now.system in
     tries_on g.D.Disk.state c.args.scan.now.stamp Own outbound s1 sA s2 out now c.args.links.now base content c.in-Ok.planned c.put_taken.result.done took.quiet (on.committed honestA base committed) answer
     (subst (λ (l : List PlannedPacket). HoldsAsBefore sA s2 ⊎ WasTriedFor g.D.Disk.state Own outbound own l sA.disk) c.as_slice.ensures put.tried)
+
+pub returns-in-Ok-clause-many : goal.returns-in-Ok-clause-many
+returns-in-Ok-clause-many g c = λ honest base keeps committed is.
+    let s1 = g.P.Kept.Store.state c.args.store in
+    let sA = g.P.Kept.Store.state c.take_waiting-store.result.store in
+    let took = c.take_waiting-store.ensures in
+    let put = c.put_taken.ensures in
+    let honestA = put.keeps.keeps.honest honest in
+    let moved = subst (λ (r : Result (List PlannedPacket) CommandError). OnOk r (sA.keeps (all_scanned base))) c.in-Ok.is (took.moved honestA base keeps) in
+    let on = subst (λ (r : Result (List PlannedPacket) CommandError). OnOk r (GoesOn s1 sA)) c.in-Ok.is took.goes_on in
+    let way = put.many is in
+    record { store = way.store; keeps = inr (way.holds.keeps (all_scanned base) moved); committed = way.holds.committed base (on.committed honestA base committed); full = way.full }
+
+pub returns-in-Err-clause-many : goal.returns-in-Err-clause-many
+returns-in-Err-clause-many g c = λ honest base keeps committed is.
+    let past = taken_many (IsFullWhenRead g.P.Kept.Store.state (g.P.Kept.Store.state c.args.store)) c.take_waiting-store.result.planned c.in-Err.stop c.in-Err.is c.take_waiting-store.ensures.many is in
+    record { store = past.store; keeps = inl (past.looks.keeps base keeps); committed = past.looks.committed base committed; full = past.full }

@@ -1,42 +1,25 @@
 use Rattle.std.proofs.Common.{◌≡◌, ◌∙◌, All, false, get_or, inl, refl}
 use Rattle.disk_atomic.specs.Outgoing.{IsAtStaging, IsFree, IsStagingOne}
 use Rattle.disk_atomic.proofs.Changes.{wider}
-use Rattle.station_scan.proofs.Lent.{held, used}
-use Rattle.station_scan.proofs.Published.{own_not_staging}
+use Rattle.station_scan.proofs.Lent.{staged_ready, staged_used}
 use Rattle.station_scan.proofs.Through.{ok_gives}
 use Rattle.station_scan.proofs.Written.{begun_if}
 use Rattle.station_scan.proofs.writing.begin_on.Goals as goal
 
 pub give_back-store-requires : goal.give_back-store-requires
 give_back-store-requires g c κs =
-    let s0 = g.P.Kept.Store.state c.args.store in
-    let batch = c.args.batch in
-    let disk = c.lend-disk.result.0 in
-    let rest = c.lend-disk.result.1 in
-    let back = c.make_packets-done.new.disk in
-    let a = g.P.LendStation.store_on rest disk in
-    let b = g.P.LendStation.store_on rest back in
-    let d0 = g.D.Disk.state disk in
-    let d1 = g.D.Disk.state back in
     let lent = c.lend-disk.ensures in
-    let at = IsAtStaging batch.packets.now batch.trial.now in
-    ((refl, tt), (held at s0 a b d0 d1 lent.looks lent.quiet (lent.back back) (own_not_staging s0 batch.outbound.now batch.trial.now batch.packets.now c.requires.off) (wider (IsStagingOne batch.packets.now) at d0 d1 (λ m is. inl is) c.make_packets-done.ensures.changes)).ready)
+    let at = IsAtStaging c.args.batch.packets.now c.args.batch.trial.now in
+    let run = wider (IsStagingOne c.args.batch.packets.now) at (g.D.Disk.state c.lend-disk.result.0) (g.D.Disk.state c.make_packets-done.new.disk) (λ m is. inl is) c.make_packets-done.ensures.changes in
+    ((refl, tt), staged_ready c.args.batch _ _ _ _ _ c.requires.off lent.looks lent.quiet (lent.back c.make_packets-done.new.disk) run)
 
 pub returns-clause-used : goal.returns-clause-used
 returns-clause-used g c =
-    let s0 = g.P.Kept.Store.state c.args.store in
-    let batch = c.args.batch in
-    let disk = c.lend-disk.result.0 in
-    let rest = c.lend-disk.result.1 in
-    let back = c.make_packets-done.new.disk in
-    let a = g.P.LendStation.store_on rest disk in
-    let b = g.P.LendStation.store_on rest back in
-    let d0 = g.D.Disk.state disk in
-    let d1 = g.D.Disk.state back in
     let lent = c.lend-disk.ensures in
-    let at = IsAtStaging batch.packets.now batch.trial.now in
-    used at s0 a b d0 d1 lent.looks lent.quiet (lent.back back) (own_not_staging s0 batch.outbound.now batch.trial.now batch.packets.now c.requires.off) (wider (IsStagingOne batch.packets.now) at d0 d1 (λ m is. inl is) c.make_packets-done.ensures.changes) (g.P.Kept.Store.state c.give_back-store.result) c.give_back-store.ensures.looks
-    c.give_back-store.ensures.quiet
+    let into = c.give_back-store.ensures in
+    let at = IsAtStaging c.args.batch.packets.now c.args.batch.trial.now in
+    let run = wider (IsStagingOne c.args.batch.packets.now) at (g.D.Disk.state c.lend-disk.result.0) (g.D.Disk.state c.make_packets-done.new.disk) (λ m is. inl is) c.make_packets-done.ensures.changes in
+    staged_used c.args.batch _ _ _ _ _ c.requires.off lent.looks lent.quiet (lent.back c.make_packets-done.new.disk) run _ into.looks into.quiet
 
 pub returns-clause-begun : goal.returns-clause-begun
 returns-clause-begun g c =

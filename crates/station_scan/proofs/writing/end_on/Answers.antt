@@ -1,8 +1,6 @@
 use Rattle.std.proofs.Common.{◌≡◌, refl, true}
-use Rattle.disk_atomic.specs.Outgoing.{IsAtStaging}
 use Rattle.station_scan.specs.Publishing.{AreStaged, IsTriedWith}
-use Rattle.station_scan.proofs.Lent.{held, used}
-use Rattle.station_scan.proofs.Published.{own_not_staging}
+use Rattle.station_scan.proofs.Lent.{staged_ready, staged_used}
 use Rattle.station_scan.proofs.Staged.{tried_quiet}
 use Rattle.station_scan.proofs.Through.{ok_gives, open_through, staged_through}
 use Rattle.station_scan.proofs.Written.{same_through}
@@ -10,34 +8,14 @@ use Rattle.station_scan.proofs.writing.end_on.Goals as goal
 
 pub give_back-store-requires : goal.give_back-store-requires
 give_back-store-requires g c κs =
-    let s0 = g.P.Kept.Store.state c.args.store in
-    let batch = c.args.batch in
-    let disk = c.lend-disk.result.0 in
-    let rest = c.lend-disk.result.1 in
-    let back = c.end_staging-done.new.disk in
-    let a = g.P.LendStation.store_on rest disk in
-    let b = g.P.LendStation.store_on rest back in
-    let d0 = g.D.Disk.state disk in
-    let d1 = g.D.Disk.state back in
     let lent = c.lend-disk.ensures in
-    let at = IsAtStaging batch.packets.now batch.trial.now in
-    ((refl, tt), (held at s0 a b d0 d1 lent.looks lent.quiet (lent.back back) (own_not_staging s0 batch.outbound.now batch.trial.now batch.packets.now c.requires.off) c.end_staging-done.ensures.changes).ready)
+    ((refl, tt), staged_ready c.args.batch _ _ _ _ _ c.requires.off lent.looks lent.quiet (lent.back c.end_staging-done.new.disk) c.end_staging-done.ensures.changes)
 
 pub returns-clause-used : goal.returns-clause-used
 returns-clause-used g c =
-    let s0 = g.P.Kept.Store.state c.args.store in
-    let batch = c.args.batch in
-    let disk = c.lend-disk.result.0 in
-    let rest = c.lend-disk.result.1 in
-    let back = c.end_staging-done.new.disk in
-    let a = g.P.LendStation.store_on rest disk in
-    let b = g.P.LendStation.store_on rest back in
-    let d0 = g.D.Disk.state disk in
-    let d1 = g.D.Disk.state back in
     let lent = c.lend-disk.ensures in
-    let at = IsAtStaging batch.packets.now batch.trial.now in
-    used at s0 a b d0 d1 lent.looks lent.quiet (lent.back back) (own_not_staging s0 batch.outbound.now batch.trial.now batch.packets.now c.requires.off) c.end_staging-done.ensures.changes (g.P.Kept.Store.state c.give_back-store.result) c.give_back-store.ensures.looks
-    c.give_back-store.ensures.quiet
+    let into = c.give_back-store.ensures in
+    staged_used c.args.batch _ _ _ _ _ c.requires.off lent.looks lent.quiet (lent.back c.end_staging-done.new.disk) c.end_staging-done.ensures.changes _ into.looks into.quiet
 
 pub end_staging-done-requires-clause-opened : goal.end_staging-done-requires-clause-opened
 end_staging-done-requires-clause-opened g c =
