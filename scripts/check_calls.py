@@ -52,7 +52,7 @@ OVER_ANY_DISK = {
     "links_at": "station",
     "lock_links": "station",
     "log_end": "base_folder",
-    "read_snapshot": "base_folder",
+    "read_folder": "base_folder",
     "fill": "base_folder",
 }
 CALLS = re.compile(r"\bfs::|\brt::Files\b|\bOpenOptions\b|\bFileExt\b|\bmake_new\b|\bcreate_file\b|\bmake_file\b")

@@ -5,3 +5,4 @@ pub mod Lookings
 pub mod Openings
 pub mod Readings
 pub mod Wrongs
+pub mod Fetchings

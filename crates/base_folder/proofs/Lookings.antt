@@ -1,17 +1,29 @@
--- What is seen of a folder is what its files stand for, and the log goes on meanwhile.
-use Rattle.std.proofs.Common.{◌≡◌, ◌≤◌, ◌∙◌, ◌-◌, ap, ℕ, List, length, take, drop, Option, Result, Ok, Err, sym, subst, arith}
+-- A folder that is looked at can be read, and what is wrong with it. The log goes on meanwhile.
+use Rattle.std.proofs.Common.{◌≡◌, ◌≤◌, ◌∙◌, ◌-◌, ap, ℕ, Bool, List, [], ◌∷◌, length, take, drop, Result, Ok, Err, sym, subst, arith}
 use Rattle.std.specs.Result.{IfErr, IfOk, IsErrAnd}
-use Rattle.disk_io.specs.Disk.{DiskState, bytes_in}
+use Rattle.disk_io.specs.Disk.{DiskState, Files, Honestly}
 use Rattle.disk_io.specs.Runs.{ChangesNothing}
-use Rattle.base_log.specs.Names.{messages_of}
+use Rattle.base_file.specs.Base.{Base}
+use Rattle.base_file.specs.declared.fault.BaseFault.TheVariants as fault
+use Rattle.base_log.specs.Opening.{HasFiles}
 use Rattle.base_log.specs.Reading.{IsLogIn, IsRead, ReadsAll}
-use Rattle.base_store.specs.Keys.{place_at}
 use Rattle.base_log.specs.Standing.{BaseBytes, StandsFor, base_at}
-use Rattle.base_log.proofs.Opened.{end_tells}
-use Rattle.base_log.proofs.Same.{front_long}
+use Rattle.base_log.proofs.Opened.{has_files, nothing_read}
+use Rattle.base_log.specs.declared.log.CommitRecord.{CommitRecord}
+use Rattle.base_log.specs.declared.log.End.{End}
 use Rattle.base_log.specs.declared.log.Log.{Log}
-use Rattle.base_folder.specs.Looked.{IsSeenFrom}
-use Rattle.base_folder.specs.declared.snapshot.FolderSnapshot.{FolderSnapshot}
+use Rattle.base_store.specs.declared.store_error.StoreError.{StoreError}
+use Rattle.base_store.specs.declared.store_error.StoreError.TheVariants as store
+use Rattle.echo_filed.specs.Stored.{Stored, message_in}
+use Rattle.echo_filed.specs.declared.stored.Version.TheVariants.{Second}
+use Rattle.base_folder_store.specs.Answers.{Answers}
+use Rattle.base_folder_store.specs.Opened.{IsFresh, path_of}
+use Rattle.base_folder_store.specs.Vouched.{HasDigest, HasNone, IsLookedAt, IsThere}
+use Rattle.base_folder_store.specs.declared.folder.Folder.{Folder}
+use Rattle.base_folder.specs.Looked.{IsUnseen, IsUnvouched}
+use Rattle.base_folder.specs.OpenError.{IsWrong, unread_message}
+use Rattle.base_folder.specs.declared.open_error.OpenError.{OpenError}
+use Rattle.base_folder.specs.declared.open_error.OpenError.TheVariants as unread
 use Rattle.base_folder.proofs.Wrongs.{one_end}
 
 -- an error that was handed on as it is
@@ -26,19 +38,6 @@ at_ok P r x is was = subst (λ (q : Result _ _). IfOk q P) is was
 pub at_err : {T E : Type 0} (P : E → Type 0) (r : Result T E) (e : E) → r ≡ Err e → IfErr r P → P e
 at_err P r e is was = subst (λ (q : Result _ _). IfErr q P) is was
 
--- the same, whatever the logs are that are noted with it
-pub noted : (first : ℕ) (base : BaseBytes) (seen now : FolderSnapshot) → now.messages ≡ seen.messages → now.before ≡ seen.before → now.all ≡ seen.all → now.keys ≡ seen.keys → now.cursor ≡ seen.cursor → now.mark ≡ seen.mark
-    → IsSeenFrom first base seen → IsSeenFrom first base now
-noted first base seen now m b a k c mark was = record {
-  begins = λ lt. subst (λ (n : ℕ). n ≤ place_at base.keys first) (sym b) (was.begins lt);
-  within = subst (λ (n : ℕ). n ≤ length base.messages) (sym b) was.within;
-  all = a ∙ was.all;
-  messages = ap (λ v. v.items) m ∙ was.messages ∙ ap (λ (n : ℕ). drop n base.messages) (sym b);
-  keys = ap (λ v. v.items) k ∙ was.keys;
-  cursor = c ∙ was.cursor;
-  mark = mark ∙ was.mark;
-}
-
 -- logs with the same bytes end alike
 pub same_end : (before after : Log) → IsRead before → IsRead after → before.bytes.items ≡ after.bytes.items → before.end ≡ after.end
 same_end before after one two same = one_end after.bytes.items before.end after.end (subst (λ (l : List ℕ). ReadsAll l before.end) same one) two
@@ -49,12 +48,62 @@ none_between first last log same =
     let none : last - first ≡ 0 = omega (arith, same) in
     ap (λ (n : ℕ). length (take n (drop first log))) none
 
--- the files have the messages that the log tells of, after looks too
-pub long_enough : (path : List ℕ) (d e : DiskState) (log : Log) → ChangesNothing d e → IsLogIn path d.seen log → IsRead log → StandsFor path (base_at d path log.end.told) d.seen
-    → log.end.told.messages ≤ length (bytes_in (e.seen (messages_of path log.end.told.number)))
-long_enough path d e log quiet is read stands =
-    let base = base_at d path log.end.told in
-    let name = messages_of path log.end.told.number in
-    let tells = end_tells log.bytes.items log.end read path d.seen is base stands in
-    let long = front_long base.messages (bytes_in (d.seen name)) tells.messages in
-    omega (arith, tells.messages_long, long, ap (λ (f : Option (List ℕ)). length (bytes_in f)) (quiet.seen name))
+-- a folder with this log can be read after looks, where it has messages
+pub looked_at : (path : List ℕ) (d e : DiskState) (log : Log) (folder : Folder) → ChangesNothing d e → IsRead log → IsFresh path folder → folder.end ≡ log.end → folder.keys ≡ log.end.told.keys
+    → Honestly d (IsLogIn path d.seen log) → Honestly e (StandsFor path (base_at d path log.end.told) d.seen) → IsLookedAt e folder
+looked_at path d e log folder quiet read fresh same keys is stands =
+    let told : folder.told ≡ log.end.told = fresh.settled ∙ ap (λ (x : End). x.told) same in
+    record {
+      written = fresh.written;
+      keys = keys ∙ ap (λ (t : CommitRecord). t.keys) (sym told);
+      legible = λ honest some.
+          let has = has_files log.bytes.items log.end read path d.seen (is (quiet.honest honest)) (base_at d path log.end.told) (stands honest)
+          (λ (none : log.end.gate ≡ 0). absurd (omega (arith, some, keys, ap (λ (t : CommitRecord). t.keys) (nothing_read log.bytes.items log.end read (omega (arith, none)))))) in
+          let files : HasFiles path e.seen log.end.told = subst (λ (f : Files). HasFiles path f log.end.told) (λ i m. sym (quiet.seen m) i) has in
+          let here : HasFiles (path_of folder) e.seen folder.told = subst (λ (p : List ℕ). HasFiles p e.seen folder.told) (sym fresh.path) (subst (λ (t : CommitRecord). HasFiles path e.seen t) (sym told) files) in
+          record {
+            names = fresh.named;
+            messages_there = here.messages;
+            messages_long = here.messages_long;
+            keys_there = here.keys;
+            keys_long = here.keys_long;
+            keys = omega (arith, keys, ap (λ (t : CommitRecord). t.keys) told, ap (λ (l : List ℕ). length l) fresh.written.keys);
+          };
+    }
+
+-- the error of a judged log is one of the folder
+pub unseen_by : (keyed : ℕ → ℕ → List ℕ → ℕ) (strange : Bool) (path : List ℕ) (files : Files) (why : OpenError) → IsWrong strange path files why → IsUnseen keyed strange path files why
+unseen_by keyed strange path files (unread.Wrong fault.NotBase) wrong = wrong
+unseen_by keyed strange path files (unread.Wrong (fault.Truncated n)) wrong = wrong
+unseen_by keyed strange path files (unread.Wrong (fault.Damaged n)) wrong = absurd wrong
+unseen_by keyed strange path files (unread.Wrong fault.Memory) wrong = wrong
+unseen_by keyed strange path files (unread.Wrong fault.TooMany) wrong = wrong
+unseen_by keyed strange path files (unread.Wrong fault.Read) wrong = wrong
+unseen_by keyed strange path files (unread.Wrong (fault.Write n)) wrong = wrong
+unseen_by keyed strange path files unread.Memory wrong = tt
+unseen_by keyed strange path files unread.Device wrong = tt
+unseen_by keyed strange path files unread.Raced wrong = wrong
+unseen_by keyed strange path files (unread.NotOwner address) wrong = wrong
+
+-- and so is a damaged message of the base for which the files stand
+pub unseen_message : (keyed : ℕ → ℕ → List ℕ → ℕ) (strange : Bool) (path : List ℕ) (files : Files) (bytes : BaseBytes) (why : OpenError) → ((b : BaseBytes) → StandsFor path b files → bytes ≡ b)
+    → IsUnvouched keyed bytes why → IsUnseen keyed strange path files why
+unseen_message keyed strange path files bytes (unread.Wrong (fault.Damaged n)) one none = λ b stands. subst (λ (x : BaseBytes). HasNone keyed x n) (one b stands) none
+unseen_message keyed strange path files bytes (unread.Wrong fault.NotBase) one none = absurd none
+unseen_message keyed strange path files bytes (unread.Wrong (fault.Truncated n)) one none = absurd none
+unseen_message keyed strange path files bytes (unread.Wrong fault.Memory) one none = absurd none
+unseen_message keyed strange path files bytes (unread.Wrong fault.TooMany) one none = absurd none
+unseen_message keyed strange path files bytes (unread.Wrong fault.Read) one none = absurd none
+unseen_message keyed strange path files bytes (unread.Wrong (fault.Write n)) one none = absurd none
+unseen_message keyed strange path files bytes unread.Memory one none = tt
+unseen_message keyed strange path files bytes unread.Device one none = tt
+unseen_message keyed strange path files bytes unread.Raced one none = absurd none
+unseen_message keyed strange path files bytes (unread.NotOwner address) one none = absurd none
+
+-- the error of a message that was not read
+pub unvouched_by : (keyed : ℕ → ℕ → List ℕ → ℕ) (bytes : BaseBytes) (i : ℕ) (error : StoreError)
+    → ((s : Stored) → IsThere bytes i s → HasDigest keyed bytes i s → Answers {T = Base} (λ alone. alone.messages ≡ message_in Second s ∷ []) (Err error)) → IsUnvouched keyed bytes (unread_message error i)
+unvouched_by keyed bytes i store.Damaged none = none
+unvouched_by keyed bytes i store.Device none = tt
+unvouched_by keyed bytes i store.Memory none = tt
+unvouched_by keyed bytes i store.TooMany none = tt

@@ -1,8 +1,9 @@
 pub mod AsFile
+pub mod Fetching
 pub mod Filled
 pub mod Looked
 pub mod Ours
-pub mod Reading
 pub mod Unopened
 pub mod OpenError
+pub mod Source
 pub mod Wrong

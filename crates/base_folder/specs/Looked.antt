@@ -1,33 +1,37 @@
--- The contents of a base folder that was read.
-use Rattle.std.specs.Prelude.{◌≡◌, ◌≤◌, ◌<◌, ◌/◌, ℕ, List, drop, length, take}
-use Rattle.base_file.specs.Base.{Base}
-use Rattle.disk_io.specs.Disk.{Files, bytes_in}
+-- A base folder that was looked at.
+use Rattle.std.specs.Prelude.{◌≡◌, ◌≤◌, ◌<◌, ◌/◌, ℕ, Bool, List, take}
+use Rattle.disk_io.specs.Disk.{DiskState, Files, bytes_in}
+use Rattle.base_file.specs.declared.fault.BaseFault.TheVariants as base
 use Rattle.base_log.specs.Names.{log_of}
-use Rattle.base_log.specs.Standing.{BaseBytes}
+use Rattle.base_log.specs.Standing.{BaseBytes, StandsFor}
 use Rattle.base_log.specs.Reading.{ReadsAll}
 use Rattle.base_log.specs.declared.log.End.{End}
-use Rattle.base_store.specs.Keys.{place_at}
-use Rattle.base_folder_store.specs.Held.{HoldsBase}
-use Rattle.base_folder.specs.declared.snapshot.FolderSnapshot.{FolderSnapshot}
+use Rattle.base_folder_store.specs.Opened.{held_by}
+use Rattle.base_folder_store.specs.Vouched.{HasNone, IsVouched}
+use Rattle.base_folder_store.specs.declared.folder.Folder.{Folder}
+use Rattle.base_folder.specs.OpenError.{IsWrong}
+use Rattle.base_folder.specs.declared.looking.LookedFolder.{LookedFolder}
+use Rattle.base_folder.specs.declared.open_error.OpenError.{OpenError}
+use Rattle.base_folder.specs.declared.open_error.OpenError.TheVariants as unread
 
--- It is what these bytes are, of the messages at least those from this number on.
-pub record IsSeenFrom (first : ℕ) (bytes : BaseBytes) (seen : FolderSnapshot) : Type 0 where
-  pub begins : first < length bytes.keys / 16 → seen.before ≤ place_at bytes.keys first
-  pub within : seen.before ≤ length bytes.messages
-  pub all : seen.all ≡ length bytes.messages
-  pub messages : seen.messages.items ≡ drop seen.before bytes.messages
-  pub keys : seen.keys.items ≡ bytes.keys
-  pub cursor : seen.cursor ≡ bytes.cursor
-  pub mark : seen.mark ≡ bytes.mark
+-- Each message from this number on has the digest of its entry.
+abbrev pub AreVouched : (ℕ → ℕ → List ℕ → ℕ) → DiskState → ℕ → Folder → Type 0
+AreVouched keyed disk first folder = (i : ℕ) → first ≤ i → i < folder.keys / 16 → IsVouched keyed (held_by disk folder) i
 
--- These bytes hold this base.
-pub record SeesBase (keyed : ℕ → ℕ → List ℕ → ℕ) (first : ℕ) (base : Base) (seen : FolderSnapshot) : Type 0 where
-  pub bytes : BaseBytes
-  pub read : IsSeenFrom first bytes seen
-  pub holds : HoldsBase keyed bytes base
+-- If one is said to be damaged, none under this number has the digest of its entry.
+abbrev pub IsUnvouched : (ℕ → ℕ → List ℕ → ℕ) → BaseBytes → OpenError → Type 0
+IsUnvouched keyed bytes (unread.Wrong (base.Damaged n)) = HasNone keyed bytes n
+IsUnvouched keyed bytes unread.Memory = Unit {0}
+IsUnvouched keyed bytes unread.Device = Unit {0}
+IsUnvouched keyed bytes _ = ⊥
 
--- The logs that were read before the files and after them are the log of this folder.
-pub record HasLogs (path : List ℕ) (files : Files) (seen : FolderSnapshot) : Type 0 where
+-- A message is damaged, if that is why, or something is wrong with the folder.
+abbrev pub IsUnseen : (ℕ → ℕ → List ℕ → ℕ) → Bool → List ℕ → Files → OpenError → Type 0
+IsUnseen keyed strange path files (unread.Wrong (base.Damaged n)) = (bytes : BaseBytes) → StandsFor path bytes files → HasNone keyed bytes n
+IsUnseen keyed strange path files why = IsWrong strange path files why
+
+-- The logs that were read before the messages and after them are the log of this folder.
+pub record HasLogs (path : List ℕ) (files : Files) (seen : LookedFolder) : Type 0 where
   pub log : seen.log.items ≡ bytes_in (files (log_of path))
   pub reread : seen.reread.items ≡ bytes_in (files (log_of path))
 

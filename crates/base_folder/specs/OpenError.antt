@@ -1,6 +1,8 @@
 -- Why a base folder is not read or opened.
 use Rattle.std.specs.Prelude.{◌≡◌, ◌≤◌, ℕ, Bool, List, Result, IsErrOf}
 use Rattle.base_file.specs.declared.fault.BaseFault.TheVariants as base
+use Rattle.base_store.specs.declared.store_error.StoreError.{StoreError}
+use Rattle.base_store.specs.declared.store_error.StoreError.TheVariants as store
 use Rattle.disk_io.specs.Device.{Failed}
 use Rattle.disk_io.specs.Disk.{Files}
 use Rattle.disk_io.specs.declared.disk_error.DiskError.{DiskError}
@@ -15,6 +17,13 @@ use Rattle.base_folder.specs.declared.open_error.OpenError.TheVariants as unread
 abbrev pub unread_cause : DiskError → OpenError
 unread_cause disk.Memory = unread.Memory
 unread_cause disk.Device = unread.Device
+
+-- The error of the message of this number, which was not read.
+abbrev pub unread_message : StoreError → ℕ → OpenError
+unread_message store.Damaged i = unread.Wrong (base.Damaged i)
+unread_message store.Device i = unread.Device
+unread_message store.Memory i = unread.Memory
+unread_message store.TooMany i = unread.Memory
 
 -- A failure of the device is answered only where its count of failures rose.
 pub record HasUnreadCause {T : Type 0} (before now : ℕ) (result : Result T OpenError) : Type 0 where

@@ -1,17 +1,16 @@
-//! The base file of the messages of a base folder.
-ghost use Rattle.std.specs.Prelude.{◌≡◌, ◌<◌, ◌/◌, ℕ, length, IfErr, IfOk, OnOk};
+//! The base file of messages that are read one by one.
+ghost use Rattle.std.specs.Prelude.{◌≡◌, ◌≤◌, ◌<◌, Some, slice_get, IfErr, IfOk};
 ghost use Rattle.base_file.specs.Base.{Base};
 ghost use Rattle.base_file.specs.BaseFile.{head_bytes, saved_bytes, stored_at};
-ghost use Rattle.echo_filed.specs.Stored.{Stored, message_in, stored_as, stored_bytes};
+ghost use Rattle.echo_filed.specs.Filed.{Filed};
+ghost use Rattle.echo_filed.specs.Stored.{stored_as, stored_bytes};
 ghost use Rattle.echo_filed.specs.declared.stored.Version.TheVariants.{Second};
-ghost use Rattle.base_log.specs.Standing.{BaseBytes};
-ghost use Rattle.base_folder.specs.AsFile.{IsDamagedIn, IsFileFault, IsTooLong};
-ghost use Rattle.base_folder.specs.Looked.{SeesBase};
-ghost use Rattle.base_folder.specs.Reading.{HasDigest, IsThere, IsVouched};
+ghost use Rattle.base_folder.specs.AsFile.{IsFileFault, IsMessageFault, IsTooLong, file_cause};
+ghost use Rattle.base_folder.specs.Source.{LooksAt};
 
-use crate::snapshot::FolderSnapshot;
+use crate::source::MessageSource;
 use base_file::BaseFault;
-use base_store::{Digest, StoreError};
+use base_store::StoreError;
 use disk_io::Watched;
 use echo_filed::{Filed, is_short, is_short_enough, long_bytes, send_message};
 use std::alloc::{AllocError, Global};
@@ -57,45 +56,58 @@ fn bytes_at(
     bytes_of(alloc, message, is_short(message, place, cursor))
 }
 
-impl FolderSnapshot {
-    /// The base file of the same messages and the same cursor, if all were read. It is `Damaged` if the bytes of a
-    /// number are no message, or its digest differs from that of its entry.
-    pub fn as_file<H: Digest>(&self, alloc: Global) -> Result<Vec<u8>, BaseFault>
-        ensures file { (base : Base) → SeesBase H.keyed 0 base self.now → IfOk result (λ bytes. bytes.items ≡ saved_bytes base.messages base.cursor) }
-        ensures fault { (base : Base) → SeesBase H.keyed 0 base self.now → IfErr result (IsFileFault base) }
-        ensures damaged { IfErr result (IsDamagedIn H.keyed self.now) }
-        ensures vouched { OnOk result ((i : ℕ) → i < length self.now.keys.items / 16 → IsVouched H.keyed self.now i) }
-    {
-        let count = self.count();
-        if count > MOST || self.cursor > MOST as u64 {
-            return Err(BaseFault::TooMany);
-        }
-        let mut file = head_of(alloc, self.cursor as u32, count as u32)?;
-        'messages: for i in 0..count {
-            let bytes = self.stored_at::<H>(alloc, i)?;
-            file.extend_from_slice(&bytes)?;
-        }
-        Ok(file)
+// The fault of a message that was not read.
+fn fault_of(error: StoreError, i: usize) -> BaseFault
+    ensures { result ≡ file_cause error i }
+{
+    match error {
+        StoreError::Memory | StoreError::TooMany => BaseFault::Memory,
+        StoreError::Device => BaseFault::Read,
+        StoreError::Damaged => BaseFault::Damaged { message: i as u64 },
     }
+}
 
-    // The message of this number as a base file has it there.
-    fn stored_at<H: Digest>(&self, alloc: Global, i: usize) -> Result<Vec<u8>, BaseFault>
-        requires { i < length self.now.keys.items / 16 }
-        ensures bytes { (bytes : BaseBytes) (s : Stored) → IsThere self.now bytes i s → HasDigest H.keyed bytes i s
-            → IfOk result (λ file. file.items ≡ stored_bytes Second (stored_at self.now.cursor i (message_in Second s))) }
-        ensures fault { (bytes : BaseBytes) (s : Stored) → IsThere self.now bytes i s → HasDigest H.keyed bytes i s
-            → IfErr result (IsTooLong (stored_at self.now.cursor i (message_in Second s))) }
-        ensures damaged { IfErr result (IsDamagedIn H.keyed self.now) }
-        ensures vouched { OnOk result (IsVouched H.keyed self.now i) }
-    {
-        let alone = match self.message_at::<H>(alloc, i) {
-            Ok(alone) => alone,
-            Err(StoreError::Damaged) => return Err(BaseFault::Damaged { message: i as u64 }),
-            Err(_) => return Err(BaseFault::Memory),
-        };
-        match alone.message(0) {
-            Some(message) => bytes_at(alloc, message, i, self.cursor as usize),
-            None => Err(BaseFault::Damaged { message: i as u64 }),
-        }
+// The message of this number as a base file has it there.
+fn stored_at<M: MessageSource>(
+    alloc: Global,
+    messages: &mut M,
+    i: usize,
+    cursor: usize,
+) -> Result<Vec<u8>, BaseFault>
+    requires ready { (M.state messages.old).is_ready }
+    requires within { i < (M.state messages.old).count }
+    ensures bytes { (M.state messages.new).is_honest → (base : Base) (m : Filed) → (M.state messages.old).holds base → slice_get base.messages i ≡ Some m
+        → IfOk result (λ file. file.items ≡ stored_bytes Second (stored_at cursor i m)) }
+    ensures fault { (M.state messages.new).is_honest → (base : Base) (m : Filed) → (M.state messages.old).holds base → slice_get base.messages i ≡ Some m
+        → IfErr result (IsMessageFault (stored_at cursor i m) (M.state messages.old).failures (M.state messages.new).failures) }
+    ensures looks { LooksAt (M.state messages.old) (M.state messages.new) }
+    ensures later { (M.state messages.old).failures ≤ (M.state messages.new).failures }
+{
+    if let Err(error) = messages.fetch(i) {
+        return Err(fault_of(error, i));
     }
+    match messages.at_hand() {
+        Some(message) => bytes_at(alloc, message, i, cursor),
+        None => Err(BaseFault::Damaged { message: i as u64 }),
+    }
+}
+
+/// The base file of the same messages and the same cursor, if all are read. If a message is damaged, that is the fault.
+pub fn file_of<M: MessageSource>(alloc: Global, messages: &mut M) -> Result<Vec<u8>, BaseFault>
+    requires { (M.state messages.old).is_ready }
+    ensures file { (M.state messages.new).is_honest → (base : Base) → (M.state messages.old).holds base → IfOk result (λ bytes. bytes.items ≡ saved_bytes base.messages base.cursor) }
+    ensures fault { (M.state messages.new).is_honest → (base : Base) → (M.state messages.old).holds base
+        → IfErr result (IsFileFault base (M.state messages.old).failures (M.state messages.new).failures) }
+{
+    let count = messages.count();
+    let cursor = messages.cursor();
+    if count > MOST || cursor > MOST {
+        return Err(BaseFault::TooMany);
+    }
+    let mut file = head_of(alloc, cursor as u32, count as u32)?;
+    'messages: for i in 0..count {
+        let bytes = stored_at(alloc, messages, i, cursor)?;
+        file.extend_from_slice(&bytes)?;
+    }
+    Ok(file)
 }

@@ -1,72 +1,91 @@
-//! One message of a base folder that was read.
-ghost use Rattle.std.specs.Prelude.{◌≡◌, ◌<◌, ◌/◌, ◌↔◌, [], ◌∷◌, length, IfOk, IsErrOf, IsTrue, OnOk};
-ghost use Rattle.echo_filed.specs.Filed.{Filed};
-ghost use Rattle.echo_filed.specs.Stored.{Stored, message_in};
-ghost use Rattle.echo_filed.specs.declared.stored.Version.TheVariants.{Second};
-ghost use Rattle.base_log.specs.Standing.{BaseBytes};
-ghost use Rattle.base_folder_store.specs.Answers.{Answers};
-ghost use Rattle.base_folder_store.specs.Held.{digest_by};
-ghost use Rattle.base_store.specs.Keys.{digest_at, digested};
-ghost use Rattle.base_folder.specs.Reading.{HasDigest, IsThere, IsVouched};
+//! The messages of a base folder that is looked at, read one by one.
+ghost use Rattle.std.specs.Prelude.{◌≡◌, ◌≤◌, ◌<◌, ◌/◌, IfErr, OnOk};
+ghost use Rattle.disk_io.specs.Disk.{Honestly};
+ghost use Rattle.disk_io.specs.Runs.{ChangesNothing};
+ghost use Rattle.base_folder_store.specs.Opened.{held_by};
+ghost use Rattle.base_folder_store.specs.Vouched.{IsLookedAt, IsVouched};
+ghost use Rattle.base_folder.specs.Looked.{AreVouched, IsUnvouched};
+ghost use Rattle.base_folder.specs.OpenError.{HasUnreadCause, unread_message};
 
-use crate::snapshot::FolderSnapshot;
-use base_folder_store::{Alone, read_alone};
-use base_store::{Digest, StoreError, bytes_of_key, digest_of, end_of, place_of};
-use echo_filed::Key;
-use std::alloc::{AllocError, Global};
+use crate::open_error::OpenError;
+use base_file::BaseFault;
+use base_folder_store::Folder;
+use base_store::{Digest, StoreError};
+use disk_io::Disk;
+use std::alloc::Global;
 
-impl FolderSnapshot {
-    /// A base with just the message of this number. It is `Damaged` if none was read there, or its digest differs from
-    /// that of its entry.
-    pub fn message_at<H: Digest>(&self, alloc: Global, i: usize) -> Result<Alone, StoreError>
-        requires { i < length self.now.keys.items / 16 }
-        ensures message { (bytes : BaseBytes) (s : Stored) → IsThere self.now bytes i s → HasDigest H.keyed bytes i s
-            → Answers (λ alone. alone.messages ≡ message_in Second s ∷ []) result }
-        ensures vouched { OnOk result (IsVouched H.keyed self.now i) }
-        ensures device { IsErrOf result StoreError.Device → ⊥ }
-        ensures few { IsErrOf result StoreError.TooMany → ⊥ }
-    {
-        let alone = self.alone_at(alloc, i)?;
-        if self.is_vouched::<H>(alloc, &alone, i)? {
-            Ok(alone)
-        } else {
-            Err(StoreError::Damaged)
-        }
+/// Learns how far the reading of messages has come.
+pub trait ReadingProgress {
+    /// The message of this number, counted from 0, of so many was read.
+    fn tell(&self, place: usize, messages: usize);
+}
+
+/// Learns nothing.
+impl ReadingProgress for () {
+    fn tell(&self, _place: usize, _messages: usize) {}
+}
+
+/// The first number from this one on, of so many messages, or behind the last of them.
+pub fn begin_at(first: u64, count: usize) -> usize
+    ensures within { first < count → result ≡ first }
+    ensures behind { count ≤ first → result ≡ count }
+{
+    if first < count as u64 {
+        first as usize
+    } else {
+        count
     }
+}
 
-    // The same, whatever its digest.
-    fn alone_at(&self, alloc: Global, i: usize) -> Result<Alone, StoreError>
-        requires { i < length self.now.keys.items / 16 }
-        ensures message { (bytes : BaseBytes) (s : Stored) → IsThere self.now bytes i s → Answers (λ alone. alone.messages ≡ message_in Second s ∷ []) result }
-        ensures device { IsErrOf result StoreError.Device → ⊥ }
-        ensures few { IsErrOf result StoreError.TooMany → ⊥ }
-    {
-        let begins = place_of(&self.keys, i) as usize;
-        let ends = end_of(&self.keys, i, self.all as u64) as usize;
-        let before = self.before;
-        if begins < before || begins > ends || ends - before > self.messages.len() {
-            return Err(StoreError::Damaged);
-        }
-        read_alone(alloc, &self.messages[begins - before..ends - before])
+/// Reads each message from this number on: no later reader meets a damaged one.
+pub(crate) fn judge_messages<D: Disk, H: Digest, P: ReadingProgress>(
+    alloc: Global,
+    disk: &mut D,
+    folder: &Folder,
+    first: u64,
+    progress: &P,
+) -> Result<(), OpenError>
+    requires { IsLookedAt (D.state disk.old) folder.now }
+    ensures vouched { Honestly (D.state disk.new) (OnOk result (AreVouched H.keyed (D.state disk.old) first folder.now)) }
+    ensures damaged { Honestly (D.state disk.new) (IfErr result (IsUnvouched H.keyed (held_by (D.state disk.old) folder.now))) }
+    ensures quiet { ChangesNothing (D.state disk.old) (D.state disk.new) }
+    ensures cause { HasUnreadCause (D.failures disk.old) (D.failures disk.new) result }
+{
+    let count = folder.count();
+    'messages: for i in begin_at(first, count)..count {
+        judge_message::<D, H>(alloc, disk, folder, i)?;
+        progress.tell(i, count);
     }
+    Ok(())
+}
 
-    // Whether the message has the digest of the entry of this number.
-    fn is_vouched<H: Digest>(
-        &self,
-        alloc: Global,
-        alone: &Alone,
-        i: usize,
-    ) -> Result<bool, AllocError>
-        requires { i < length self.now.keys.items / 16 }
-        ensures { (m : Filed) → alone.now.messages ≡ m ∷ []
-            → IfOk result (λ is. IsTrue is ↔ (digest_at self.now.keys.items i ≡ digest_by H.keyed self.now.mark (digested m))) }
-    {
-        let Some(message) = alone.message(0) else {
-            return Ok(false);
-        };
-        let key = Key::of_message(alloc, message)?;
-        let digested = bytes_of_key(alloc, &key)?;
-        let digest = H::keyed(self.mark.first, self.mark.second).of(&digested);
-        Ok(digest_of(&self.keys, i) == digest)
+// Reads the message of this number.
+fn judge_message<D: Disk, H: Digest>(
+    alloc: Global,
+    disk: &mut D,
+    folder: &Folder,
+    i: usize,
+) -> Result<(), OpenError>
+    requires looked { IsLookedAt (D.state disk.old) folder.now }
+    requires within { i < folder.now.keys / 16 }
+    ensures vouched { Honestly (D.state disk.new) (OnOk result (IsVouched H.keyed (held_by (D.state disk.old) folder.now) i)) }
+    ensures damaged { Honestly (D.state disk.new) (IfErr result (IsUnvouched H.keyed (held_by (D.state disk.old) folder.now))) }
+    ensures quiet { ChangesNothing (D.state disk.old) (D.state disk.new) }
+    ensures cause { HasUnreadCause (D.failures disk.old) (D.failures disk.new) result }
+{
+    if let Err(error) = folder.read_vouched::<D, H>(alloc, disk, i) {
+        return Err(unread_by(error, i));
+    }
+    Ok(())
+}
+
+// Why the message of this number is not read.
+fn unread_by(error: StoreError, i: usize) -> OpenError
+    ensures { result ≡ unread_message error i }
+{
+    match error {
+        StoreError::Damaged => OpenError::Wrong(BaseFault::Damaged { message: i as u64 }),
+        StoreError::Device => OpenError::Device,
+        StoreError::Memory | StoreError::TooMany => OpenError::Memory,
     }
 }

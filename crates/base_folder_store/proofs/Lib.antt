@@ -16,6 +16,7 @@ mod Single
 pub mod Staged
 mod Stated
 pub mod Stubbed
+pub mod Vouchings
 pub mod Waits
 mod WhereSo
 mod Whole

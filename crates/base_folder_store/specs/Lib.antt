@@ -6,3 +6,4 @@ pub mod Left
 pub mod Opened
 pub mod Owned
 pub mod State
+pub mod Vouched

@@ -22,6 +22,7 @@ mod owning;
 mod purging;
 mod reading;
 mod sought;
+mod vouching;
 mod waiting;
 
 pub use alone::{Alone, bytes_alone, read_alone};

@@ -1,7 +1,9 @@
 //! Base folders: which BASE is one, and its files.
-use crate::{folder_fault, folder_path, output_fault, read_file};
-use base_file::BaseFault;
-use base_folder::{FolderSnapshot, read_snapshot};
+ghost use Rattle.std.specs.Prelude.{IfOk};
+
+use crate::{Messages, Progress, folder_fault, folder_path, output_fault, read_file};
+use base_file::{Base, BaseFault};
+use base_folder::{BaseReader, FolderReader, MessageSource, file_of, read_folder};
 use base_store::SipDigest;
 use cmd_status::Fault;
 use disk_system::{RealDisk, Unknown, flush_path};
@@ -27,18 +29,70 @@ pub fn flush_name<'a>(rt: &HostRuntime, base: &'a str, messages: usize) -> Resul
     flush_path(rt.alloc(), rt, name).map_err(|fault| output_fault(fault, base))
 }
 
-/// A snapshot of the base folder with this path, with its messages from this number on. It changes nothing.
-pub fn look_into<'a>(
-    rt: &HostRuntime,
+/// A base folder of the system that was looked at, as a source of messages.
+pub type FolderMessages<'r> = FolderReader<RealDisk<&'r HostRuntime, Unknown>, SipDigest>;
+
+/// Looks at the base folder with this path, and reads each message from this number on. It changes nothing. The progress
+/// line shows how far that is.
+pub fn look_into<'r, 'a>(
+    rt: &'r HostRuntime,
     base: &'a str,
     first: u64,
-) -> Result<FolderSnapshot, Fault<'a>> {
+    progress: Option<&Progress<'_>>,
+) -> Result<FolderMessages<'r>, Fault<'a>>
+    ensures { IfOk result (λ messages. (⟦<FolderReader<RealDisk<&'r HostRuntime, Unknown>, SipDigest> as MessageSource>⟧.state messages).is_ready) }
+{
     let strange = is_strange(rt, base)?;
     let path = folder_path(rt, base)?;
-    let mut disk = RealDisk::new(rt, Unknown);
-    read_snapshot(rt.alloc(), &mut disk, path.as_bytes(), strange, first).map_err(|why| why.fault(
-        base,
-    ))
+    look_at(rt, base, path.as_str(), strange, first, progress)
+}
+
+// The same. The files have `path` before their names.
+fn look_at<'r, 'a>(
+    rt: &'r HostRuntime,
+    base: &'a str,
+    path: &str,
+    strange: bool,
+    first: u64,
+    progress: Option<&Progress<'_>>,
+) -> Result<FolderMessages<'r>, Fault<'a>>
+    ensures { IfOk result (λ messages. (⟦<FolderReader<RealDisk<&'r HostRuntime, Unknown>, SipDigest> as MessageSource>⟧.state messages).is_ready) }
+{
+    let disk = RealDisk::new(rt, Unknown);
+    let path = path.as_bytes();
+    match read_folder(
+        rt.alloc(),
+        disk,
+        path,
+        strange,
+        first,
+        &Messages { progress },
+    ) {
+        Ok(messages) => Ok(messages),
+        Err(why) => Err(why.fault(base)),
+    }
+}
+
+/// The base file with this path, as a source of messages. If the system gives no seed for the hasher, that is a failed
+/// read.
+pub fn load_base<'a>(
+    rt: &HostRuntime,
+    base: &'a str,
+) -> Result<BaseReader<RandomState>, Fault<'a>> {
+    let hasher = RandomState::new(rt).map_err(|_| Fault::Base(BaseFault::Read))?;
+    let bytes = read_file(rt, base, usize::MAX)?;
+    let loaded = Base::load(rt.alloc(), &mut bytes.as_slice(), hasher)?;
+    Ok(BaseReader::new(loaded))
+}
+
+/// Reads the base with this path: a file, or the messages of a folder.
+pub fn check_base<'a>(rt: &HostRuntime, base: &'a str) -> Result<(), Fault<'a>> {
+    if is_folder(rt, base) {
+        look_into(rt, base, 0, None)?;
+    } else {
+        read_file(rt, base, usize::MAX)?;
+    }
+    Ok(())
 }
 
 /// The bytes of a base file, or for a base folder those of a base file with the same messages.
@@ -46,13 +100,12 @@ pub fn base_bytes<'a>(rt: &HostRuntime, base: &'a str) -> Result<Vec<u8>, Fault<
     if !is_folder(rt, base) {
         return read_file(rt, base, usize::MAX);
     }
-    let snapshot = look_into(rt, base, 0)?;
-    snapshot_bytes(rt, &snapshot)
-}
-
-// The bytes of a base file with the messages of a base folder.
-fn snapshot_bytes<'a>(rt: &HostRuntime, snapshot: &FolderSnapshot) -> Result<Vec<u8>, Fault<'a>> {
-    Ok(snapshot.as_file::<SipDigest>(rt.alloc())?)
+    let mut messages = look_into(rt, base, 0, None)?;
+    match file_of(rt.alloc(), &mut messages) {
+        Err(BaseFault::Read) => Err(Fault::CannotUse(base)),
+        Err(fault) => Err(Fault::Base(fault)),
+        Ok(bytes) => Ok(bytes),
+    }
 }
 
 /// A key for digests, as two halves. If the system gives no seed, that is a failed read.

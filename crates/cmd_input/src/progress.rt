@@ -1,6 +1,7 @@
 //! The progress of a command, for a terminal. One second after the command began, its line appears on standard error.
 //! It is overwritten in place, and erased before anything else is printed.
 
+use base_folder::ReadingProgress;
 use cmd_status::{MessageProgress, print_rest};
 use disk_io::Watched;
 use std::alloc::AllocError;
@@ -136,6 +137,12 @@ impl MessageProgress for Messages<'_, '_> {
                 progress.tell_message((place as u64).saturating_add(1), messages as u64);
             }
         }
+    }
+}
+
+impl ReadingProgress for Messages<'_, '_> {
+    fn tell(&self, place: usize, messages: usize) {
+        MessageProgress::tell(self, place, messages);
     }
 }
 

@@ -5,7 +5,7 @@ use crate::listing::{export_folder, list_folder};
 use base_file::BaseFault;
 use cmd_input::{Progress, is_folder, read_file};
 use cmd_print::ListForm;
-use cmd_show::{ExportQuery, export, list, list_areas, tell_lost};
+use cmd_show::{ExportQuery, ListQuery, export, list, list_areas, tell_lost};
 use cmd_status::{Fault, Status, number_of};
 use cmd_words::{ExportWords, ListWords};
 use disk_io::Sink;
@@ -32,16 +32,19 @@ pub fn run_list<'a, W: Sink>(
     if words.areas {
         return list_areas(rt.alloc(), &bytes, hasher, out);
     }
-    let area = words.area.map(|tag| tag.as_bytes());
-    list(rt.alloc(), form_of(words), area, first, &bytes, hasher, out)
+    list(rt.alloc(), &list_query(words, first), &bytes, hasher, out)
 }
 
-/// The form that the words ask for.
-pub(crate) fn form_of(words: &ListWords<'_>) -> ListForm {
-    if words.short {
-        ListForm::Short
-    } else {
-        ListForm::Whole
+/// The messages that the words ask for, from this number on, and their form.
+pub(crate) fn list_query<'a>(words: &ListWords<'a>, first: u64) -> ListQuery<'a> {
+    ListQuery {
+        form: if words.short {
+            ListForm::Short
+        } else {
+            ListForm::Whole
+        },
+        area: words.area.map(|tag| tag.as_bytes()),
+        first,
     }
 }
 

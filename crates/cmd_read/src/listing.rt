@@ -1,16 +1,11 @@
 //! `list` and `export` of a base folder: the messages that are asked for are all read before a line is printed.
 
-use crate::bases::form_of;
-use base_folder::FolderSnapshot;
-use base_store::SipDigest;
+use crate::bases::list_query;
 use cmd_input::{Progress, look_into};
-use cmd_show::{ExportQuery, begin_at, export_seen, judge_messages, list_areas_seen, list_seen};
+use cmd_show::{ExportQuery, export_messages, list_areas_of, list_messages};
 use cmd_status::{Fault, Status};
 use cmd_words::ListWords;
 use disk_io::Sink;
-
-/// How many messages are read between two looks at the clock.
-const SOME: usize = 1_000;
 
 /// `list` of the base folder that the words name, from this number on.
 pub(crate) fn list_folder<'a, W: Sink>(
@@ -20,30 +15,12 @@ pub(crate) fn list_folder<'a, W: Sink>(
     progress: &Progress<'_>,
     out: &mut W,
 ) -> Result<Status, Fault<'a>> {
-    let seen = look_into(rt, words.base, first)?;
-    judge_seen(rt, &seen, first, progress)?;
+    let mut messages = look_into(rt, words.base, first, Some(progress))?;
     if words.areas {
-        return list_areas_seen::<SipDigest, W>(rt.alloc(), &seen, out);
+        return list_areas_of(rt.alloc(), words.base, &mut messages, out);
     }
-    let area = words.area.map(|tag| tag.as_bytes());
-    list_seen::<SipDigest, W>(rt.alloc(), form_of(words), area, first, &seen, out)
-}
-
-// Reads the messages from this number on, and reports how far that is.
-fn judge_seen<'a>(
-    rt: &HostRuntime,
-    seen: &FolderSnapshot,
-    first: u64,
-    progress: &Progress<'_>,
-) -> Result<(), Fault<'a>> {
-    let count = seen.count();
-    'messages: for i in begin_at(first, count)..count {
-        judge_messages::<SipDigest>(rt.alloc(), seen, i, i + 1)?;
-        if i % SOME == 0 && progress.is_due() {
-            progress.tell_message((i + 1) as u64, count as u64);
-        }
-    }
-    Ok(())
+    let asked = list_query(words, first);
+    list_messages(rt.alloc(), &asked, words.base, &mut messages, out)
 }
 
 /// `export` of this base folder.
@@ -53,8 +30,6 @@ pub(crate) fn export_folder<'a, W: Sink>(
     asked: &ExportQuery<'_>,
     out: &mut W,
 ) -> Result<u128, Fault<'a>> {
-    let seen = look_into(rt, base, asked.first)?;
-    let count = seen.count();
-    judge_messages::<SipDigest>(rt.alloc(), &seen, begin_at(asked.first, count), count)?;
-    export_seen::<SipDigest, W>(rt.alloc(), asked, &seen, out)
+    let mut messages = look_into(rt, base, asked.first, None)?;
+    export_messages(rt.alloc(), asked, base, &mut messages, out)
 }

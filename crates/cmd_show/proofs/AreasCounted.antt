@@ -15,6 +15,7 @@ use Rattle.std.proofs.lemmas.List.Folds.{list_any-append}
 use Rattle.std.proofs.lemmas.List.Sums.{sum_by-append, sum_by-cons}
 use Rattle.std.proofs.lemmas.Map.Text.{is_eq-slice_cmp}
 use Rattle.std.proofs.lemmas.Option.{slice_get-get_or, slice_get_cases}
+use Rattle.base_file.specs.Base.{Base}
 use Rattle.echo_export.specs.declared.json_line.State.{State}
 use Rattle.echo_export.specs.declared.json_line.State.TheVariants.{Purged, Scanned, Waiting}
 use Rattle.echo_filed.specs.Filed.{Filed}
@@ -25,9 +26,8 @@ use Rattle.cmd_status.specs.declared.status.Status.{Status}
 use Rattle.cmd_status.specs.declared.status.Status.TheVariants.{Good}
 use Rattle.cmd_status.specs.Devices.{Output}
 use Rattle.cmd_status.specs.Ended.{Answers}
-use Rattle.cmd_status.specs.Inputs.{IsBaseGiven}
 use Rattle.cmd_show.specs.declared.area_counts.AreaCounts.{AreaCounts}
-use Rattle.cmd_show.specs.AreasListed.{AreAreasListed, AreWithin, Ascend, HaveCounts, ListAreasAnswers, area_counts, area_line, areas_text, counted_more, counts_of, counts_text, found_counts, is_in, is_purged_in, no_counts}
+use Rattle.cmd_show.specs.AreasListed.{AreListed, AreWithin, Ascend, HaveCounts, area_counts, area_line, areas_text, counted_more, counts_of, counts_text, found_counts, is_in, is_purged_in, no_counts}
 use Rattle.cmd_show.specs.Exporting.{state_by, state_of}
 
 -- 1 where it is so
@@ -289,39 +289,38 @@ module _ {K : Type 0} (bytes : K → List ℕ) where
       ap (λ c. area_line (bytes e.0) c ++ flat_map (λ x. area_line (bytes x.0) x.1) es) own ∙ ap (λ t. area_line (bytes e.0) (f (bytes e.0)) ++ t) (lines_found f es all is found.1)
 
   -- the lines of the map are those of the areas of the messages
-  areas_right : (bytes_of : List ℕ) (es : List (K × AreaCounts)) (base : List Filed) (cursor messages waiting : ℕ) (lines : List ℕ) (status : Status) → IsBaseGiven (Some bytes_of) base cursor
-      → HaveCounts bytes es base cursor → Ascend bytes es → messages ≡ length base → waiting ≡ length base - cursor
-      → lines ≡ counts_text bytes es messages waiting → status ≡ Good → AreAreasListed bytes_of lines status
-  areas_right bytes_of es base cursor messages waiting lines status given have ascend counted waits printed good = record {
-    messages = base;
-    cursor = cursor;
-    given = given;
-    tags = map bytes (keys_of es);
-    are_tags = record { ascending = tags_ascend (keys_of es) ascend; members = λ tag. among_keys es tag ∙ have.there tag };
-    printed =
-        printed ∙ ap (λ t. t ++ total_text messages waiting) (lines_found (area_counts base cursor) es es have.counts (own_found es ascend))
-        ∙ ap (λ n. areas_text base cursor (map bytes (keys_of es)) ++ total_text n waiting) counted ∙ ap (λ n. areas_text base cursor (map bytes (keys_of es)) ++ total_text (length base) n) waits;
-    status_is = good;
-  }
+  areas_right : (es : List (K × AreaCounts)) (base : Base) (messages waiting : ℕ) (lines : List ℕ) (status : Status)
+      → HaveCounts bytes es base.messages base.cursor → Ascend bytes es → messages ≡ length base.messages → waiting ≡ length base.messages - base.cursor
+      → lines ≡ counts_text bytes es messages waiting → status ≡ Good → AreListed base lines status
+  areas_right es base messages waiting lines status have ascend counted waits printed good =
+      let text = areas_text base.messages base.cursor (map bytes (keys_of es)) in
+      record {
+        tags = map bytes (keys_of es);
+        are_tags = record { ascending = tags_ascend (keys_of es) ascend; members = λ tag. among_keys es tag ∙ have.there tag };
+        printed =
+            printed ∙ ap (λ t. t ++ total_text messages waiting) (lines_found (area_counts base.messages base.cursor) es es have.counts (own_found es ascend))
+            ∙ ap (λ n. text ++ total_text n waiting) counted ∙ ap (λ n. text ++ total_text (length base.messages) n) waits;
+        status_is = good;
+      }
 
-  pub areas_answered : (bytes_of : List ℕ) (es : List (K × AreaCounts)) (base : List Filed) (cursor messages waiting : ℕ) (old new : Output) (answer : Result Status Fault) → IsBaseGiven (Some bytes_of) base cursor
-      → HaveCounts bytes es base cursor → Ascend bytes es → messages ≡ length base → waiting ≡ length base - cursor
-      → Answers (λ lines status. (lines ≡ counts_text bytes es messages waiting) × (status ≡ Good)) (λ fault. ⊥) old new answer → ListAreasAnswers bytes_of old new answer
-  areas_answered bytes_of es base cursor messages waiting old new (Ok status) given have ascend counted waits done = record {
+  pub areas_answered : (es : List (K × AreaCounts)) (base : Base) (messages waiting : ℕ) (refused : Fault → Type 0) (old new : Output) (answer : Result Status Fault)
+      → HaveCounts bytes es base.messages base.cursor → Ascend bytes es → messages ≡ length base.messages → waiting ≡ length base.messages - base.cursor
+      → Answers (λ lines status. (lines ≡ counts_text bytes es messages waiting) × (status ≡ Good)) (λ fault. ⊥) old new answer → Answers (AreListed base) refused old new answer
+  areas_answered es base messages waiting refused old new (Ok status) have ascend counted waits done = record {
     lines = done.lines;
-    right = areas_right bytes_of es base cursor messages waiting done.lines status given have ascend counted waits done.right.0 done.right.1;
+    right = areas_right es base messages waiting done.lines status have ascend counted waits done.right.0 done.right.1;
     written = done.written;
     flushed = done.flushed;
   }
-  areas_answered bytes_of es base cursor messages waiting old new (Err fault) given have ascend counted waits (inl (failed, begun)) =
+  areas_answered es base messages waiting refused old new (Err fault) have ascend counted waits (inl (failed, begun)) =
       inl (
         failed,
         record {
           lines = begun.lines;
           answer = begun.answer;
-          right = areas_right bytes_of es base cursor messages waiting begun.lines begun.answer given have ascend counted waits begun.right.0 begun.right.1;
+          right = areas_right es base messages waiting begun.lines begun.answer have ascend counted waits begun.right.0 begun.right.1;
           begun = begun.begun;
         },
       )
-  areas_answered bytes_of es base cursor messages waiting old new (Err fault) given have ascend counted waits (inr (inl memory, same)) = inr (inl memory, same)
-  areas_answered bytes_of es base cursor messages waiting old new (Err fault) given have ascend counted waits (inr (inr refused, same)) = absurd refused
+  areas_answered es base messages waiting refused old new (Err fault) have ascend counted waits (inr (inl memory, same)) = inr (inl memory, same)
+  areas_answered es base messages waiting refused old new (Err fault) have ascend counted waits (inr (inr none, same)) = absurd none

@@ -12,6 +12,5 @@ pub mod OnePrinting
 pub mod Listings
 pub mod LinkLines
 pub mod Exportings
-pub mod FolderListings
-pub mod FolderExportings
+pub mod Fetchings
 pub mod AreasCounted

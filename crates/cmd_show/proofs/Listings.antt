@@ -1,21 +1,23 @@
 -- What `list` prints and answers, from what its parts do.
-use Rattle.std.proofs.Common.{◌≡◌, ℕ, ◌+◌, ◌-◌, ◌≤◌, List, [], ◌∷◌, ◌++◌, length, Option, Some, option_map, Err, Ok, refl, sym, ap, subst, ◌∙◌, append-nil, inl}
-use Rattle.std.specs.Prelude.{slice_get}
+use Rattle.std.proofs.Common.{◌≡◌, ℕ, zero, suc, ◌+◌, ◌-◌, ◌≤◌, ◌<◌, List, [], ◌∷◌, ◌++◌, length, Option, None, Some, option_map, Err, refl, sym, ap, subst, ◌∙◌, append-nil, arith, inl}
+use Rattle.std.specs.Prelude.{slice_get, if◌then◌else◌, ◌&&◌}
 use Rattle.std.specs.List.{flat_map, range_with_len}
 use Rattle.std.specs.Io.KnownBytes.{Appends}
+use Rattle.std.proofs.lemmas.Bool.{lt-leb}
 use Rattle.std.proofs.lemmas.Grind.{flat_map-append}
+use Rattle.base_file.specs.Base.{Base}
 use Rattle.echo_links.specs.Links.{upper}
 use Rattle.echo_filed.specs.Filed.{Filed}
 use Rattle.cmd_status.specs.declared.fault.Fault.{Fault}
 use Rattle.cmd_status.specs.declared.status.Status.TheVariants.{Good}
 use Rattle.cmd_status.specs.Devices.{Output}
-use Rattle.cmd_status.specs.Ended.{CannotPrint, IsBegun, PassesAll}
+use Rattle.cmd_status.specs.Ended.{CannotPrint, IsBegun, IsDone, PassesAll}
 use Rattle.cmd_status.specs.Lines.{PassesOn, WritesFront}
-use Rattle.cmd_status.proofs.Lines.{begun_after, begun_more, front_more, passed_more, sent_after}
+use Rattle.cmd_status.proofs.Lines.{begun_after, begun_more, front_more, none_added, passed_more, sent_after}
 use Rattle.cmd_print.specs.declared.list_form.ListForm.{ListForm}
-use Rattle.cmd_show.specs.Listing.{IsBaseListed, ListAnswers}
-use Rattle.cmd_print.specs.BaseListed.{asked_text, base_text, messages_text, total_text}
-use Rattle.cmd_status.specs.Inputs.{IsBaseGiven}
+use Rattle.cmd_show.specs.Fetching.{AnswersReading}
+use Rattle.cmd_show.specs.Listing.{IsListed}
+use Rattle.cmd_print.specs.BaseListed.{asked_text, base_text, is_of_area, listed_text, messages_text, total_text}
 use Rattle.cmd_show.proofs.Entries.{range_more}
 use Rattle.cmd_show.proofs.Pushed.{added, begun_within}
 
@@ -51,16 +53,39 @@ message_begun a b c kept mid form area first base cursor i n message is within b
     (subst (λ t. WritesFront t a c) (message_more form area first base cursor i message kept is)
     (begun_more a b c kept (messages_text form area first base cursor i) mid (asked_text form area first cursor i message) before more))
 
+-- nothing is printed of a message before the first one that is asked for
+not_asked : (form : ListForm) (area : Option (List ℕ)) (first cursor i : ℕ) (message : Option Filed) → i < first → asked_text form area first cursor i message ≡ []
+not_asked form area first cursor i None before = refl
+not_asked form area first cursor i (Some m) before = ap (λ b. if b && is_of_area area m.echo.tag then listed_text form cursor i m else []) (lt-leb first i before)
+
+-- nor of all of them
+none_asked : (form : ListForm) (area : Option (List ℕ)) (first : ℕ) (base : List Filed) (cursor n : ℕ) → n ≤ first → messages_text form area first base cursor n ≡ []
+none_asked form area first base cursor zero before = refl
+none_asked form area first base cursor (suc n) before =
+    let next : suc n ≡ n + 1 = omega arith in
+    ap (λ (k : ℕ). messages_text form area first base cursor k) next ∙ messages_more form area first base cursor n
+    ∙ ap (λ (l : List ℕ). l ++ asked_text form area first cursor n (slice_get base n)) (none_asked form area first base cursor n (omega (arith, before)))
+    ∙ not_asked form area first cursor n (slice_get base n) (omega (arith, before))
+
+pub printed_none : (a : Option (List ℕ)) (kept : List ℕ) (form : ListForm) (area : Option (List ℕ)) (first : ℕ) (base : List Filed) (cursor n : ℕ) → n ≤ first → PassesOn (kept ++ messages_text form area first base cursor n) kept a a
+printed_none a kept form area first base cursor n before = subst (λ (l : List ℕ). PassesOn (kept ++ l) kept a a) (sym (none_asked form area first base cursor n before)) (none_added a kept)
+
+-- what was printed before a message that could not be read
+pub begun_before : (a b : Option (List ℕ)) (kept mid : List ℕ) (form : ListForm) (area : Option (List ℕ)) (first : ℕ) (base : List Filed) (cursor i n : ℕ) → i ≤ n
+    → PassesOn (kept ++ messages_text form area first base cursor i) mid a b → WritesFront (kept ++ messages_text form area first base cursor n) a b
+begun_before a b kept mid form area first base cursor i n within before =
+    begun_within (messages_text form area first base cursor) (λ k. (asked_text form area first cursor k (slice_get base k), messages_more form area first base cursor k)) a b kept i n within (record { rest = mid; passed = before })
+
 -- the lines of a base
-right_listing : (form : ListForm) (area : Option (List ℕ)) (first : ℕ) (base : List ℕ) (messages : List Filed) (cursor : ℕ) → IsBaseGiven (Some base) messages cursor
-    → IsBaseListed form area first base (base_text form (option_map upper area) first messages cursor) Good
-right_listing form area first base messages cursor given = record { messages = messages; cursor = cursor; given = given; printed = refl; status_is = refl }
+right_listing : (form : ListForm) (area : Option (List ℕ)) (first : ℕ) (base : Base) → IsListed form area first base (base_text form (option_map upper area) first base.messages base.cursor) Good
+right_listing form area first base = record { printed = refl; status_is = refl }
 
 -- some of them were printed
-pub listing_begun : (form : ListForm) (area asked : Option (List ℕ)) (first : ℕ) (base : List ℕ) (messages : List Filed) (cursor : ℕ) (none : List ℕ) (old new : Output)
-    → IsBaseGiven (Some base) messages cursor → asked ≡ option_map upper area → none ≡ []
-    → WritesFront (none ++ messages_text form asked first messages cursor (length messages)) old.contents new.contents → IsBegun (IsBaseListed form area first base) old new
-listing_begun form area asked first base messages cursor none old new given same nothing begun =
+pub listing_begun : (form : ListForm) (area asked : Option (List ℕ)) (first : ℕ) (base : Base) (none : List ℕ) (old new : Output) → asked ≡ option_map upper area → none ≡ []
+    → WritesFront (none ++ messages_text form asked first base.messages base.cursor (length base.messages)) old.contents new.contents → IsBegun (IsListed form area first base) old new
+listing_begun form area asked first base none old new same nothing begun =
+    let messages = base.messages in
+    let cursor = base.cursor in
     let text : List ℕ = messages_text form (option_map upper area) first messages cursor (length messages) in
     let front : WritesFront text old.contents new.contents =
     subst (λ (u : Option (List ℕ)). WritesFront (messages_text form u first messages cursor (length messages)) old.contents new.contents) same
@@ -68,7 +93,7 @@ listing_begun form area asked first base messages cursor none old new given same
     record {
       lines = base_text form (option_map upper area) first messages cursor;
       answer = Good;
-      right = right_listing form area first base messages cursor given;
+      right = right_listing form area first base;
       begun = front_more old.contents new.contents text (total_text (length messages) (length messages - cursor)) front;
     }
 
@@ -87,35 +112,30 @@ base_passed form area asked first messages cursor all again scanned none kept li
     subst (λ (u : Option (List ℕ)). PassesOn (base_text form u first messages cursor) lines a b) same
     (subst (λ (l : List ℕ). PassesOn (l ++ base_text form asked first messages cursor) lines a b) nothing passed)
 
--- all lines of a base went out
-pub base_listed : (form : ListForm) (area asked : Option (List ℕ)) (first : ℕ) (base : List ℕ) (messages : List Filed) (cursor all again scanned : ℕ) (none kept lines : List ℕ)
-    (old mid new : Output) → IsBaseGiven (Some base) messages cursor → asked ≡ option_map upper area → none ≡ []
-    → PassesOn (none ++ messages_text form asked first messages cursor (length messages)) kept old.contents mid.contents → all ≡ length messages → again ≡ length messages
-    → scanned ≡ cursor → lines ≡ kept ++ total_text all (again - scanned) → Appends mid.contents new.contents lines → mid.failures ≡ old.failures → PassesAll mid new
-    → ListAnswers form area first base old new (Ok Good)
-base_listed form area asked first base messages cursor all again scanned none kept lines old mid new given same nothing printed counted recounted at pushed went once flushed =
-    let passed = base_passed form area asked first messages cursor all again scanned none kept lines old.contents mid.contents same nothing printed counted recounted at pushed in
-    record {
-      lines = base_text form (option_map upper area) first messages cursor;
-      right = right_listing form area first base messages cursor given;
-      written = sent_after old.contents mid.contents new.contents (base_text form (option_map upper area) first messages cursor) lines passed went;
-      flushed = (flushed.0 ∙ once, flushed.1);
-    }
+module _ (form : ListForm) (area asked : Option (List ℕ)) (first : ℕ) (base : Base) (all scanned : ℕ) (none kept lines : List ℕ) (old mid new : Output) (same : asked ≡ option_map upper area) (nothing : none ≡ [])
+    (printed : PassesOn (none ++ messages_text form asked first base.messages base.cursor (length base.messages)) kept old.contents mid.contents) (counted : all ≡ length base.messages) (at : scanned ≡ base.cursor)
+    (pushed : lines ≡ kept ++ total_text all (all - scanned)) (once : mid.failures ≡ old.failures) where
+  passed : PassesOn (base_text form (option_map upper area) first base.messages base.cursor) lines old.contents mid.contents
+  passed = base_passed form area asked first base.messages base.cursor all all scanned none kept lines old.contents mid.contents same nothing printed counted counted at pushed
 
--- standard output failed at last
-pub base_unlisted : (form : ListForm) (area asked : Option (List ℕ)) (first : ℕ) (base : List ℕ) (messages : List Filed) (cursor all again scanned : ℕ) (none kept lines : List ℕ)
-    (old mid new : Output) (fault : Fault) → IsBaseGiven (Some base) messages cursor → asked ≡ option_map upper area → none ≡ []
-    → PassesOn (none ++ messages_text form asked first messages cursor (length messages)) kept old.contents mid.contents → all ≡ length messages → again ≡ length messages
-    → scanned ≡ cursor → lines ≡ kept ++ total_text all (again - scanned) → WritesFront lines mid.contents new.contents → mid.failures ≡ old.failures
-    → CannotPrint mid.failures new.failures fault → ListAnswers form area first base old new (Err fault)
-base_unlisted form area asked first base messages cursor all again scanned none kept lines old mid new fault given same nothing printed counted recounted at pushed begun once failed =
-    let passed = base_passed form area asked first messages cursor all again scanned none kept lines old.contents mid.contents same nothing printed counted recounted at pushed in
-    inl (
-      inl (subst (λ (n : ℕ). CannotPrint n new.failures fault) once failed),
-      record {
-        lines = base_text form (option_map upper area) first messages cursor;
-        answer = Good;
-        right = right_listing form area first base messages cursor given;
-        begun = begun_after old.contents mid.contents new.contents (base_text form (option_map upper area) first messages cursor) lines passed begun;
-      },
-    )
+  -- all lines of a base went out
+  pub base_listed : Appends mid.contents new.contents lines → PassesAll mid new → IsDone (IsListed form area first base) old new Good
+  base_listed went flushed = record {
+    lines = base_text form (option_map upper area) first base.messages base.cursor;
+    right = right_listing form area first base;
+    written = sent_after old.contents mid.contents new.contents (base_text form (option_map upper area) first base.messages base.cursor) lines passed went;
+    flushed = (flushed.0 ∙ once, flushed.1);
+  }
+
+  -- standard output failed at last
+  pub base_unlisted : (path : List ℕ) (before after : ℕ) (fault : Fault) → WritesFront lines mid.contents new.contents → CannotPrint mid.failures new.failures fault
+      → AnswersReading (IsListed form area first base) path before after old new (Err fault)
+  base_unlisted path before after fault begun failed = (
+    inl (inl (subst (λ (n : ℕ). CannotPrint n new.failures fault) once failed)),
+    record {
+      lines = base_text form (option_map upper area) first base.messages base.cursor;
+      answer = Good;
+      right = right_listing form area first base;
+      begun = begun_after old.contents mid.contents new.contents (base_text form (option_map upper area) first base.messages base.cursor) lines passed begun;
+    },
+  )

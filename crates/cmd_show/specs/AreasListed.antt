@@ -7,6 +7,7 @@ use Rattle.std.specs.List.Sorted.{IsStrictlySortedBy}
 use Rattle.std.specs.Map.{keys_of, lookup}
 use Rattle.echo_export.specs.declared.json_line.State.{State}
 use Rattle.echo_export.specs.declared.json_line.State.TheVariants.{Purged, Scanned, Waiting}
+use Rattle.base_file.specs.Base.{Base}
 use Rattle.echo_filed.specs.Filed.{Filed}
 use Rattle.cmd_print.specs.BaseListed.{is_purged, total_text}
 use Rattle.cmd_show.specs.declared.area_counts.AreaCounts.{AreaCounts}
@@ -48,19 +49,22 @@ pub record AreTagsOf (base : List Filed) (tags : List (List ℕ)) : Type 0 where
 abbrev pub areas_text : List Filed → ℕ → List (List ℕ) → List ℕ
 areas_text base cursor tags = flat_map (λ tag. area_line tag (area_counts base cursor tag)) tags
 
--- The base file has no fault, and these are the lines of the areas of its base, and its last line.
-pub record AreAreasListed (base : List ℕ) (lines : List ℕ) (status : Status) : Type 0 where
-  pub messages : List Filed
-  pub cursor : ℕ
-  pub given : IsBaseGiven (Some base) messages cursor
+-- These are the lines of the areas of a base, and its last line.
+pub record AreListed (base : Base) (lines : List ℕ) (status : Status) : Type 0 where
   pub tags : List (List ℕ)
-  pub are_tags : AreTagsOf messages tags
-  pub printed : lines ≡ areas_text messages cursor tags ++ total_text (length messages) (length messages - cursor)
+  pub are_tags : AreTagsOf base.messages tags
+  pub printed : lines ≡ areas_text base.messages base.cursor tags ++ total_text (length base.messages) (length base.messages - base.cursor)
   pub status_is : status ≡ Good
 
--- The right result if the areas of a base are to be listed.
+-- The base file has no fault, and these are the lines of the areas of its base.
+pub record AreAreasListed (file : List ℕ) (lines : List ℕ) (status : Status) : Type 0 where
+  pub base : Base
+  pub given : IsBaseGiven (Some file) base.messages base.cursor
+  pub listed : AreListed base lines status
+
+-- The right result if the areas of a base file are to be listed.
 abbrev pub ListAreasAnswers : List ℕ → Output → Output → Result Status Fault → Type 0
-ListAreasAnswers base old new answer = Answers (AreAreasListed base) (IsBaseFault (Some base)) old new answer
+ListAreasAnswers file old new answer = Answers (AreAreasListed file) (IsBaseFault (Some file)) old new answer
 
 -- No message was counted.
 abbrev pub no_counts : AreaCounts

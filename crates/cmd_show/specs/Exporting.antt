@@ -4,6 +4,7 @@ use Rattle.echo_export.specs.declared.json_line.State.{State}
 use Rattle.echo_export.specs.declared.json_line.State.TheVariants.{Purged, Scanned, Waiting}
 use Rattle.echo_export.specs.declared.form.Form.{Form}
 use Rattle.echo_export.specs.Forms.{message_lost, message_text}
+use Rattle.base_file.specs.Base.{Base}
 use Rattle.echo_filed.specs.Filed.{Filed}
 use Rattle.echo_links.specs.Links.{upper}
 use Rattle.cmd_print.specs.BaseListed.{is_asked, is_purged}
@@ -56,19 +57,22 @@ sought_lost form area first purged cursor base zero = 0
 sought_lost form area first purged cursor base (suc n) =
     sought_lost form area first purged cursor base n + sought_count form area first purged cursor n (slice_get base n)
 
--- The base file has no fault, these are its messages in this form, and so many U+FFFD were counted in them. The
--- area is asked for in letters of either case.
-pub record IsBaseExported (form : Form) (area : Option (List ℕ)) (first : ℕ) (purged : Bool) (base : List ℕ) (lines : List ℕ) (count : ℕ) : Type 0 where
-  pub messages : List Filed
-  pub cursor : ℕ
-  pub given : IsBaseGiven (Some base) messages cursor
-  pub printed : lines ≡ sought_texts form (option_map upper area) first purged cursor messages (length messages)
-  pub counted : count ≡ sought_lost form (option_map upper area) first purged cursor messages (length messages)
+-- These are the messages of a base in this form, and so many U+FFFD were counted in them. The area is asked for in letters
+-- of either case.
+pub record IsExported (form : Form) (area : Option (List ℕ)) (first : ℕ) (purged : Bool) (base : Base) (lines : List ℕ) (count : ℕ) : Type 0 where
+  pub printed : lines ≡ sought_texts form (option_map upper area) first purged base.cursor base.messages (length base.messages)
+  pub counted : count ≡ sought_lost form (option_map upper area) first purged base.cursor base.messages (length base.messages)
 
--- the right result if a base is to be exported
+-- The base file has no fault, and this is what is printed of its base.
+pub record IsBaseExported (form : Form) (area : Option (List ℕ)) (first : ℕ) (purged : Bool) (file : List ℕ) (lines : List ℕ) (count : ℕ) : Type 0 where
+  pub base : Base
+  pub given : IsBaseGiven (Some file) base.messages base.cursor
+  pub exported : IsExported form area first purged base lines count
+
+-- the right result if a base file is to be exported
 abbrev pub ExportAnswers : Form → Option (List ℕ) → ℕ → Bool → List ℕ → Output → Output → Result ℕ Fault → Type 0
-ExportAnswers form area first purged base old new answer =
-    AnswersInPieces (IsBaseExported form area first purged base) (IsBaseFault (Some base)) old new answer
+ExportAnswers form area first purged file old new answer =
+    AnswersInPieces (IsBaseExported form area first purged file) (IsBaseFault (Some file)) old new answer
 
 -- the line on standard error that reports how many U+FFFD were printed
 abbrev pub lost_line : ℕ → List ℕ

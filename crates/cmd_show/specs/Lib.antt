@@ -9,3 +9,4 @@ pub mod LinksShown
 pub mod Linking
 pub mod Exporting
 pub mod AreasListed
+pub mod Fetching

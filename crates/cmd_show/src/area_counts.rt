@@ -1,17 +1,18 @@
 //! `list --areas`: how many messages of each area a base has.
-ghost use Rattle.std.specs.Prelude.{◌≡◌, ◌<◌, ◌^◌, ◌+◌, ◌++◌, ℕ, List, Some, IfOk, OnOk, option_copied, slice_get, take, length};
+ghost use Rattle.std.specs.Prelude.{◌≡◌, ◌<◌, ◌^◌, ◌+◌, ◌++◌, ℕ, List, IfErr, IfOk, OnOk, option_copied, slice_get, take, length};
 ghost use Rattle.std.specs.List.{flat_map};
+ghost use Rattle.base_file.specs.Base as model;
 ghost use Rattle.cmd_print.specs.BaseListed.{total_text};
-ghost use Rattle.cmd_show.specs.AreasListed.{Ascend, AreWithin, HaveCounts, ListAreasAnswers, area_line, counted_more, counts_of, counts_text};
+ghost use Rattle.cmd_show.specs.AreasListed.{AreListed, Ascend, AreWithin, HaveCounts, ListAreasAnswers, area_line, counted_more, counts_of, counts_text};
+ghost use Rattle.base_folder.specs.Fetching.{CannotRead, IsUnread};
 ghost use Rattle.cmd_status.specs.declared.status.Status.TheVariants.{Good};
 ghost use Rattle.cmd_status.specs.Devices.{output_of};
 ghost use Rattle.cmd_status.specs.Ended.{Answers};
-ghost use Rattle.cmd_status.specs.Inputs.{IsBaseGiven};
-ghost use Rattle.echo_filed.specs.Filed as model;
+ghost use Rattle.echo_filed.specs.Filed as filed;
 
 use crate::exporting::state_of;
 use crate::listing::base_read;
-use base_file::Base;
+use base_folder::{BaseReader, MessageSource, fetch_message};
 use cmd_print::push_base_total;
 use cmd_status::{Fault, Status, print_rest};
 use disk_io::Sink;
@@ -43,40 +44,53 @@ pub fn list_areas<'a, S: BuildHasher + Drop, W: Sink>(
     ensures { ListAreasAnswers base.now (output_of W.contents W.failures W.holds out.old) (output_of W.contents W.failures W.holds out.new) result }
 {
     let base = base_read(alloc, base, hasher)?;
-    list_areas_read(alloc, &base, out)
+    let mut messages = BaseReader::new(base);
+    list_areas_of(alloc, "", &mut messages, out)
 }
 
-// The same of a base that is read.
-fn list_areas_read<'a, S: BuildHasher, W: Sink>(
+/// The same of messages that are read one by one, of the base with this path.
+pub fn list_areas_of<'a, M: MessageSource, W: Sink>(
     alloc: Global,
-    base: &Base<S>,
+    path: &'a str,
+    messages: &mut M,
     out: &mut W,
 ) -> Result<Status, Fault<'a>>
-    ensures { (bytes : List ℕ) → IsBaseGiven (Some bytes) base.now.messages base.now.cursor
-        → ListAreasAnswers bytes (output_of W.contents W.failures W.holds out.old) (output_of W.contents W.failures W.holds out.new) result }
+    requires { (M.state messages.old).is_ready }
+    ensures { (M.state messages.new).is_honest → (base : model.Base) → (M.state messages.old).holds base
+        → Answers (AreListed base) (CannotRead path.now (M.state messages.old).failures (M.state messages.new).failures)
+        (output_of W.contents W.failures W.holds out.old) (output_of W.contents W.failures W.holds out.new) result }
 {
-    let counts = count_areas(alloc, base)?;
-    print_areas(alloc, counts, base.len(), base.len() - base.cursor(), out)
+    let count = messages.count();
+    let scanned = messages.cursor();
+    let counts = count_areas(alloc, path, messages)?;
+    print_areas(alloc, counts, count, count.saturating_sub(scanned), out)
 }
 
 // The counts of each area.
-fn count_areas<S: BuildHasher>(
+fn count_areas<'a, M: MessageSource>(
     alloc: Global,
-    base: &Base<S>,
-) -> Result<BTreeMap<Vec<u8>, AreaCounts>, AllocError>
-    ensures counts { IfOk result (λ counts. HaveCounts (λ key. key.items) counts.entries base.now.messages base.now.cursor) }
+    path: &'a str,
+    messages: &mut M,
+) -> Result<BTreeMap<Vec<u8>, AreaCounts>, Fault<'a>>
+    requires { (M.state messages.old).is_ready }
+    ensures counts { (M.state messages.new).is_honest → (base : model.Base) → (M.state messages.old).holds base
+        → IfOk result (λ counts. HaveCounts (λ key. key.items) counts.entries base.messages base.cursor) }
     ensures ascending { IfOk result (λ counts. Ascend (λ key. key.items) counts.entries) }
+    ensures fault { (M.state messages.new).is_honest → (base : model.Base) → (M.state messages.old).holds base
+        → IfErr result (IsUnread path.now (M.state messages.old).failures (M.state messages.new).failures) }
 {
-    let cursor = base.cursor();
+    let count = messages.count();
+    let cursor = messages.cursor();
     let mut counts = BTreeMap::new(alloc);
-    'messages: for i in 0..base.len() {
-        note_message(alloc, &mut counts, cursor, i, base.message(i))?;
+    'messages: for i in 0..count {
+        fetch_message(messages, path, i)?;
+        note_message(alloc, &mut counts, cursor, i, messages.at_hand())?;
     }
     Ok(counts)
 }
 
-/// Counts the message of this number, if there is one.
-pub(crate) fn note_message(
+// Counts the message of this number, if there is one.
+fn note_message(
     alloc: Global,
     counts: &mut BTreeMap<Vec<u8>, AreaCounts>,
     cursor: usize,
@@ -86,7 +100,7 @@ pub(crate) fn note_message(
     requires room { i + 1 < 2 ^ 64 }
     requires within { (tag : List ℕ) → AreWithin i (counts_of (λ key. key.items) counts.old.entries tag) }
     requires ascending { Ascend (λ key. key.items) counts.old.entries }
-    ensures counts { OnOk result ((base : List model.Filed) → option_copied message.entry ≡ slice_get base i → i < length base
+    ensures counts { OnOk result ((base : List filed.Filed) → option_copied message.entry ≡ slice_get base i → i < length base
         → HaveCounts (λ key. key.items) counts.old.entries (take i base) cursor → HaveCounts (λ key. key.items) counts.new.entries (take (i + 1) base) cursor) }
     ensures within { OnOk result ((tag : List ℕ) → AreWithin (i + 1) (counts_of (λ key. key.items) counts.new.entries tag)) }
     ensures ascending { OnOk result (Ascend (λ key. key.items) counts.new.entries) }
@@ -149,8 +163,8 @@ fn counted_more(counts: AreaCounts, state: State) -> AreaCounts
     }
 }
 
-/// Prints a line for each entry, and the last line of a base of so many messages, of which so many wait.
-pub(crate) fn print_areas<'a, W: Sink>(
+// Prints a line for each entry, and the last line of a base of so many messages, of which so many wait.
+fn print_areas<'a, W: Sink>(
     alloc: Global,
     counts: BTreeMap<Vec<u8>, AreaCounts>,
     messages: usize,

@@ -1,13 +1,14 @@
 //! The command `export`: the messages of a base for other programs.
-ghost use Rattle.std.specs.Prelude.{List, ℕ, Some, ◌≡◌, ◌<◌, ◌^◌, ◌++◌, IfErr, IfOk, OnOk, OnErr, length, option_copied};
+ghost use Rattle.std.specs.Prelude.{◌≡◌, ◌<◌, ◌^◌, ◌++◌, IfErr, IfOk, OnOk, OnErr, length, option_copied};
+ghost use Rattle.base_file.specs.Base as model;
 ghost use Rattle.cmd_status.specs.Devices.{output_of};
 ghost use Rattle.cmd_status.specs.Ended.{Stops};
-ghost use Rattle.cmd_status.specs.Inputs.{IsBaseGiven};
 ghost use Rattle.cmd_status.specs.Lines.{PassesOn, WritesFront};
-ghost use Rattle.cmd_show.specs.Exporting.{ExportAnswers, is_exported, is_sought, lost_line, sought_count, sought_lost, sought_text, sought_texts, state_of};
+ghost use Rattle.cmd_show.specs.Exporting.{ExportAnswers, IsExported, is_exported, is_sought, lost_line, sought_count, sought_lost, sought_text, sought_texts, state_of};
+ghost use Rattle.cmd_show.specs.Fetching.{AnswersReading, StopsReading};
 
 use crate::listing::{base_read, is_of_area, upper_tag};
-use base_file::Base;
+use base_folder::{BaseReader, MessageSource, begin_at, fetch_message};
 use cmd_status::{Fault, pass_on, print_rest};
 use disk_io::Sink;
 use echo_addr::Items;
@@ -28,13 +29,13 @@ pub struct ExportQuery<'a> {
     pub purged: bool,
 }
 
-/// The same with the tag in capital letters.
+// The same with the tag in capital letters.
 #[derive(Drop)]
-pub(crate) struct Sought {
-    pub(crate) form: Form,
-    pub(crate) area: Option<Items<u8>>,
-    pub(crate) first: u64,
-    pub(crate) purged: bool,
+struct Sought {
+    form: Form,
+    area: Option<Items<u8>>,
+    first: u64,
+    purged: bool,
 }
 
 /// `export [--area TAG] [--from I] [--purged] [--mbox | --json] BASE`: prints the messages that are asked for in a form.
@@ -50,18 +51,23 @@ pub fn export<'a, S: BuildHasher + Drop, W: Sink>(
     ensures { ExportAnswers asked.now.form (option_copied asked.now.area) asked.now.first asked.now.purged base.now (output_of W.contents W.failures W.holds out.old) (output_of W.contents W.failures W.holds out.new) result }
 {
     let base = base_read(alloc, base, hasher)?;
-    export_read(alloc, asked, &base, out)
+    let mut messages = BaseReader::new(base);
+    export_messages(alloc, asked, "", &mut messages, out)
 }
 
-// The same of a base that is read.
-fn export_read<'a, S: BuildHasher, W: Sink>(
+/// The same of messages that are read one by one, of the base with this path. A fault of a message ends it where it
+/// comes: `look` of a base folder finds it before.
+pub fn export_messages<'a, M: MessageSource, W: Sink>(
     alloc: Global,
     asked: &ExportQuery<'_>,
-    base: &Base<S>,
+    path: &'a str,
+    messages: &mut M,
     out: &mut W,
 ) -> Result<u128, Fault<'a>>
-    ensures { (bytes : List ℕ) → IsBaseGiven (Some bytes) base.now.messages base.now.cursor
-        → ExportAnswers asked.now.form (option_copied asked.now.area) asked.now.first asked.now.purged bytes (output_of W.contents W.failures W.holds out.old) (output_of W.contents W.failures W.holds out.new) result }
+    requires { (M.state messages.old).is_ready }
+    ensures { (M.state messages.new).is_honest → (base : model.Base) → (M.state messages.old).holds base
+        → AnswersReading (IsExported asked.now.form (option_copied asked.now.area) asked.now.first asked.now.purged base) path.now (M.state messages.old).failures (M.state messages.new).failures
+        (output_of W.contents W.failures W.holds out.old) (output_of W.contents W.failures W.holds out.new) result }
 {
     let area = upper_tag(alloc, asked.area)?;
     let sought = Sought {
@@ -71,7 +77,7 @@ fn export_read<'a, S: BuildHasher, W: Sink>(
         purged: asked.purged,
     };
     let mut lines = Vec::new(alloc);
-    let count = print_sought(alloc, &sought, base, &mut lines, out)?;
+    let count = print_sought(alloc, &sought, path, messages, &mut lines, out)?;
     print_rest(&mut lines, out)?;
     Ok(count)
 }
@@ -98,31 +104,38 @@ fn push_lost(line: &mut Vec<u8>, count: u128) -> Result<(), AllocError>
 
 // Prints the messages that are asked for, and counts the U+FFFD in them; the last ones stay in
 // `lines`.
-fn print_sought<'a, S: BuildHasher, W: Sink>(
+fn print_sought<'a, M: MessageSource, W: Sink>(
     alloc: Global,
     sought: &Sought,
-    base: &Base<S>,
+    path: &'a str,
+    messages: &mut M,
     lines: &mut Vec<u8>,
     out: &mut W,
 ) -> Result<u128, Fault<'a>>
-    ensures lines { OnOk result (PassesOn (lines.old.items ++ sought_texts sought.now.form sought.now.area sought.now.first sought.now.purged base.now.cursor base.now.messages (length base.now.messages)) lines.new.items (W.contents out.old) (W.contents out.new)) }
-    ensures count { IfOk result (λ n. n ≡ sought_lost sought.now.form sought.now.area sought.now.first sought.now.purged base.now.cursor base.now.messages (length base.now.messages)) }
-    ensures begun { OnErr result (WritesFront (lines.old.items ++ sought_texts sought.now.form sought.now.area sought.now.first sought.now.purged base.now.cursor base.now.messages (length base.now.messages)) (W.contents out.old) (W.contents out.new)) }
+    requires { (M.state messages.old).is_ready }
+    ensures lines { (M.state messages.new).is_honest → (base : model.Base) → (M.state messages.old).holds base
+        → OnOk result (PassesOn (lines.old.items ++ sought_texts sought.now.form sought.now.area sought.now.first sought.now.purged base.cursor base.messages (length base.messages)) lines.new.items (W.contents out.old) (W.contents out.new)) }
+    ensures count { (M.state messages.new).is_honest → (base : model.Base) → (M.state messages.old).holds base
+        → IfOk result (λ n. n ≡ sought_lost sought.now.form sought.now.area sought.now.first sought.now.purged base.cursor base.messages (length base.messages)) }
+    ensures begun { (M.state messages.new).is_honest → (base : model.Base) → (M.state messages.old).holds base
+        → OnErr result (WritesFront (lines.old.items ++ sought_texts sought.now.form sought.now.area sought.now.first sought.now.purged base.cursor base.messages (length base.messages)) (W.contents out.old) (W.contents out.new)) }
     ensures ok { OnOk result (W.failures out.new ≡ W.failures out.old) }
-    ensures err { IfErr result (Stops (W.failures out.old) (W.failures out.new)) }
+    ensures err { (M.state messages.new).is_honest → (base : model.Base) → (M.state messages.old).holds base
+        → IfErr result (StopsReading path.now (M.state messages.old).failures (M.state messages.new).failures (W.failures out.old) (W.failures out.new)) }
 {
-    let cursor = base.cursor();
-    let mut count: u128 = 0;
-    'messages: for i in 0..base.len() {
-        let message = base.message(i);
-        let more = print_one(alloc, sought, cursor, i, message, lines, out)?;
-        count += more as u128;
+    let count = messages.count();
+    let cursor = messages.cursor();
+    let mut lost: u128 = 0;
+    'messages: for i in begin_at(sought.first, count)..count {
+        fetch_message(messages, path, i)?;
+        let more = print_one(alloc, sought, cursor, i, messages.at_hand(), lines, out)?;
+        lost += more as u128;
     }
-    Ok(count)
+    Ok(lost)
 }
 
-/// Prints the message of this number, if it is asked for, and counts the U+FFFD in it.
-pub(crate) fn print_one<'a, W: Sink>(
+// Prints the message of this number, if it is asked for, and counts the U+FFFD in it.
+fn print_one<'a, W: Sink>(
     alloc: Global,
     sought: &Sought,
     cursor: usize,

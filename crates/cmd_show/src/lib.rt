@@ -10,10 +10,9 @@
 //! command reads, which fault comes first, and which of those lines it writes.
 //!
 //! Begin with `showing` (a packet). Each module is named for its command. `nodelists` has `nodelist`. `linking` and
-//! `links_text` have `links`: link files one by one, and their lines. `listing` and `folder_listing` have `list`, for a
-//! base file and for a base folder. `area_counts` and `folder_areas` have `list --areas`, how many messages each area
-//! has. `exporting` and `folder_exporting` have `export`, for other programs. Of a base folder a command reads only the
-//! messages asked for. `laws` has what holds of the definitions.
+//! `links_text` have `links`: link files one by one, and their lines. `listing` has `list`, `area_counts` has
+//! `list --areas`, how many messages each area has, and `exporting` has `export`, for other programs. These three go over
+//! any base, message by message, from the first one asked for. `laws` has what holds of the definitions.
 //!
 //! For the faults of a link file: `judged` (the whole file), `before` (each line, by the good lines before it), `words`
 //! (the faulty word), `tags` (the tags of earlier lines), `faulty` (a faulty line) and `link_laws` (the promise).
@@ -23,9 +22,6 @@ mod area_counts;
 mod before;
 mod exporting;
 mod faulty;
-mod folder_areas;
-mod folder_exporting;
-mod folder_listing;
 mod judged;
 mod laws;
 mod link_laws;
@@ -37,17 +33,14 @@ mod showing;
 mod tags;
 mod words;
 
-pub use area_counts::{AreaCounts, list_areas};
-pub use exporting::{ExportQuery, export, tell_lost};
+pub use area_counts::{AreaCounts, list_areas, list_areas_of};
+pub use exporting::{ExportQuery, export, export_messages, tell_lost};
 pub use faulty::FaultyLine;
-pub use folder_areas::list_areas_seen;
-pub use folder_exporting::export_seen;
-pub use folder_listing::{begin_at, judge_messages, list_seen};
 pub use judged::{Judged, judge};
 pub use laws::one_printing;
 pub use link_laws::first_fault_is_told_first;
 pub use linking::{NamedFile, links};
 pub use links_text::{fault_number, push_number};
-pub use listing::{Asked, list, print_message, upper_tag};
+pub use listing::{ListQuery, list, list_messages};
 pub use nodelists::nodelist;
 pub use showing::show;

@@ -1,14 +1,17 @@
 //! The command `list`: the messages of a base.
-ghost use Rattle.std.specs.Prelude.{List, ℕ, ◌≡◌, ◌⊎◌, ◌++◌, IfErr, IfOk, Some, OnOk, OnErr, length, option_copied, option_map};
+ghost use Rattle.std.specs.Prelude.{◌≡◌, ◌⊎◌, ◌++◌, IfErr, IfOk, Some, OnOk, OnErr, length, option_copied, option_map};
+ghost use Rattle.base_file.specs.Base as model;
 ghost use Rattle.cmd_status.specs.Devices.{output_of};
 ghost use Rattle.echo_links.specs.Links.{upper};
-ghost use Rattle.cmd_show.specs.Listing.{ListAnswers};
 ghost use Rattle.cmd_print.specs.BaseListed.{asked_text, is_asked, is_of_area, messages_text};
+ghost use Rattle.cmd_show.specs.Fetching.{AnswersReading, StopsReading};
+ghost use Rattle.cmd_show.specs.Listing.{IsListed, ListAnswers};
 ghost use Rattle.cmd_status.specs.Ended.{IsOutOfMemory, Stops};
 ghost use Rattle.cmd_status.specs.Inputs.{IsBaseFault, IsBaseGiven};
 ghost use Rattle.cmd_status.specs.Lines.{PassesOn, WritesFront};
 
 use base_file::Base;
+use base_folder::{BaseReader, MessageSource, begin_at, fetch_message};
 use cmd_print::{ListForm, push_base_total, push_listed};
 use cmd_status::{Fault, Status, pass_on, print_rest};
 use disk_io::Sink;
@@ -17,13 +20,20 @@ use echo_filed::Filed;
 use std::alloc::{AllocError, Global};
 use std::hash::BuildHasher;
 
-/// Which messages of a base are listed, and how: those of the area where one is given, in capital letters, from the
-/// number `first` on.
-#[derive(Debug, Drop)]
-pub struct Asked {
+/// Which messages of a base are listed, and how: those of the area, if one is given, from the number `first` on.
+#[derive(Clone, Copy)]
+pub struct ListQuery<'a> {
     pub form: ListForm,
-    pub area: Option<Items<u8>>,
+    pub area: Option<&'a [u8]>,
     pub first: u64,
+}
+
+// The same with the tag in capital letters.
+#[derive(Drop)]
+struct Asked {
+    form: ListForm,
+    area: Option<Items<u8>>,
+    first: u64,
 }
 
 /// `list [--short] [--area TAG] [--from I] BASE`: prints the messages of a base in a form, from the number `first` on.
@@ -31,36 +41,43 @@ pub struct Asked {
 /// faulty base nothing is printed.
 pub fn list<'a, S: BuildHasher + Drop, W: Sink>(
     alloc: Global,
-    form: ListForm,
-    area: Option<&[u8]>,
-    first: u64,
+    asked: &ListQuery<'_>,
     base: &[u8],
     hasher: S,
     out: &mut W,
 ) -> Result<Status, Fault<'a>>
-    ensures { ListAnswers form (option_copied area.entry) first base.now (output_of W.contents W.failures W.holds out.old) (output_of W.contents W.failures W.holds out.new) result }
+    ensures { ListAnswers asked.now.form (option_copied asked.now.area) asked.now.first base.now (output_of W.contents W.failures W.holds out.old) (output_of W.contents W.failures W.holds out.new) result }
 {
     let base = base_read(alloc, base, hasher)?;
-    list_read(alloc, form, area, first, &base, out)
+    let mut messages = BaseReader::new(base);
+    list_messages(alloc, asked, "", &mut messages, out)
 }
 
-// The same of a base that is read: owned values have no exit but the end.
-fn list_read<'a, S: BuildHasher, W: Sink>(
+/// The same of messages that are read one by one, of the base with this path. A fault of a message ends it where it
+/// comes: `look` of a base folder finds it before.
+pub fn list_messages<'a, M: MessageSource, W: Sink>(
     alloc: Global,
-    form: ListForm,
-    area: Option<&[u8]>,
-    first: u64,
-    base: &Base<S>,
+    asked: &ListQuery<'_>,
+    path: &'a str,
+    messages: &mut M,
     out: &mut W,
 ) -> Result<Status, Fault<'a>>
-    ensures { (bytes : List ℕ) → IsBaseGiven (Some bytes) base.now.messages base.now.cursor
-        → ListAnswers form (option_copied area.entry) first bytes (output_of W.contents W.failures W.holds out.old) (output_of W.contents W.failures W.holds out.new) result }
+    requires { (M.state messages.old).is_ready }
+    ensures { (M.state messages.new).is_honest → (base : model.Base) → (M.state messages.old).holds base
+        → AnswersReading (IsListed asked.now.form (option_copied asked.now.area) asked.now.first base) path.now (M.state messages.old).failures (M.state messages.new).failures
+        (output_of W.contents W.failures W.holds out.old) (output_of W.contents W.failures W.holds out.new) result }
 {
-    let area = upper_tag(alloc, area)?;
-    let asked = Asked { form, area, first };
+    let area = upper_tag(alloc, asked.area)?;
+    let asked = Asked {
+        form: asked.form,
+        area,
+        first: asked.first,
+    };
+    let count = messages.count();
+    let scanned = messages.cursor();
     let mut lines = Vec::new(alloc);
-    print_messages(&asked, base, &mut lines, out)?;
-    push_base_total(&mut lines, base.len(), base.len() - base.cursor())?;
+    print_messages(&asked, path, messages, &mut lines, out)?;
+    push_base_total(&mut lines, count, count.saturating_sub(scanned))?;
     print_rest(&mut lines, out)?;
     Ok(Status::Good)
 }
@@ -78,7 +95,7 @@ pub(crate) fn base_read<'a, S: BuildHasher + Drop>(
 }
 
 /// The tag in capital letters, if one is given.
-pub fn upper_tag(alloc: Global, area: Option<&[u8]>) -> Result<Option<Items<u8>>, AllocError>
+pub(crate) fn upper_tag(alloc: Global, area: Option<&[u8]>) -> Result<Option<Items<u8>>, AllocError>
     ensures { IfOk result (λ upper_tag. upper_tag ≡ option_map upper (option_copied area.entry)) }
 {
     match area {
@@ -88,26 +105,33 @@ pub fn upper_tag(alloc: Global, area: Option<&[u8]>) -> Result<Option<Items<u8>>
 }
 
 // Prints the lines of the messages that are asked for; the last ones stay in `lines`.
-fn print_messages<'a, S: BuildHasher, W: Sink>(
+fn print_messages<'a, M: MessageSource, W: Sink>(
     asked: &Asked,
-    base: &Base<S>,
+    path: &'a str,
+    messages: &mut M,
     lines: &mut Vec<u8>,
     out: &mut W,
 ) -> Result<(), Fault<'a>>
-    ensures lines { OnOk result (PassesOn (lines.old.items ++ messages_text asked.now.form asked.now.area asked.now.first base.now.messages base.now.cursor (length base.now.messages)) lines.new.items (W.contents out.old) (W.contents out.new)) }
-    ensures begun { OnErr result (WritesFront (lines.old.items ++ messages_text asked.now.form asked.now.area asked.now.first base.now.messages base.now.cursor (length base.now.messages)) (W.contents out.old) (W.contents out.new)) }
+    requires { (M.state messages.old).is_ready }
+    ensures lines { (M.state messages.new).is_honest → (base : model.Base) → (M.state messages.old).holds base
+        → OnOk result (PassesOn (lines.old.items ++ messages_text asked.now.form asked.now.area asked.now.first base.messages base.cursor (length base.messages)) lines.new.items (W.contents out.old) (W.contents out.new)) }
+    ensures begun { (M.state messages.new).is_honest → (base : model.Base) → (M.state messages.old).holds base
+        → OnErr result (WritesFront (lines.old.items ++ messages_text asked.now.form asked.now.area asked.now.first base.messages base.cursor (length base.messages)) (W.contents out.old) (W.contents out.new)) }
     ensures ok { OnOk result (W.failures out.new ≡ W.failures out.old) }
-    ensures err { IfErr result (Stops (W.failures out.old) (W.failures out.new)) }
+    ensures err { (M.state messages.new).is_honest → (base : model.Base) → (M.state messages.old).holds base
+        → IfErr result (StopsReading path.now (M.state messages.old).failures (M.state messages.new).failures (W.failures out.old) (W.failures out.new)) }
 {
-    let cursor = base.cursor();
-    'messages: for i in 0..base.len() {
-        print_message(asked, cursor, i, base.message(i), lines, out)?;
+    let count = messages.count();
+    let cursor = messages.cursor();
+    'messages: for i in begin_at(asked.first, count)..count {
+        fetch_message(messages, path, i)?;
+        print_message(asked, cursor, i, messages.at_hand(), lines, out)?;
     }
     Ok(())
 }
 
-/// Prints the lines of the message of this number, if it is asked for, behind those that were kept back.
-pub fn print_message<'a, W: Sink>(
+// Prints the lines of the message of this number, if it is asked for, behind those that were kept back.
+fn print_message<'a, W: Sink>(
     asked: &Asked,
     cursor: usize,
     i: usize,

@@ -231,12 +231,8 @@ pub fn by_name<'a>(at: Station<'a>, fault: Fault<'a>) -> Fault<'a> {
 
 // The fault of a base folder that has a damaged message.
 fn damaged_in<'a>(rt: &HostRuntime, base: &'a str) -> Fault<'a> {
-    match look_into(rt, base, 0) {
-        Ok(seen) => match seen.as_file::<SipDigest>(rt.alloc()) {
-            Ok(_) => Fault::CannotUse(base),
-            Err(BaseFault::Memory) => Fault::OutOfMemory,
-            Err(fault) => Fault::Base(fault),
-        },
+    match look_into(rt, base, 0, None) {
+        Ok(_) => Fault::CannotUse(base),
         Err(fault) => fault,
     }
 }

@@ -8,15 +8,14 @@ use Rattle.disk_io.proofs.Moments.{then_nothing, then_run, weaker_run}
 use Rattle.base_store.specs.Store.{CommitsNothing, HasStoreCause, IsSameStore, KeepsBeside, LooksOn, MayCommit, SameBesideStore, LeavesEither, LeavesCommitted, StoreState}
 use Rattle.base_store.proofs.Runs.{same_store}
 use Rattle.cmd_store.specs.Answered.{HasCommitted, MayMake, StandsForMade, StaysWhereMet}
-use Rattle.cmd_store.specs.Bounded.{StaysTooMany}
+use Rattle.cmd_store.specs.Bounded.{IsPast, StaysTooMany}
 use Rattle.cmd_store.specs.Stops.{store_answer}
 use Rattle.cmd_store.specs.declared.command_error.CommandError.{CommandError}
 use Rattle.cmd_store.specs.declared.command_error.CommandError.TheVariants.{Met, Store}
 use Rattle.station.specs.Opening.{IsOpenFor}
 use Rattle.station.specs.Place.{IsOfPlace, KeepsElsewhere, Place, SameElsewhere, StandsAlone, StandsOrWasLeft}
 use Rattle.echo_filed.specs.Filed.{Filed}
-use Rattle.echo_toss.specs.Bounds.{IsPastBound}
-use Rattle.station.specs.Running.{IsKept, IsRunOn, MadeOrWasLeft, StandsAsBefore, StandsWhereMet, UnlessHeld}
+use Rattle.station.specs.Running.{IsKept, IsRunOn, MadeOrWasLeft, StandsAsBefore, StandsWhereMet}
 
 same_seen : (a b : DiskState) → ChangesNothing a b → a.seen ≡ b.seen
 same_seen a b quiet =
@@ -63,9 +62,9 @@ module _ (place : Place) (d0 : DiskState) (s0 s1 : StoreState) (looks : LooksOn 
   }
 
 -- why the store held too much
-pub past_unless : {T : Type 0} (state : T → StoreState) (Adds : Base → Filed → Type 0) (held : Bool) (old new : StoreState) → StaysTooMany held state Adds old new → UnlessHeld held (IsPastBound state Adds old)
-past_unless state Adds false old new stays = stays.past
-past_unless state Adds true old new stays = tt
+pub past_of : {T : Type 0} (state : T → StoreState) (Adds : Base → Filed → Type 0) (May : Base → Base → Type 0) (held : Bool) (old new : StoreState) → StaysTooMany held state Adds May old new → IsPast held state Adds May old
+past_of state Adds May false old new stays = stays.past
+past_of state Adds May true old new stays = stays.past
 
 module _ (place : Place) (d0 d2 : DiskState) (s0 s1 : StoreState) (begun : IsOpenFor place d0 s0) (of : IsOfPlace place d0 s0) (quiet : ChangesNothing s1.disk d2) where
   outside_store : (c : Files) → SameBesideStore s0 c → SameElsewhere place d0 c
@@ -105,9 +104,9 @@ module _ (place : Place) (d0 d2 : DiskState) (s0 s1 : StoreState) (begun : IsOpe
         (λ c s. inl (record { elsewhere = outside_store c s.beside; stands = (of.stands base c).0 (⊎_elim (λ was. was) (λ is. is) s.stands) }))
 
     -- the same where the store held too much
-    pub refused_run : {T : Type 0} (state : T → StoreState) (Adds : Base → Filed → Type 0) (held : Bool) → s1.disk.is_honest → StaysTooMany held state Adds s0 s1 → LeavesOnly d0 d2 (StandsOrWasLeft place d0 base)
-    refused_run state Adds false honest stays = then_nothing d0 s1.disk d2 (StandsOrWasLeft place d0 base) (none_run honest stays.commits) quiet
-    refused_run state Adds true honest stays = then_nothing d0 s1.disk d2 (StandsOrWasLeft place d0 base) (may_run honest stays) quiet
+    pub refused_run : {T : Type 0} (state : T → StoreState) (Adds : Base → Filed → Type 0) (May : Base → Base → Type 0) (held : Bool) → s1.disk.is_honest → StaysTooMany held state Adds May s0 s1 → LeavesOnly d0 d2 (StandsOrWasLeft place d0 base)
+    refused_run state Adds May false honest stays = then_nothing d0 s1.disk d2 (StandsOrWasLeft place d0 base) (none_run honest stays.commits) quiet
+    refused_run state Adds May true honest stays = then_nothing d0 s1.disk d2 (StandsOrWasLeft place d0 base) (may_run honest stays.commits) quiet
 
     met_may : {A : Type 0} (held : Bool) (result : Result A CommandError) → s1.disk.is_honest → IfErr result (StaysWhereMet held s0 s1) → IfErr result (StandsWhereMet place d0 d2 base)
     met_may held (Ok done) honest may = tt

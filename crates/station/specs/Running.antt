@@ -11,7 +11,7 @@ use Rattle.base_store.specs.declared.store_error.StoreError.TheVariants.{Damaged
 use Rattle.cmd_store.specs.declared.command_error.CommandError.{CommandError}
 use Rattle.cmd_store.specs.declared.command_error.CommandError.TheVariants.{Met, Store}
 use Rattle.echo_filed.specs.Filed.{Filed}
-use Rattle.echo_toss.specs.Bounds.{IsPastBound}
+use Rattle.cmd_store.specs.Bounded.{IsPast}
 use Rattle.station.specs.Opening.{IsOpenFor}
 use Rattle.station.specs.Place.{IsOfPlace, Place, SameElsewhere, StandsOrWasLeft}
 
@@ -80,17 +80,12 @@ RunsIn IsAnswer Makes May place Reads Shut Stops failed old new old_out new_out 
     IsRun IsAnswer Makes May place Reads failed old new result
     ⊎ (IsNotRun place Shut old new old_out new_out result ⊎ IsStopped place Stops old new old_out new_out result)
 
--- This is so, unless the command may commit what the store held before.
-abbrev pub UnlessHeld : Bool → Type 0 → Type 0
-UnlessHeld false IsSo = IsSo
-UnlessHeld true IsSo = Unit {0}
-
 -- The store of the station held too much for a command that may add these messages. A crash leaves the base from before.
-pub record IsRefusedFull {K : Type 0} (state : K → StoreState) (held : Bool) (Adds : LinkFile → Base → Filed → Type 0) (place : Place) (Reads : LinkFile → Type 0) (old new : DiskState) : Type 0 where
+pub record IsRefusedFull {K : Type 0} (state : K → StoreState) (held : Bool) (Adds : LinkFile → Base → Filed → Type 0) (May : LinkFile → Base → Base → Type 0) (place : Place) (Reads : LinkFile → Type 0) (old new : DiskState) : Type 0 where
   pub file : LinkFile
   pub read : Reads file
   pub kept : K
   pub begun : IsOpenFor place old (state kept)
   pub of_place : IsOfPlace place old (state kept)
-  pub past : UnlessHeld held (IsPastBound state (Adds file) (state kept))
+  pub past : IsPast held state (Adds file) (May file) (state kept)
   pub crash : (base : Base) → place.stands_for base old.seen → LeavesOnly old new (StandsOrWasLeft place old base)

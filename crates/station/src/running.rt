@@ -58,7 +58,7 @@ pub fn run_command<
         failed (D.state disk) (D.state result.disk)
         (output_of W.contents W.failures W.holds out.old) (output_of W.contents W.failures W.holds out.new) result.done) }
     ensures many { Honestly (D.state result.disk) (IsErrOf result.done (Store TooMany)
-        → IsRefusedFull P.Kept.state (C.commits_held command.old) (C.adds command.old) (P.place station) (P.reads station (D.state disk)) (D.state disk) (D.state result.disk)) }
+        → IsRefusedFull P.Kept.state (C.commits_held command.old) (C.adds command.old) (C.may command.old command.new) (P.place station) (P.reads station (D.state disk)) (D.state disk) (D.state result.disk)) }
     ensures elsewhere { KeepsElsewhere (P.place station) (D.state disk) (D.state result.disk) }
     ensures passed { OnOk result.done (Q.lets before.old) }
 {

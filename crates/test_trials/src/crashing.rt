@@ -174,14 +174,11 @@ fn found_after(alloc: Global, links: &LinkFile, case: &Case, cut: Cut) -> Result
     let tears = tears(alloc, cut.bytes as usize, cut.way)?;
     let disk = disk_with(alloc, &case.files, tears)?;
     let (disk, ended) = run_after_crash(alloc, disk, links, case.stopped, cut.calls)?;
-    let mut disk = disk;
-    let first = file_after_crash(alloc, &mut disk)?;
+    let (disk, first) = file_after_crash(alloc, disk)?;
     let (disk, _ended) = run_after_crash(alloc, disk, links, case.next, cut.again)?;
-    let mut disk = disk;
-    let second = file_after_crash(alloc, &mut disk)?;
+    let (disk, second) = file_after_crash(alloc, disk)?;
     let (disk, next_ended) = run_after_crash(alloc, disk, links, case.next, u64::MAX)?;
-    let mut disk = disk;
-    let third = file_after_crash(alloc, &mut disk)?;
+    let (_disk, third) = file_after_crash(alloc, disk)?;
     Ok(Found {
         first,
         second,

@@ -5,7 +5,7 @@ ghost use Rattle.test_crashes.specs.declared.folders.TheConstants.{FOLDER};
 
 use crate::commands::{Job, run};
 use anyhow::{Result, bail};
-use base_folder::{OpenError, open_own, read_snapshot};
+use base_folder::{OpenError, file_of, open_own, read_folder};
 use base_folder_store::FolderStore;
 use base_store::{SipDigest, Store, StoreError};
 use cmd_store::CommandError;
@@ -89,12 +89,14 @@ pub(crate) fn run_after_crash(
     Ok(ran)
 }
 
-/// Crashes, and answers the base file of what the folder has then.
-pub(crate) fn file_after_crash(alloc: Global, disk: &mut MemoryDisk) -> Result<Vec<u8>> {
+/// Crashes, and answers the disk and the base file of what the folder has then.
+pub(crate) fn file_after_crash(alloc: Global, disk: MemoryDisk) -> Result<(MemoryDisk, Vec<u8>)> {
+    let mut disk = disk;
     disk.crash(u64::MAX)?;
-    let seen = match read_snapshot(alloc, disk, FOLDER, false, 0) {
-        Ok(seen) => seen,
+    let mut messages = match read_folder::<_, SipDigest, _>(alloc, disk, FOLDER, false, 0, &()) {
+        Ok(messages) => messages,
         Err(why) => bail!("not read: {why}"),
     };
-    Ok(seen.as_file::<SipDigest>(alloc)?)
+    let file = file_of(alloc, &mut messages)?;
+    Ok((messages.into_disk(), file))
 }

@@ -1,46 +1,108 @@
-use Rattle.std.proofs.Common.{ℕ, ◌+◌, ◌≤◌, ◌++◌, ◌∙◌, ap, arith, length, option_copied, refl, subst}
-use Rattle.std.specs.Prelude.{slice_get}
-use Rattle.cmd_status.specs.Lines.{PassesOn, WritesFront}
-use Rattle.cmd_status.proofs.Lines.{none_added}
-use Rattle.cmd_show.specs.Exporting.{sought_count, sought_text, sought_texts}
-use Rattle.cmd_show.proofs.Exportings.{lost_more, one_begun, one_printed, texts_more}
+use Rattle.std.proofs.Common.{◌≡◌, ◌∙◌, ◌≤◌, ◌+◌, ◌++◌, ℕ, length, option_copied, refl, sym, subst, arith, inl}
+use Rattle.base_folder.proofs.Lookings.{err_is}
+use Rattle.base_folder.proofs.Readings.{not_behind, not_past}
+use Rattle.cmd_status.specs.Ended.{Stops}
+use Rattle.cmd_status.specs.Lines.{PassesOn}
+use Rattle.cmd_show.specs.Exporting.{sought_lost, sought_texts}
+use Rattle.cmd_show.specs.Fetching.{StopsReading}
+use Rattle.cmd_show.proofs.Exportings.{begun_before, none_counted, printed_none, sought_begun, sought_counted, sought_printed}
+use Rattle.cmd_show.proofs.Fetchings.{stops_reading}
 use Rattle.cmd_show.proofs.Pushed.{at_error}
 use Rattle.cmd_show.proofs.exporting.print_sought.Goals as goal
 
 pub messages-init : goal.messages-init
-messages-init g c = record { printed = none_added _ _; failed = refl; counted = refl; bound = omega arith }
+messages-init g c =
+    let sought = c.args.sought.now in
+    let begin = c.begin_at-i.result in
+    let within = c.begin_at-i.ensures.within in
+    let behind = c.begin_at-i.ensures.behind in
+    let before : begin ≤ sought.first = not_past sought.first c.count-count.result begin within behind in
+    record {
+      inside = not_behind sought.first c.count-count.result begin within behind;
+      ready = c.requires;
+      many = sym c.count-count.ensures.count;
+      holds = λ base holds. holds;
+      later = omega arith;
+      printed = λ honest base holds. printed_none sought.form sought.area sought.first sought.purged (g.W.Write.contents c.args.out.now) c.args.lines.now.items base.cursor base.messages begin before;
+      counted = λ honest base holds. sym (none_counted sought.form sought.area sought.first sought.purged base.cursor base.messages begin before);
+      bound = omega arith;
+      failed = refl;
+    }
+
+pub fetch_message-requires : goal.fetch_message-requires
+fetch_message-requires g c = record { ready = c.messages.invariant.ready; within = omega (arith, c.messages-test.true, c.messages.invariant.many) }
+
+pub returns-in_err-fetch_message-clause-begun : goal.returns-in_err-fetch_message-clause-begun
+returns-in_err-fetch_message-clause-begun g c = λ honest base holds.
+    let sought = c.args.sought.now in
+    let within : c.messages.i ≤ length base.messages = omega (arith, c.messages-test.true, c.count-count.ensures.all base holds) in
+    at_error c.from_residual.result
+    (begun_before sought.form sought.area sought.first sought.purged base (g.W.Write.contents c.args.out.now) (g.W.Write.contents c.messages.out) c.args.lines.now.items c.messages.lines.items
+    c.messages.i (length base.messages) within (c.messages.invariant.printed (c.fetch_message.ensures.looks.honest honest) base holds))
+
+pub returns-in_err-fetch_message-clause-err : goal.returns-in_err-fetch_message-clause-err
+returns-in_err-fetch_message-clause-err g c = λ honest base holds.
+    let fault = c.in_err-fetch_message.field-0.0 in
+    let path = c.args.path.now in
+    let first = (g.M.MessageSource.state c.args.messages.now).failures in
+    let before = (g.M.MessageSource.state c.messages.messages).failures in
+    let now = (g.M.MessageSource.state c.fetch_message.new.messages).failures in
+    let printed = g.W.Sink.failures c.args.out.now in
+    let after = g.W.Sink.failures c.messages.out in
+    err_is (StopsReading path first now printed after) fault c.from_residual.result c.from_residual.ensures.1
+    (stops_reading path first before now printed after fault c.messages.invariant.later c.messages.invariant.failed (c.in_err-fetch_message.ensures.fault honest base (c.messages.invariant.holds base holds)))
+
+pub returns-in_err-more-clause-begun : goal.returns-in_err-more-clause-begun
+returns-in_err-more-clause-begun g c = λ honest base holds.
+    let sought = c.args.sought.now in
+    let i = c.messages.i in
+    let next : i + 1 ≤ length base.messages = omega (arith, c.messages-test.true, c.count-count.ensures.all base holds) in
+    let here = c.at_hand.ensures ∙ c.in_ok-fetch_message.ensures.fetched honest base (c.messages.invariant.holds base holds) in
+    at_error c.from_residual-in_err-more.result
+    (sought_begun sought.form sought.area sought.first sought.purged base c.cursor-cursor.result i (option_copied c.at_hand.result) (c.cursor-cursor.ensures base holds) here
+    (g.W.Write.contents c.args.out.now) (g.W.Write.contents c.messages.out) (g.W.Write.contents c.print_one.new.out) c.args.lines.now.items c.messages.lines.items
+    (length base.messages) next (c.messages.invariant.printed (c.fetch_message.ensures.looks.honest honest) base holds) c.in_err-more.ensures.begun)
+
+pub returns-in_err-more-clause-err : goal.returns-in_err-more-clause-err
+returns-in_err-more-clause-err g c = λ honest base holds.
+    let fault = c.in_err-more.field-0.0 in
+    let now = g.W.Sink.failures c.print_one.new.out in
+    err_is (StopsReading c.args.path.now (g.M.MessageSource.state c.args.messages.now).failures (g.M.MessageSource.state c.fetch_message.new.messages).failures (g.W.Sink.failures c.args.out.now) now) fault c.from_residual-in_err-more.result c.from_residual-in_err-more.ensures.1
+    (inl (subst (λ (n : ℕ). Stops n now fault) c.messages.invariant.failed c.in_err-more.ensures.err))
 
 pub messages-preserved : goal.messages-preserved
 messages-preserved g c =
-    let area = c.args.sought.now.area in
-    let base = c.args.base.now in
+    let sought = c.args.sought.now in
     let i = c.messages.i in
-    let one = λ (n : ℕ). sought_text c.args.sought.now.form area c.args.sought.now.first c.args.sought.now.purged base.cursor n (slice_get base.messages n) in
-    let is = ap (sought_text c.args.sought.now.form area c.args.sought.now.first c.args.sought.now.purged base.cursor i) c.message-message.ensures in
-    let more = subst (λ (n : ℕ). PassesOn (c.messages.lines.items ++ sought_text c.args.sought.now.form area c.args.sought.now.first c.args.sought.now.purged n i (option_copied c.message-message.result)) c.print_one.new.lines.items (g.W.Write.contents c.messages.out) (g.W.Write.contents c.print_one.new.out))
-    c.cursor-cursor.ensures.cursor c.in_ok-more.ensures.lines in
-    let counted = c.in_ok-more.ensures.count ∙ ap (λ (n : ℕ). sought_count c.args.sought.now.form area c.args.sought.now.first c.args.sought.now.purged n i (option_copied c.message-message.result)) c.cursor-cursor.ensures.cursor in
+    let looks = c.fetch_message.ensures.looks in
     record {
-      printed =
-          one_printed (sought_texts c.args.sought.now.form area c.args.sought.now.first c.args.sought.now.purged base.cursor base.messages) one (texts_more c.args.sought.now.form area c.args.sought.now.first c.args.sought.now.purged base.cursor base.messages)
+      inside = omega (arith, c.messages-test.true);
+      ready = looks.ready c.messages.invariant.ready;
+      many = looks.count ∙ c.messages.invariant.many;
+      holds = λ base holds. looks.holds base (c.messages.invariant.holds base holds);
+      later = omega (arith, c.messages.invariant.later, c.fetch_message.ensures.later);
+      printed = λ honest base holds.
+          let here = c.at_hand.ensures ∙ c.in_ok-fetch_message.ensures.fetched honest base (c.messages.invariant.holds base holds) in
+          sought_printed sought.form sought.area sought.first sought.purged base c.cursor-cursor.result i (option_copied c.at_hand.result) (c.cursor-cursor.ensures base holds) here
           (g.W.Write.contents c.args.out.now) (g.W.Write.contents c.messages.out) (g.W.Write.contents c.print_one.new.out) c.args.lines.now.items c.messages.lines.items c.print_one.new.lines.items
-          _ i is c.messages.invariant.printed more;
-      failed = c.in_ok-more.ensures.ok ∙ c.messages.invariant.failed;
-      counted = lost_more c.args.sought.now.form area c.args.sought.now.first c.args.sought.now.purged base.cursor base.messages i c.messages.count c.in_ok-more.more (option_copied c.message-message.result) c.message-message.ensures counted c.messages.invariant.counted;
+          (c.messages.invariant.printed (looks.honest honest) base holds) c.in_ok-more.ensures.lines;
+      counted = λ honest base holds.
+          let here = c.at_hand.ensures ∙ c.in_ok-fetch_message.ensures.fetched honest base (c.messages.invariant.holds base holds) in
+          sought_counted sought.form sought.area sought.first sought.purged base c.cursor-cursor.result i (option_copied c.at_hand.result) (c.cursor-cursor.ensures base holds) here
+          c.messages.lost c.in_ok-more.more c.in_ok-more.ensures.count (c.messages.invariant.counted (looks.honest honest) base holds);
       bound = omega (arith, c.messages.invariant.bound, c.in_ok-more.ensures.few);
+      failed = c.in_ok-more.ensures.ok ∙ c.messages.invariant.failed;
     }
 
-pub returns-in_err-more-clause-begun : goal.returns-in_err-more-clause-begun
-returns-in_err-more-clause-begun g c =
-    let area = c.args.sought.now.area in
-    let base = c.args.base.now in
-    let i = c.messages.i in
-    let one = λ (n : ℕ). sought_text c.args.sought.now.form area c.args.sought.now.first c.args.sought.now.purged base.cursor n (slice_get base.messages n) in
-    let is = ap (sought_text c.args.sought.now.form area c.args.sought.now.first c.args.sought.now.purged base.cursor i) c.message-message.ensures in
-    let within : i + 1 ≤ length base.messages = omega (arith, c.messages-test.true, c.len-i-end.ensures.count) in
-    let begun = subst (λ (n : ℕ). WritesFront (c.messages.lines.items ++ sought_text c.args.sought.now.form area c.args.sought.now.first c.args.sought.now.purged n i (option_copied c.message-message.result)) (g.W.Write.contents c.messages.out) (g.W.Write.contents c.print_one.new.out))
-    c.cursor-cursor.ensures.cursor c.in_err-more.ensures.begun in
-    at_error c.from_residual.result
-    (one_begun (sought_texts c.args.sought.now.form area c.args.sought.now.first c.args.sought.now.purged base.cursor base.messages) one (texts_more c.args.sought.now.form area c.args.sought.now.first c.args.sought.now.purged base.cursor base.messages)
-    (g.W.Write.contents c.args.out.now) (g.W.Write.contents c.messages.out) (g.W.Write.contents c.print_one.new.out) c.args.lines.now.items c.messages.lines.items
-    _ i (length base.messages) is within c.messages.invariant.printed begun)
+pub returns-clause-lines : goal.returns-clause-lines
+returns-clause-lines g c = λ honest base holds.
+    let sought = c.args.sought.now in
+    let end : c.messages.i ≡ length base.messages = omega (arith, c.messages-test.false, c.messages.invariant.inside, c.count-count.ensures.all base holds) in
+    subst (λ (n : ℕ). PassesOn (c.args.lines.now.items ++ sought_texts sought.form sought.area sought.first sought.purged base.cursor base.messages n) c.messages.lines.items (g.W.Write.contents c.args.out.now) (g.W.Write.contents c.messages.out)) end
+    (c.messages.invariant.printed honest base holds)
+
+pub returns-clause-count : goal.returns-clause-count
+returns-clause-count g c = λ honest base holds.
+    let sought = c.args.sought.now in
+    let end : c.messages.i ≡ length base.messages = omega (arith, c.messages-test.false, c.messages.invariant.inside, c.count-count.ensures.all base holds) in
+    subst (λ (n : ℕ). c.messages.lost ≡ sought_lost sought.form sought.area sought.first sought.purged base.cursor base.messages n) end (c.messages.invariant.counted honest base holds)

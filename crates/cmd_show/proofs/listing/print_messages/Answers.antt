@@ -1,35 +1,100 @@
-use Rattle.std.proofs.Common.{ℕ, ◌+◌, ◌≤◌, ◌++◌, ◌∙◌, arith, length, option_copied, refl, subst}
+use Rattle.std.proofs.Common.{◌≡◌, ◌∙◌, ◌≤◌, ◌<◌, ◌+◌, ◌++◌, ℕ, length, option_copied, refl, sym, subst, arith, inl}
+use Rattle.base_folder.proofs.Lookings.{err_is}
+use Rattle.base_folder.proofs.Readings.{not_behind, not_past}
+use Rattle.cmd_print.specs.BaseListed.{asked_text, messages_text}
+use Rattle.cmd_status.specs.Ended.{Stops}
 use Rattle.cmd_status.specs.Lines.{PassesOn, WritesFront}
-use Rattle.cmd_status.proofs.Lines.{none_added}
-use Rattle.cmd_print.specs.BaseListed.{asked_text}
-use Rattle.cmd_show.proofs.Listings.{message_begun, message_printed}
+use Rattle.cmd_show.specs.Fetching.{StopsReading}
+use Rattle.cmd_show.proofs.Fetchings.{stops_reading}
+use Rattle.cmd_show.proofs.Listings.{begun_before, message_begun, message_printed, printed_none}
 use Rattle.cmd_show.proofs.Pushed.{at_error}
 use Rattle.cmd_show.proofs.listing.print_messages.Goals as goal
 
 pub messages-init : goal.messages-init
-messages-init g c = record { printed = none_added _ _; failed = refl }
+messages-init g c =
+    let asked = c.args.asked.now in
+    let begin = c.begin_at-i.result in
+    let within = c.begin_at-i.ensures.within in
+    let behind = c.begin_at-i.ensures.behind in
+    record {
+      inside = not_behind asked.first c.count-count.result begin within behind;
+      ready = c.requires;
+      many = sym c.count-count.ensures.count;
+      holds = λ base holds. holds;
+      later = omega arith;
+      printed = λ honest base holds. printed_none (g.W.Write.contents c.args.out.now) c.args.lines.now.items asked.form asked.area asked.first base.messages base.cursor begin (not_past asked.first c.count-count.result begin within behind);
+      failed = refl;
+    }
+
+pub fetch_message-requires : goal.fetch_message-requires
+fetch_message-requires g c = record { ready = c.messages.invariant.ready; within = omega (arith, c.messages-test.true, c.messages.invariant.many) }
+
+pub returns-in_err-fetch_message-clause-begun : goal.returns-in_err-fetch_message-clause-begun
+returns-in_err-fetch_message-clause-begun g c = λ honest base holds.
+    let asked = c.args.asked.now in
+    let within : c.messages.i ≤ length base.messages = omega (arith, c.messages-test.true, c.count-count.ensures.all base holds) in
+    at_error c.from_residual.result
+    (begun_before (g.W.Write.contents c.args.out.now) (g.W.Write.contents c.messages.out) c.args.lines.now.items c.messages.lines.items asked.form asked.area asked.first base.messages base.cursor c.messages.i (length base.messages) within
+    (c.messages.invariant.printed (c.fetch_message.ensures.looks.honest honest) base holds))
+
+pub returns-in_err-fetch_message-clause-err : goal.returns-in_err-fetch_message-clause-err
+returns-in_err-fetch_message-clause-err g c = λ honest base holds.
+    let fault = c.in_err-fetch_message.field-0.0 in
+    let path = c.args.path.now in
+    let first = (g.M.MessageSource.state c.args.messages.now).failures in
+    let before = (g.M.MessageSource.state c.messages.messages).failures in
+    let now = (g.M.MessageSource.state c.fetch_message.new.messages).failures in
+    let printed = g.W.Sink.failures c.args.out.now in
+    let after = g.W.Sink.failures c.messages.out in
+    err_is (StopsReading path first now printed after) fault c.from_residual.result c.from_residual.ensures.1
+    (stops_reading path first before now printed after fault c.messages.invariant.later c.messages.invariant.failed (c.in_err-fetch_message.ensures.fault honest base (c.messages.invariant.holds base holds)))
+
+pub returns-in_err-print_message-clause-begun : goal.returns-in_err-print_message-clause-begun
+returns-in_err-print_message-clause-begun g c = λ honest base holds.
+    let asked = c.args.asked.now in
+    let old = g.W.Write.contents c.args.out.now in
+    let mid = g.W.Write.contents c.messages.out in
+    let new = g.W.Write.contents c.print_message.new.out in
+    let next : c.messages.i + 1 ≤ length base.messages = omega (arith, c.messages-test.true, c.count-count.ensures.all base holds) in
+    let here = c.at_hand.ensures ∙ c.in_ok-fetch_message.ensures.fetched honest base (c.messages.invariant.holds base holds) in
+    let begun = subst (λ (n : ℕ). WritesFront (c.messages.lines.items ++ asked_text asked.form asked.area asked.first n c.messages.i (option_copied c.at_hand.result)) mid new)
+    (c.cursor-cursor.ensures base holds) c.in_err-print_message.ensures.begun in
+    at_error c.from_residual-in_err-print_message.result
+    (message_begun old mid new c.args.lines.now.items c.messages.lines.items asked.form asked.area asked.first base.messages base.cursor c.messages.i
+    (length base.messages) (option_copied c.at_hand.result) here next (c.messages.invariant.printed (c.fetch_message.ensures.looks.honest honest) base holds) begun)
+
+pub returns-in_err-print_message-clause-err : goal.returns-in_err-print_message-clause-err
+returns-in_err-print_message-clause-err g c = λ honest base holds.
+    let fault = c.in_err-print_message.field-0.0 in
+    let now = g.W.Sink.failures c.print_message.new.out in
+    err_is (StopsReading c.args.path.now (g.M.MessageSource.state c.args.messages.now).failures (g.M.MessageSource.state c.fetch_message.new.messages).failures (g.W.Sink.failures c.args.out.now) now) fault c.from_residual-in_err-print_message.result c.from_residual-in_err-print_message.ensures.1
+    (inl (subst (λ (n : ℕ). Stops n now fault) c.messages.invariant.failed c.in_err-print_message.ensures.err))
 
 pub messages-preserved : goal.messages-preserved
 messages-preserved g c =
+    let asked = c.args.asked.now in
     let old = g.W.Write.contents c.args.out.now in
     let mid = g.W.Write.contents c.messages.out in
     let new = g.W.Write.contents c.print_message.new.out in
-    let more = subst (λ (n : ℕ). PassesOn (c.messages.lines.items ++ asked_text c.args.asked.now.form c.args.asked.now.area c.args.asked.now.first n c.messages.i (option_copied c.message.result)) c.print_message.new.lines.items mid new)
-    c.cursor-cursor.ensures.cursor c.in_ok-print_message.ensures.lines in
+    let looks = c.fetch_message.ensures.looks in
     record {
-      printed = message_printed old mid new c.args.lines.now.items c.messages.lines.items c.print_message.new.lines.items c.args.asked.now.form c.args.asked.now.area c.args.asked.now.first c.args.base.now.messages c.args.base.now.cursor c.messages.i
-          (option_copied c.message.result) c.message.ensures c.messages.invariant.printed more;
+      inside = omega (arith, c.messages-test.true);
+      ready = looks.ready c.messages.invariant.ready;
+      many = looks.count ∙ c.messages.invariant.many;
+      holds = λ base holds. looks.holds base (c.messages.invariant.holds base holds);
+      later = omega (arith, c.messages.invariant.later, c.fetch_message.ensures.later);
+      printed = λ honest base holds.
+          let here = c.at_hand.ensures ∙ c.in_ok-fetch_message.ensures.fetched honest base (c.messages.invariant.holds base holds) in
+          let more = subst (λ (n : ℕ). PassesOn (c.messages.lines.items ++ asked_text asked.form asked.area asked.first n c.messages.i (option_copied c.at_hand.result)) c.print_message.new.lines.items mid new)
+          (c.cursor-cursor.ensures base holds) c.in_ok-print_message.ensures.lines in
+          message_printed old mid new c.args.lines.now.items c.messages.lines.items c.print_message.new.lines.items asked.form asked.area asked.first base.messages base.cursor c.messages.i
+          (option_copied c.at_hand.result) here (c.messages.invariant.printed (looks.honest honest) base holds) more;
       failed = c.in_ok-print_message.ensures.ok ∙ c.messages.invariant.failed;
     }
 
-pub returns-in_err-print_message-clause-begun : goal.returns-in_err-print_message-clause-begun
-returns-in_err-print_message-clause-begun g c =
-    let old = g.W.Write.contents c.args.out.now in
-    let mid = g.W.Write.contents c.messages.out in
-    let new = g.W.Write.contents c.print_message.new.out in
-    let within : c.messages.i + 1 ≤ length c.args.base.now.messages = omega (arith, c.messages-test.true, c.len-i-end.ensures.count) in
-    let begun = subst (λ (n : ℕ). WritesFront (c.messages.lines.items ++ asked_text c.args.asked.now.form c.args.asked.now.area c.args.asked.now.first n c.messages.i (option_copied c.message.result)) mid new)
-    c.cursor-cursor.ensures.cursor c.in_err-print_message.ensures.begun in
-    at_error c.from_residual.result
-    (message_begun old mid new c.args.lines.now.items c.messages.lines.items c.args.asked.now.form c.args.asked.now.area c.args.asked.now.first c.args.base.now.messages c.args.base.now.cursor c.messages.i
-    (length c.args.base.now.messages) (option_copied c.message.result) c.message.ensures within c.messages.invariant.printed begun)
+pub returns-clause-lines : goal.returns-clause-lines
+returns-clause-lines g c = λ honest base holds.
+    let asked = c.args.asked.now in
+    let end : c.messages.i ≡ length base.messages = omega (arith, c.messages-test.false, c.messages.invariant.inside, c.count-count.ensures.all base holds) in
+    subst (λ (n : ℕ). PassesOn (c.args.lines.now.items ++ messages_text asked.form asked.area asked.first base.messages base.cursor n) c.messages.lines.items (g.W.Write.contents c.args.out.now) (g.W.Write.contents c.messages.out)) end
+    (c.messages.invariant.printed honest base holds)

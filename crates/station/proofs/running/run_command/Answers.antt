@@ -1,7 +1,7 @@
 use Rattle.std.proofs.Common.{◌≡◌, ◌≤◌, ap, arith, inl, inr, refl}
 use Rattle.station.proofs.Failures.{failed_wider}
 use Rattle.cmd_store.specs.Stops.{store_answer}
-use Rattle.station.proofs.Ran.{elsewhere_after, looks_of, looks_open, past_unless, refused_run, run_on, stopped_on}
+use Rattle.station.proofs.Ran.{elsewhere_after, looks_of, looks_open, past_of, refused_run, run_on, stopped_on}
 use Rattle.station.proofs.running.run_command.Goals as goal
 
 pub returns-in-Ok-prepare-clause-runs : goal.returns-in-Ok-prepare-clause-runs
@@ -62,8 +62,8 @@ returns-in-Ok-prepare-clause-many g c = λ honest is.
       kept = c.prepare.new.store;
       begun = begun;
       of_place = of;
-      past = past_unless state _ _ s1 s2 full;
-      crash = λ base stands. refused_run place d0 d2 s1 s2 begun of quiet base stands state _ _ honest2 full;
+      past = past_of state _ _ _ s1 s2 full;
+      crash = λ base stands. refused_run place d0 d2 s1 s2 begun of quiet base stands state _ _ _ honest2 full;
     }
 
 pub returns-in-Ok-prepare-clause-elsewhere : goal.returns-in-Ok-prepare-clause-elsewhere

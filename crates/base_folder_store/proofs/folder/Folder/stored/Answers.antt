@@ -3,7 +3,7 @@ use Rattle.std.specs.Prelude.{Vec}
 use Rattle.std.specs.declared.alloc.Global.{Global}
 use Rattle.base_log.specs.Standing.{BaseBytes}
 use Rattle.base_store.specs.Keys.{HasBytesOf, IsPieceOf, digest_at}
-use Rattle.echo_filed.specs.Stored.{stored_bytes}
+use Rattle.echo_filed.specs.Stored.{Stored, stored_bytes}
 use Rattle.echo_filed.specs.declared.stored.Version.TheVariants.{Second}
 use Rattle.base_folder_store.specs.Answers.{IsStoredOf}
 use Rattle.base_folder_store.specs.Opened.{held_by}
@@ -39,6 +39,10 @@ pub returns-in_err-entry-clause-stored : goal.returns-in_err-entry-clause-stored
 returns-in_err-entry-clause-stored g c honest = λ base told inside.
     answers_whole {T = Vec ℕ Global} (λ (stored : StoredMessage). IsStoredOf base c.args.place stored.bytes.items) _ c.from_residual.result c.from_residual.ensures.1 (c.in_err-entry.ensures.whole honest)
 
+pub returns-in_err-entry-clause-there : goal.returns-in_err-entry-clause-there
+returns-in_err-entry-clause-there g c honest = λ s has.
+    answers_whole {T = Vec ℕ Global} (λ (stored : StoredMessage). stored.bytes.items ≡ stored_bytes Second s) _ c.from_residual.result c.from_residual.ensures.1 (c.in_err-entry.ensures.whole honest)
+
 pub stored_by-requires-clause-within : goal.stored_by-requires-clause-within
 stored_by-requires-clause-within g c =
     let within = c.requires.within in
@@ -46,34 +50,41 @@ stored_by-requires-clause-within g c =
     let same = ap (λ (l : List ℕ). length l) c.deref.ensures.value in
     omega (arith, within, long, same)
 
-pub returns-in_err-bytes-clause-stored : goal.returns-in_err-bytes-clause-stored
-returns-in_err-bytes-clause-stored g c honest = λ base told inside.
-    let h1 = c.stored_by.ensures.quiet.honest honest in
+-- the bytes of the message, as its entry tells
+has_entry : (g : given.Over) (c : After-stored_by g) → (g.D.Disk.state c.stored_by.new.disk).is_honest → (s : Stored) → HasBytesOf (held_by (g.D.Disk.state c.args.disk.now) c.args.self.now).messages (held_by (g.D.Disk.state c.args.disk.now) c.args.self.now).keys c.args.place s
+    → HasBytesOf (held_by (g.D.Disk.state c.entry_at.new.disk) c.args.self.now).messages c.deref.result.now 0 s
+has_entry g c honest s has =
     let d = g.D.Disk.state c.args.disk.now in
     let e = g.D.Disk.state c.entry_at.new.disk in
     let f = c.args.self.now in
-    let one = entry g (goal.at.returns-in_err-bytes-clause-stored g c).After-stored_by h1 in
+    let one = entry g c (c.stored_by.ensures.quiet.honest honest) in
+    subst (λ (b : BaseBytes). HasBytesOf b.messages c.deref.result.now 0 s) (sym (held_quiet d e f c.entry_at.ensures.quiet))
+    (piece_has (held_by d f).messages (held_by d f).keys c.deref.result.now c.args.place one.piece one.inside one.two s has)
+
+pub returns-in_err-bytes-clause-stored : goal.returns-in_err-bytes-clause-stored
+returns-in_err-bytes-clause-stored g c honest = λ base told inside.
     let stands = told.each c.args.place inside in
-    let has = piece_has (held_by d f).messages (held_by d f).keys c.deref.result.now c.args.place one.piece one.inside one.two stands.s stands.bytes in
     answers_error {T = Vec ℕ Global} (λ (b : Vec ℕ Global). b.items ≡ stored_bytes Second stands.s) (λ (stored : StoredMessage). IsStoredOf base c.args.place stored.bytes.items) _ c.from_residual-in_err-bytes.result c.from_residual-in_err-bytes.ensures.1
-    (c.in_err-bytes.ensures.stored honest stands.s (subst (λ (b : BaseBytes). HasBytesOf b.messages c.deref.result.now 0 stands.s) (sym (held_quiet d e f c.entry_at.ensures.quiet)) has))
+    (c.in_err-bytes.ensures.stored honest stands.s (has_entry g (goal.at.returns-in_err-bytes-clause-stored g c).After-stored_by honest stands.s stands.bytes))
+
+pub returns-in_err-bytes-clause-there : goal.returns-in_err-bytes-clause-there
+returns-in_err-bytes-clause-there g c honest = λ s has.
+    answers_error {T = Vec ℕ Global} (λ (b : Vec ℕ Global). b.items ≡ stored_bytes Second s) (λ (stored : StoredMessage). stored.bytes.items ≡ stored_bytes Second s) _ c.from_residual-in_err-bytes.result c.from_residual-in_err-bytes.ensures.1
+    (c.in_err-bytes.ensures.stored honest s (has_entry g (goal.at.returns-in_err-bytes-clause-there g c).After-stored_by honest s has))
 
 pub returns-clause-stored : goal.returns-clause-stored
 returns-clause-stored g c honest = λ base told inside.
-    let h1 = c.stored_by.ensures.quiet.honest honest in
-    let d = g.D.Disk.state c.args.disk.now in
-    let e = g.D.Disk.state c.entry_at.new.disk in
-    let f = c.args.self.now in
-    let one = entry g (goal.at.returns-clause-stored g c).After-stored_by h1 in
     let stands = told.each c.args.place inside in
-    let has = piece_has (held_by d f).messages (held_by d f).keys c.deref.result.now c.args.place one.piece one.inside one.two stands.s stands.bytes in
     record {
       s = stands.s;
       size = stands.size;
       alone = stands.alone;
       is = stands.is;
-      same = c.in_ok-bytes.ensures.stored honest stands.s (subst (λ (b : BaseBytes). HasBytesOf b.messages c.deref.result.now 0 stands.s) (sym (held_quiet d e f c.entry_at.ensures.quiet)) has);
+      same = c.in_ok-bytes.ensures.stored honest stands.s (has_entry g (goal.at.returns-clause-stored g c).After-stored_by honest stands.s stands.bytes);
     }
+
+pub returns-clause-there : goal.returns-clause-there
+returns-clause-there g c honest = λ s has. c.in_ok-bytes.ensures.stored honest s (has_entry g (goal.at.returns-clause-there g c).After-stored_by honest s has)
 
 pub returns-clause-digest : goal.returns-clause-digest
 returns-clause-digest g c honest =

@@ -1,0 +1,61 @@
+use Rattle.std.proofs.Common.{◌≡◌, Option, sym, subst}
+use Rattle.std.specs.Prelude.{IfSome}
+use Rattle.disk_io.specs.Disk.{Files, Honestly}
+use Rattle.base_log.specs.Standing.{StandsFor}
+use Rattle.base_folder_store.specs.Opened.{held_by}
+use Rattle.base_folder_store.specs.Vouched.{IsLookedAt}
+use Rattle.base_folder.specs.Looked.{AreVouched, HasLogs, IsUnseen}
+use Rattle.base_folder.specs.Wrong.{IsSound}
+use Rattle.base_folder.specs.declared.looking.LookedFolder.{LookedFolder}
+use Rattle.base_folder.proofs.Lookings.{err_is}
+use Rattle.base_folder.proofs.looking.look.Goals as goal
+
+pub returns-in_err-looked-clause-wrong : goal.returns-in_err-looked-clause-wrong
+returns-in_err-looked-clause-wrong g c honest =
+    let keyed = g.H.Digest.keyed in
+    let path = c.args.path.now in
+    let d0 = g.D.Disk.state c.args.disk.now in
+    let d1 = g.D.Disk.state c.tries.disk in
+    let same : d1.seen ≡ d0.seen = λ i m. c.tries.invariant.quiet.seen m i in
+    let e = c.in_err-looked.field-0.0 in
+    err_is (IsUnseen keyed c.args.strange path d0.seen) e c.from_residual.result c.from_residual.ensures.1
+    (subst (λ (f : Files). IsUnseen keyed c.args.strange path f e) same (c.in_err-looked.ensures.wrong honest))
+
+pub returns-in-Some-clause-found : goal.returns-in-Some-clause-found
+returns-in-Some-clause-found g c honest base stands =
+    let d0 = g.D.Disk.state c.args.disk.now in
+    let d1 = g.D.Disk.state c.tries.disk in
+    let d2 = g.D.Disk.state c.look_once.new.disk in
+    let same : d1.seen ≡ d0.seen = λ i m. c.tries.invariant.quiet.seen m i in
+    subst (λ (o : Option LookedFolder). IfSome o (λ l. held_by d2 l.folder ≡ base)) c.in-Some.is
+    (c.in_ok-looked.ensures.found honest base (subst (λ (f : Files). StandsFor c.args.path.now base f) (sym same) stands))
+
+pub returns-in-Some-clause-ready : goal.returns-in-Some-clause-ready
+returns-in-Some-clause-ready g c =
+    let keyed = g.H.Digest.keyed in
+    let d2 = g.D.Disk.state c.look_once.new.disk in
+    let seen = subst (λ (o : Option LookedFolder). IfSome o (λ l. IsLookedAt d2 l.folder × Honestly d2 (AreVouched keyed d2 c.args.first l.folder))) c.in-Some.is c.in_ok-looked.ensures.seen in
+    seen.0
+
+pub returns-in-Some-clause-vouched : goal.returns-in-Some-clause-vouched
+returns-in-Some-clause-vouched g c honest =
+    let keyed = g.H.Digest.keyed in
+    let d2 = g.D.Disk.state c.look_once.new.disk in
+    let seen = subst (λ (o : Option LookedFolder). IfSome o (λ l. IsLookedAt d2 l.folder × Honestly d2 (AreVouched keyed d2 c.args.first l.folder))) c.in-Some.is c.in_ok-looked.ensures.seen in
+    seen.1 honest
+
+pub returns-in-Some-clause-sound : goal.returns-in-Some-clause-sound
+returns-in-Some-clause-sound g c honest =
+    let d0 = g.D.Disk.state c.args.disk.now in
+    let d1 = g.D.Disk.state c.tries.disk in
+    let same : d1.seen ≡ d0.seen = λ i m. c.tries.invariant.quiet.seen m i in
+    subst (λ (f : Files). IsSound c.args.strange c.args.path.now f) same (c.in_ok-looked.ensures.sound honest)
+
+pub returns-in-Some-clause-logs : goal.returns-in-Some-clause-logs
+returns-in-Some-clause-logs g c honest =
+    let path = c.args.path.now in
+    let d0 = g.D.Disk.state c.args.disk.now in
+    let d1 = g.D.Disk.state c.tries.disk in
+    let same : d1.seen ≡ d0.seen = λ i m. c.tries.invariant.quiet.seen m i in
+    subst (λ (f : Files). HasLogs path f c.in-Some.looked) same
+    (subst (λ (o : Option LookedFolder). IfSome o (HasLogs path d1.seen)) c.in-Some.is (c.in_ok-looked.ensures.logs honest))

@@ -1,8 +1,0 @@
-use Rattle.std.proofs.Common.{◌∙◌, [], sym}
-use Rattle.std.proofs.lemmas.List.{append-nil}
-use Rattle.base_folder.proofs.snapshot.is_steady.Goals as goal
-
-pub returns-then-len-clause-same : goal.returns-then-len-clause-same
-returns-then-len-clause-same c same =
-    let records = c.deref-then-len.result.now in
-    c.begins_with.ensures.front [] (c.deref.ensures.value ∙ sym same ∙ sym c.deref-then-len.ensures.value ∙ sym (append-nil records))

@@ -1,0 +1,149 @@
+//! A base in memory, and a base folder, as sources of messages.
+ghost use Rattle.std.specs.Prelude.{◌≡◌, IfOk};
+ghost use Rattle.disk_io.specs.Disk.{Honestly};
+ghost use Rattle.base_file.specs.Base as model;
+ghost use Rattle.base_folder_store.specs.Held.{HoldsBase, StandsForBase};
+ghost use Rattle.base_folder_store.specs.Opened.{held_by};
+ghost use Rattle.base_folder_store.specs.Vouched.{IsLookedAt};
+
+use crate::looking::look;
+use crate::open_error::OpenError;
+use crate::reading::ReadingProgress;
+use crate::source::MessageSource;
+use base_file::Base;
+use base_folder_store::{Alone, Folder};
+use base_store::{Digest, StoreError};
+use disk_io::Disk;
+use echo_filed::Filed;
+use std::alloc::Global;
+use std::hash::BuildHasher;
+use std::marker::PhantomData;
+
+/// A base in memory, as a source of messages.
+#[derive(Drop)]
+pub struct BaseReader<S: BuildHasher> {
+    base: Base<S>,
+    place: usize,
+}
+
+impl<S: BuildHasher> BaseReader<S> {
+    pub fn new(base: Base<S>) -> BaseReader<S>
+        ensures { result.base ≡ base }
+    {
+        BaseReader { base, place: 0 }
+    }
+}
+
+impl<S: BuildHasher> MessageSource for BaseReader<S> {
+    ghost use Rattle.std.specs.Prelude.{◌≡◌, length, slice_get};
+    ghost use Rattle.base_file.specs.Base as model;
+
+    ghost state = { λ r. record {
+      is_honest = Unit {0};
+      is_ready = Unit {0};
+      count = length r.base.messages;
+      holds = λ (base : model.Base). (r.base.messages ≡ base.messages) × (r.base.cursor ≡ base.cursor);
+      at_hand = slice_get r.base.messages r.place;
+      failures = 0;
+    } };
+
+    fn count(&self) -> usize {
+        self.base.len()
+    }
+
+    fn cursor(&self) -> usize {
+        self.base.cursor()
+    }
+
+    fn fetch(&mut self, place: usize) -> Result<(), StoreError> {
+        self.place = place;
+        Ok(())
+    }
+
+    fn at_hand(&self) -> Option<&Filed> {
+        self.base.message(self.place)
+    }
+}
+
+/// A base folder that was looked at, as a source of messages. The message that is read has the digest of its entry.
+#[derive(Drop)]
+pub struct FolderReader<D: Disk, H: Digest> {
+    alloc: Global,
+    disk: D,
+    folder: Folder,
+    // The current message.
+    alone: Option<Alone>,
+    digests: PhantomData<H>,
+}
+
+impl<D: Disk, H: Digest> FolderReader<D, H> {
+    // The folder on this disk.
+    fn new(alloc: Global, disk: D, folder: Folder) -> FolderReader<D, H>
+        requires { IsLookedAt (D.state disk) folder }
+        ensures ready { (⟦<FolderReader<D, H> as MessageSource>⟧.state result).is_ready }
+        ensures holds { Honestly (D.state disk) ((base : model.Base) → HoldsBase H.keyed (held_by (D.state disk) folder) base
+            → (⟦<FolderReader<D, H> as MessageSource>⟧.state result).holds base) }
+        ensures disk { result.disk ≡ disk }
+        ensures folder { result.folder ≡ folder }
+    {
+        FolderReader {
+            alloc,
+            disk,
+            folder,
+            alone: None,
+            digests: PhantomData,
+        }
+    }
+
+    /// The disk, taken out.
+    pub fn into_disk(self) -> D
+        ensures { result ≡ self.disk }
+    {
+        self.disk
+    }
+}
+
+/// The base folder of this path, to be read message by message, after a look at it (`look`).
+pub fn read_folder<D: Disk + Drop, H: Digest, P: ReadingProgress>(
+    alloc: Global,
+    disk: D,
+    path: &[u8],
+    strange: bool,
+    first: u64,
+    progress: &P,
+) -> Result<FolderReader<D, H>, OpenError>
+    ensures ready { IfOk result (λ messages. (⟦<FolderReader<D, H> as MessageSource>⟧.state messages).is_ready) }
+    ensures holds { IfOk result (λ messages. Honestly (D.state messages.disk) ((base : model.Base) → StandsForBase H.keyed path.now base (D.state disk).seen
+        → (⟦<FolderReader<D, H> as MessageSource>⟧.state messages).holds base)) }
+{
+    let mut disk = disk;
+    let looked = look::<D, H, P>(alloc, &mut disk, path, strange, first, progress)?;
+    Ok(FolderReader::new(alloc, disk, looked.folder))
+}
+
+impl<D: Disk, H: Digest> MessageSource for FolderReader<D, H> {
+    ghost use Rattle.base_folder.specs.Source.{folder_source};
+
+    ghost state = { λ r. folder_source (D.state r.disk) (D.failures r.disk) H.keyed r.folder r.alone };
+
+    fn count(&self) -> usize {
+        self.folder.count()
+    }
+
+    fn cursor(&self) -> usize {
+        self.folder.cursor()
+    }
+
+    fn fetch(&mut self, place: usize) -> Result<(), StoreError> {
+        let alone = self
+            .folder
+            .read_vouched::<D, H>(self.alloc, &mut self.disk, place)?;
+        self.alone = Some(alone);
+        Ok(())
+    }
+
+    fn at_hand(&self) -> Option<&Filed> {
+        let alone = self.alone.as_ref()?;
+        alone.message(0)
+    }
+}

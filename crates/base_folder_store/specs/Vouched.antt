@@ -1,0 +1,34 @@
+-- A message that is read under its number, and the digest of its entry.
+use Rattle.std.specs.Prelude.{◌≡◌, ◌<◌, ℕ, List}
+use Rattle.disk_io.specs.Disk.{DiskState, Honestly}
+use Rattle.echo_filed.specs.Stored.{IsStored, Stored, message_in}
+use Rattle.echo_filed.specs.declared.stored.Version.TheVariants.{Second}
+use Rattle.base_log.specs.Standing.{BaseBytes}
+use Rattle.base_store.specs.Keys.{HasBytesOf, MayStandAlone, digest_at, digested}
+use Rattle.base_folder_store.specs.Held.{digest_by}
+use Rattle.base_folder_store.specs.Opened.{IsLegible, IsWritten}
+use Rattle.base_folder_store.specs.declared.folder.Folder.{Folder}
+
+-- It is read and never changed: nothing waits, and where the disk was honest its messages can be read.
+pub record IsLookedAt (disk : DiskState) (folder : Folder) : Type 0 where
+  pub written : IsWritten folder
+  pub keys : folder.keys ≡ folder.told.keys
+  pub legible : Honestly disk (0 < folder.keys → IsLegible disk folder)
+
+-- These bytes have the message of this number, which is stored so.
+pub record IsThere (bytes : BaseBytes) (i : ℕ) (s : Stored) : Type 0 where
+  pub size : IsStored Second s
+  pub alone : MayStandAlone s
+  pub stored : HasBytesOf bytes.messages bytes.keys i s
+
+-- The entry of this number has the digest of the message.
+abbrev pub HasDigest : (ℕ → ℕ → List ℕ → ℕ) → BaseBytes → ℕ → Stored → Type 0
+HasDigest keyed bytes i s = digest_at bytes.keys i ≡ digest_by keyed bytes.mark (digested (message_in Second s))
+
+-- A message under this number has the digest of its entry.
+abbrev pub IsVouched : (ℕ → ℕ → List ℕ → ℕ) → BaseBytes → ℕ → Type 0
+IsVouched keyed bytes i = (s : Stored) → IsThere bytes i s → HasDigest keyed bytes i s
+
+-- None has it.
+abbrev pub HasNone : (ℕ → ℕ → List ℕ → ℕ) → BaseBytes → ℕ → Type 0
+HasNone keyed bytes i = (s : Stored) → IsThere bytes i s → HasDigest keyed bytes i s → ⊥

@@ -1,0 +1,88 @@
+//! A folder that is read and never changed: its messages, each with the digest of its entry.
+ghost use Rattle.std.specs.Prelude.{◌≡◌, ◌<◌, ◌/◌, ◌↔◌, [], ◌∷◌, IfOk, IsErrOf, IsTrue, OnOk};
+ghost use Rattle.disk_io.specs.Disk.{Honestly};
+ghost use Rattle.disk_io.specs.Runs.{ChangesNothing};
+ghost use Rattle.echo_filed.specs.Filed.{Filed};
+ghost use Rattle.echo_filed.specs.Stored.{Stored, message_in};
+ghost use Rattle.echo_filed.specs.declared.stored.Version.TheVariants.{Second};
+ghost use Rattle.base_store.specs.Keys.{digested};
+ghost use Rattle.base_folder_store.specs.Answers.{Answers, HasReadCause};
+ghost use Rattle.base_folder_store.specs.Held.{digest_by};
+ghost use Rattle.base_folder_store.specs.Opened.{IsFresh, IsLegible, IsWritten, held_by};
+ghost use Rattle.base_folder_store.specs.Vouched.{HasDigest, IsThere, IsVouched};
+
+use crate::alone::{Alone, read_alone};
+use crate::folder::Folder;
+use crate::waiting::Waiting;
+use base_log::{Log, Names};
+use base_store::{Digest, StoreError, bytes_of_key};
+use disk_io::Disk;
+use echo_filed::Key;
+use std::alloc::{AllocError, Global};
+
+impl Folder {
+    /// The base folder of this path with this log. It is to be read: no file is made, and none is synced.
+    pub fn look(alloc: Global, path: &[u8], log: &Log) -> Result<Folder, AllocError>
+        requires { log.now.end.told.number < 10 }
+        ensures fresh { IfOk result (IsFresh path.now) }
+        ensures end { IfOk result (λ folder. folder.end ≡ log.now.end) }
+        ensures keys { IfOk result (λ folder. folder.keys ≡ log.now.end.told.keys) }
+    {
+        let names = Names::new(alloc, path, log.end.told.number)?;
+        let waiting = Waiting::new(alloc);
+        Ok(Folder {
+            names,
+            end: log.end,
+            told: log.end.told,
+            keys: log.end.told.keys,
+            waiting,
+        })
+    }
+
+    /// The message of this number, counted from 0, of a folder where nothing waits. It is `Damaged` if there is none, or
+    /// if its digest differs from that of its entry.
+    pub fn read_vouched<D: Disk, H: Digest>(
+        &self,
+        alloc: Global,
+        disk: &mut D,
+        place: usize,
+    ) -> Result<Alone, StoreError>
+        requires legible { Honestly (D.state disk.old) (IsLegible (D.state disk.old) self.now) }
+        requires within { place < self.now.keys / 16 }
+        requires written { IsWritten self.now }
+        ensures message { Honestly (D.state disk.new) ((s : Stored) → IsThere (held_by (D.state disk.old) self.now) place s → HasDigest H.keyed (held_by (D.state disk.old) self.now) place s
+            → Answers (λ alone. alone.messages ≡ message_in Second s ∷ []) result) }
+        ensures vouched { Honestly (D.state disk.new) (OnOk result (IsVouched H.keyed (held_by (D.state disk.old) self.now) place)) }
+        ensures quiet { ChangesNothing (D.state disk.old) (D.state disk.new) }
+        ensures cause { HasReadCause (D.failures disk.old) (D.failures disk.new) result }
+        ensures few { IsErrOf result StoreError.TooMany → ⊥ }
+    {
+        // Eight bytes count the messages, so `TooMany` never comes.
+        let _counted = self.told.messages;
+        let stored = self.stored(alloc, disk, place)?;
+        let alone = read_alone(alloc, &stored.bytes)?;
+        if self.has_digest::<H>(alloc, &alone, stored.digest)? {
+            Ok(alone)
+        } else {
+            Err(StoreError::Damaged)
+        }
+    }
+
+    // Whether the message has this digest.
+    fn has_digest<H: Digest>(
+        &self,
+        alloc: Global,
+        alone: &Alone,
+        digest: u64,
+    ) -> Result<bool, AllocError>
+        ensures { (m : Filed) → alone.now.messages ≡ m ∷ []
+            → IfOk result (λ has. IsTrue has ↔ (digest ≡ digest_by H.keyed self.now.told.mark (digested m))) }
+    {
+        let Some(message) = alone.message(0) else {
+            return Ok(false);
+        };
+        let key = Key::of_message(alloc, message)?;
+        let digested = bytes_of_key(alloc, &key)?;
+        Ok(digest == self.digest::<H>(&digested))
+    }
+}

@@ -1,0 +1,28 @@
+-- How a command ends that reads messages one by one.
+use Rattle.std.proofs.Common.{◌≡◌, ℕ, ◌≤◌, List, Result, Ok, Err, inl, inr}
+use Rattle.base_folder.specs.Fetching.{CannotRead, IsUnread}
+use Rattle.base_folder.proofs.Fetchings.{never_read, read_since}
+use Rattle.cmd_status.specs.declared.fault.Fault.{Fault}
+use Rattle.cmd_status.specs.Devices.{Output}
+use Rattle.cmd_status.specs.Ended.{Answers, AnswersInPieces}
+use Rattle.cmd_show.specs.Fetching.{AnswersReading, StopsReading}
+
+-- it stops the command, where standard output did not fail
+pub stops_reading : (path : List ℕ) (first before now printed after : ℕ) (fault : Fault) → first ≤ before → after ≡ printed → IsUnread path before now fault → StopsReading path first now printed after fault
+stops_reading path first before now printed after fault less same (inl memory) = inl (inr (memory, same))
+stops_reading path first before now printed after fault less same (inr read) = inr (read_since path first before now fault less read, same)
+
+-- what a command answers of messages in memory, of which no read fails
+module _ {A : Type 0} (P Q : List ℕ → A → Type 0) (refused : Fault → Type 0) (path : List ℕ) (old new : Output) (gives : (lines : List ℕ) (answer : A) → P lines answer → Q lines answer) where
+  pub in_pieces : (result : Result A Fault) → AnswersReading P path 0 0 old new result → AnswersInPieces Q refused old new result
+  in_pieces (Ok answer) done = record { lines = done.lines; right = gives done.lines answer done.right; written = done.written; flushed = done.flushed }
+  in_pieces (Err fault) (inl stops, begun) =
+      inl (stops, record { lines = begun.lines; answer = begun.answer; right = gives begun.lines begun.answer begun.right; begun = begun.begun })
+  in_pieces (Err fault) (inr (read, same), begun) = absurd (never_read path fault read)
+
+  pub at_once : (result : Result A Fault) → Answers P (CannotRead path 0 0) old new result → Answers Q refused old new result
+  at_once (Ok answer) done = record { lines = done.lines; right = gives done.lines answer done.right; written = done.written; flushed = done.flushed }
+  at_once (Err fault) (inl (failed, begun)) =
+      inl (failed, record { lines = begun.lines; answer = begun.answer; right = gives begun.lines begun.answer begun.right; begun = begun.begun })
+  at_once (Err fault) (inr (inl memory, same)) = inr (inl memory, same)
+  at_once (Err fault) (inr (inr read, same)) = absurd (never_read path fault read)
