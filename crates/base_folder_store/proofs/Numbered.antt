@@ -1,10 +1,12 @@
 -- A message stands where the entry of its number tells.
-use Rattle.std.proofs.Common.{◌≡◌, ℕ, ◌≤◌, ◌<◌, ◌+◌, ◌-◌, ◌*◌, ◌/◌, List, ◌++◌, length, min, take, drop, nat_lt, sym, ◌∙◌, ap, subst, arith, ⊎_elim, length-drop}
+use Rattle.std.proofs.Common.{◌≡◌, ℕ, ◌≤◌, ◌<◌, ◌+◌, ◌-◌, ◌*◌, ◌/◌, List, ◌++◌, length, min, take, drop, nat_lt, sym, ◌∙◌, ap, subst, arith, ⊎_elim, length-append, length-drop}
 use Rattle.std.proofs.lemmas.Bool.{cases_lt, cond-false, cond-true, le-ltb, lt-ltb}
 use Rattle.std.proofs.lemmas.List.{drop-append-le, drop-drop, length-take-le, take-append-drop, take-append-le, take-take}
 use Rattle.std.specs.Int.{w64, from_le_bytes}
 use Rattle.echo_filed.specs.Stored.{Stored, stored_bytes}
 use Rattle.echo_filed.specs.declared.stored.Version.TheVariants.{Second}
+use Rattle.base_store.specs.Index.{IsIndexOf, entries_of}
+use Rattle.base_store.specs.declared.index.Index.{Index}
 use Rattle.base_store.specs.Keys.{HasBytesOf, IsPieceOf, digest_at, place_at, place_behind}
 use Rattle.base_store.proofs.Found.{piece_digest}
 
@@ -91,3 +93,11 @@ piece_of keys piece from to order within is =
           ∙ ap (λ (l : List ℕ). l ++ drop (16 * to) keys) (sym is);
       even = omega (arith, long, order);
     }
+
+-- so is what an index holds of them
+pub piece_held : (keys : List ℕ) (index : Index) (items : List ℕ) (from to : ℕ) → IsIndexOf keys index → from ≤ to → 16 * to ≤ length (entries_of index)
+    → items ≡ drop (16 * from) (take (16 * to) (entries_of index)) → IsPieceOf keys from items
+piece_held keys index items from to is order within held =
+    let front : take (16 * to) keys ≡ take (16 * to) (entries_of index) = ap (λ (l : List ℕ). take (16 * to) l) is.front ∙ take-append-le (16 * to) (entries_of index) is.rest within in
+    let long : length keys ≡ length (entries_of index) + length is.rest = ap (λ (l : List ℕ). length l) is.front ∙ length-append (entries_of index) is.rest in
+    piece_of keys items from to order (omega (arith, within, long)) (held ∙ ap (λ (l : List ℕ). drop (16 * from) l) (sym front))

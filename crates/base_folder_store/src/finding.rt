@@ -97,7 +97,7 @@ impl Folder {
     {
         let mut below = self.count();
         'entries: while let Some(place) = index.find_below(digest, below) {
-            let stored = self.stored(alloc, disk, place)?;
+            let stored = self.stored(alloc, disk, Some(index), place)?;
             if is_stored(alloc, sought, &stored.bytes)? {
                 return Ok(true);
             }

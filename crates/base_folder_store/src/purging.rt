@@ -87,7 +87,7 @@ impl Folder {
         ensures cause { HasPurgeCause (D.state disk.new) (committed_by (D.state disk.old) next.old) (D.failures disk.old) (D.failures disk.new) result }
         ensures few { IsErrOf result StoreError.TooMany → ⊥ }
     {
-        let stored = self.stored(alloc, disk, place)?;
+        let stored = self.stored(alloc, disk, None, place)?;
         let digest = stored.digest;
         let scanned = (place as u64) < self.end.told.cursor;
         let left = left_of(alloc, stored.bytes, scanned)?;

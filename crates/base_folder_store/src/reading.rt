@@ -1,10 +1,11 @@
 //! Messages and keys of an open base folder, read from its files and from what waits to be written.
-ghost use Rattle.std.specs.Prelude.{◌≡◌, ◌≤◌, ◌<◌, ◌+◌, ◌-◌, ◌*◌, ◌^◌, ◌/◌, ◌++◌, List, length, min, IfOk, IsErrOf, IsSome, drop, take};
+ghost use Rattle.std.specs.Prelude.{◌≡◌, ◌≤◌, ◌<◌, ◌+◌, ◌-◌, ◌*◌, ◌^◌, ◌/◌, ◌++◌, List, length, min, IfOk, IsErrOf, IfSome, IsSome, drop, take};
 ghost use Rattle.disk_io.specs.Disk.{Honestly, bytes_in};
 ghost use Rattle.disk_io.specs.Runs.{ChangesNothing, HasCause};
 ghost use Rattle.echo_filed.specs.Filed.{Filed};
 ghost use Rattle.echo_filed.specs.Stored.{Stored, stored_bytes};
 ghost use Rattle.echo_filed.specs.declared.stored.Version.TheVariants.{Second};
+ghost use Rattle.base_store.specs.Index.{IsIndexOf};
 ghost use Rattle.base_store.specs.Keys.{HasBytesOf, IsPieceOf, StandWhereTold, digest_at};
 ghost use Rattle.base_folder_store.specs.Added.{next_place};
 ghost use Rattle.base_folder_store.specs.Answers.{Answers, HasReadCause, IsAloneOf, IsStoredOf};
@@ -12,7 +13,7 @@ ghost use Rattle.base_folder_store.specs.Opened.{IsLegible, held_by};
 
 use crate::alone::{Alone, read_alone};
 use crate::folder::{ENTRY, Folder};
-use base_store::{StoreError, digest_of, end_of, place_of};
+use base_store::{Index, StoreError, digest_of, end_of, place_of};
 use disk_io::{Disk, DiskError, read_part};
 use std::alloc::Global;
 
@@ -113,14 +114,16 @@ impl Folder {
         Ok(piece)
     }
 
-    // The entry of the message of this number, and the next one if there is one.
+    // The entry of the message of this number, and the next one if there is one. They are read only if the index lacks them.
     pub(crate) fn entry_at<D: Disk>(
         &self,
         alloc: Global,
         disk: &mut D,
+        index: Option<&Index>,
         place: usize,
     ) -> Result<Vec<u8>, StoreError>
         requires legible { Honestly (D.state disk.old) (IsLegible (D.state disk.old) self.now) }
+        requires indexed { Honestly (D.state disk.old) (IfSome index (λ index. IsIndexOf (held_by (D.state disk.old) self.now).keys index.now)) }
         requires within { place < self.now.keys / 16 }
         ensures long { IfOk result (λ entry. length entry.items / 16 ≡ min 2 (self.now.keys / 16 - place)) }
         ensures entry { Honestly (D.state disk.new) (IfOk result (λ entry. IsPieceOf (held_by (D.state disk.old) self.now).keys place entry.items)) }
@@ -130,7 +133,14 @@ impl Folder {
         ensures few { IsErrOf result StoreError.TooMany → ⊥ }
     {
         let next = place + (self.count() - place).min(2);
-        self.read_keys(alloc, disk, place, next)
+        let held = match index {
+            Some(index) => index.piece(place, next),
+            None => None,
+        };
+        match held {
+            Some(piece) => Ok(Vec::from_slice(alloc, piece)?),
+            None => self.read_keys(alloc, disk, place, next),
+        }
     }
 
     // The bytes of the message with this entry.
@@ -153,14 +163,16 @@ impl Folder {
         stored_at(alloc, disk, messages, self.told.messages, waiting, entry)
     }
 
-    // The bytes of the message of this number, counted from 0, and its digest.
+    // The bytes of the message of this number, counted from 0, and its digest. Its entry may come from an index.
     pub(crate) fn stored<D: Disk>(
         &self,
         alloc: Global,
         disk: &mut D,
+        index: Option<&Index>,
         place: usize,
     ) -> Result<StoredMessage, StoreError>
         requires legible { Honestly (D.state disk.old) (IsLegible (D.state disk.old) self.now) }
+        requires indexed { Honestly (D.state disk.old) (IfSome index (λ index. IsIndexOf (held_by (D.state disk.old) self.now).keys index.now)) }
         requires within { place < self.now.keys / 16 }
         ensures stored { Honestly (D.state disk.new) ((base : List Filed) → StandWhereTold base (held_by (D.state disk.old) self.now).messages (held_by (D.state disk.old) self.now).keys
             → place < length base → Answers (λ stored. IsStoredOf base place stored.bytes.items) result) }
@@ -173,7 +185,7 @@ impl Folder {
         ensures cause { HasReadCause (D.failures disk.old) (D.failures disk.new) result }
         ensures many { IsErrOf result StoreError.TooMany → 2 ^ 64 ≤ next_place self.now }
     {
-        let entry = self.entry_at(alloc, disk, place)?;
+        let entry = self.entry_at(alloc, disk, index, place)?;
         let bytes = self.stored_by(alloc, disk, &entry)?;
         let digest = digest_of(&entry, 0);
         Ok(StoredMessage { bytes, digest })
@@ -194,7 +206,7 @@ impl Folder {
         ensures cause { HasReadCause (D.failures disk.old) (D.failures disk.new) result }
         ensures many { IsErrOf result StoreError.TooMany → 2 ^ 64 ≤ next_place self.now }
     {
-        let stored = self.stored(alloc, disk, place)?;
+        let stored = self.stored(alloc, disk, None, place)?;
         read_alone(alloc, &stored.bytes)
     }
 }

@@ -59,7 +59,7 @@ impl Folder {
     {
         // Eight bytes count the messages, so `TooMany` never comes.
         let _counted = self.told.messages;
-        let stored = self.stored(alloc, disk, place)?;
+        let stored = self.stored(alloc, disk, None, place)?;
         let alone = read_alone(alloc, &stored.bytes)?;
         if self.has_digest::<H>(alloc, &alone, stored.digest)? {
             Ok(alone)

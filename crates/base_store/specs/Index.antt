@@ -21,6 +21,10 @@ pub record AreChains (keys heads before : List ℕ) : Type 0 where
   pub last_of : (head : ℕ) → head < length heads → IsLastUnder keys (length heads) head (length before) (slice_index heads head)
   pub last_before : (i : ℕ) → i < length before → IsLastUnder keys (length heads) (head_of (length heads) (digest_at keys i)) i (slice_index before i)
 
+-- the entries that it holds
+abbrev pub entries_of : Index → List ℕ
+entries_of index = index.keys.items
+
 -- how many messages are chained
 abbrev pub count_of : Index → ℕ
 count_of index = length index.before.items

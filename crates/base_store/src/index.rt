@@ -1,7 +1,7 @@
 //! An index of the keys: a look-up goes only to the messages with a digest.
-ghost use Rattle.std.specs.Prelude.{◌≡◌, ◌≢◌, ◌<◌, ◌≤◌, ◌+◌, ◌/◌, ◌^◌, ◌⊎◌, ℕ, List, length, min, slice_index, IfSome, IfNone, OnOk};
+ghost use Rattle.std.specs.Prelude.{◌≡◌, ◌≢◌, ◌<◌, ◌≤◌, ◌+◌, ◌*◌, ◌/◌, ◌^◌, ◌⊎◌, ℕ, List, drop, length, min, slice_index, take, IfSome, IfNone, OnOk};
 ghost use Rattle.base_store.specs.Keys.{IsPieceOf, digest_at};
-ghost use Rattle.base_store.specs.Index.{AreChains, IsIndexOf, count_of, covered, head_of};
+ghost use Rattle.base_store.specs.Index.{AreChains, IsIndexOf, count_of, covered, entries_of, head_of};
 
 use crate::entries::{ENTRY, digest_of, has_digest, last_from};
 use crate::expected::Expected;
@@ -160,6 +160,18 @@ impl Index {
         if !self.expected.has(digest) {
             let _followed = self.follow(alloc);
         }
+    }
+
+    /// The entries of the messages from one number up to another, if it holds them.
+    pub fn piece(&self, from: usize, to: usize) -> Option<&[u8]>
+        requires { from ≤ to }
+        ensures held { IfSome result (λ piece. (16 * to ≤ length (entries_of self.now)) × (piece.now ≡ drop (16 * from) (take (16 * to) (entries_of self.now)))) }
+        ensures none { IfNone result (length (entries_of self.now) / 16 < to) }
+    {
+        if to > self.keys.len() / ENTRY {
+            return None;
+        }
+        Some(&self.keys[ENTRY * from..ENTRY * to])
     }
 
     // The message of this number, counted from 1, and the previous one under the same head.

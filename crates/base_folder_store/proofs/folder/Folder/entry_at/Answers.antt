@@ -1,16 +1,17 @@
-use Rattle.std.proofs.Common.{◌≡◌, ◌+◌, ◌-◌, ◌*◌, ◌/◌, ℕ, length, min, arith}
-use Rattle.std.specs.Prelude.{Vec}
-use Rattle.std.specs.declared.alloc.Global.{Global}
-use Rattle.std.proofs.lemmas.Result.{IfOk-weaker}
+use Rattle.std.proofs.Common.{◌≡◌, ◌+◌, ◌∙◌, Some, None, sym, arith}
+use Rattle.base_folder_store.specs.Opened.{held_by}
+use Rattle.base_folder_store.proofs.Numbered.{piece_held}
 use Rattle.base_folder_store.proofs.folder.Folder.entry_at.Goals as goal
+use Rattle.base_folder_store.proofs.folder.Folder.entry_at.Goals.{in-Some, in-None}
 
-pub returns-clause-long : goal.returns-clause-long
-returns-clause-long g c =
-    let count = c.count.ensures in
-    let two = c.min.ensures in
-    let within = c.requires.within in
-    let keys = c.args.self.now.keys in
-    let place = c.args.place in
-    let next = place + c.min.result in
-    IfOk-weaker c.read_keys.result (λ (v : Vec ℕ Global). length v.items ≡ 16 * next - 16 * place) (λ (v : Vec ℕ Global). length v.items / 16 ≡ min 2 (keys / 16 - place))
-    (λ v long. omega (arith, long, count, two, within)) c.read_keys.ensures.long
+pub returns-in_ok-from_slice-in-Some-held-clause-entry : goal.returns-in_ok-from_slice-in-Some-held-clause-entry
+returns-in_ok-from_slice-in-Some-held-clause-entry g c = λ honest.
+    elim c.match-index.branch [
+      | in-Some w ↦
+          let keys = (held_by (g.D.Disk.state c.args.disk.now) c.args.self.now).keys in
+          let indexed = rw w.in-Some.is at c.requires.indexed honest in
+          let held = rw (sym w.held-is ∙ c.in-Some-held.is) at w.piece-held.ensures.held in
+          piece_held keys w.in-Some.index.now c.in_ok-from_slice-in-Some-held.field-0.items c.args.place (c.args.place + c.min.result) indexed (omega arith) held.0
+          (c.in_ok-from_slice-in-Some-held.ensures.items ∙ held.1)
+      | in-None w ↦ let none : Some c.in-Some-held.piece ≡ None = sym c.in-Some-held.is ∙ w.held-is in absurd cc
+    ]
