@@ -114,7 +114,8 @@ impl Folder {
         Ok(piece)
     }
 
-    // The entry of the message of this number, and the next one if there is one. They are read only if the index lacks them.
+    // The entry of the message of this number, and the next one if there is one. They are read only if the index lacks
+    // them.
     pub(crate) fn entry_at<D: Disk>(
         &self,
         alloc: Global,
