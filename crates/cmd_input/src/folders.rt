@@ -60,7 +60,14 @@ fn look_at<'r, 'a>(
 {
     let disk = RealDisk::new(rt, Unknown);
     let path = path.as_bytes();
-    match read_folder(rt.alloc(), disk, path, strange, first, &Messages { progress }) {
+    match read_folder(
+        rt.alloc(),
+        disk,
+        path,
+        strange,
+        first,
+        &Messages { progress },
+    ) {
         Ok(messages) => Ok(messages),
         Err(why) => Err(why.fault(base)),
     }
