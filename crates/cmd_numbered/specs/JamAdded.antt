@@ -1,5 +1,5 @@
 -- Messages of a base that are added to a JAM base: which ones, their numbers, and their bytes in its files.
-use Rattle.std.specs.Prelude.{◌≡◌, ℕ, zero, suc, ◌+◌, ◌⊎◌, ◌&&◌, not, nat_lt, max, Bool, false, is_some, List, [], ◌∷◌, ◌++◌, length, if◌then◌else◌, slice_get, Option, Some, None, Result, Ok, Err}
+use Rattle.std.specs.Prelude.{◌≡◌, ℕ, zero, suc, ◌+◌, ◌&&◌, not, nat_lt, max, Bool, false, is_some, List, [], ◌∷◌, ◌++◌, length, if◌then◌else◌, slice_get, Option, Some, None, Result, Ok, Err}
 use Rattle.echo_filed.specs.Filed.{Filed}
 use Rattle.echo_links.specs.Links.{upper}
 use Rattle.echo_jam.specs.Fields.{body_of, cuts_of}
@@ -8,8 +8,8 @@ use Rattle.echo_jam.specs.Same.{is_same}
 use Rattle.echo_jam.specs.Unsent.{has_id}
 use Rattle.echo_text.specs.Echo.{msgid_of}
 use Rattle.cmd_status.specs.declared.fault.Fault.{Fault}
-use Rattle.cmd_status.specs.Ended.{IsOutOfMemory}
-use Rattle.cmd_status.specs.Inputs.{IsBaseFault, IsBaseGiven}
+use Rattle.base_file.specs.Base.{Base}
+use Rattle.base_folder.specs.Fetching.{IsUnread}
 use Rattle.cmd_numbered.specs.declared.adding.Adding.{Adding}
 use Rattle.cmd_numbered.specs.declared.adding.JamEnd.{JamEnd}
 use Rattle.cmd_numbered.specs.declared.adding.JamExport.{JamExport}
@@ -83,19 +83,15 @@ resumed_jam area first cursor headers last text base (suc n) =
     if is_last_jam area first cursor headers last text n (slice_get base n) then n + 1
     else resumed_jam area first cursor headers last text base n
 
--- The base file has no fault, and this is what its messages add: those of the area from the number `first` on, or from
--- behind the one that is the last of the JAM base, except for what the JAM base has from an editor. The area is asked for in
--- letters of either case.
-pub record IsJamExport (area : List ℕ) (first : ℕ) (headers index : List ℕ) (last : Option ℕ) (text : List ℕ) (end : JamEnd) (base : List ℕ) (exported : JamExport) : Type 0 where
-  pub messages : List Filed
-  pub cursor : ℕ
-  pub given : IsBaseGiven (Some base) messages cursor
+-- This is what the messages of a base add: those of the area from the number `first` on, or from behind the one that is the
+-- last of the JAM base, except for what the JAM base has from an editor. The area is asked for in letters of either case.
+pub record IsJamExport (area : List ℕ) (first : ℕ) (headers index : List ℕ) (last : Option ℕ) (text : List ℕ) (end : JamEnd) (base : Base) (exported : JamExport) : Type 0 where
   pub from : ℕ
-  pub from_is : from ≡ resumed_jam (upper area) first cursor headers last text messages (length messages)
-  pub added_is : added_in exported.adding ≡ added_of (upper area) from cursor headers index end messages (length messages)
-  pub end_is : exported.end ≡ max from (length messages)
+  pub from_is : from ≡ resumed_jam (upper area) first base.cursor headers last text base.messages (length base.messages)
+  pub added_is : added_in exported.adding ≡ added_of (upper area) from base.cursor headers index end base.messages (length base.messages)
+  pub end_is : exported.end ≡ max from (length base.messages)
 
--- the right answer if the messages of a base are to be added to a JAM base
-abbrev pub JamAnswers : List ℕ → ℕ → List ℕ → List ℕ → Option ℕ → List ℕ → JamEnd → List ℕ → Result JamExport Fault → Type 0
-JamAnswers area first headers index last text end base (Ok exported) = IsJamExport area first headers index last text end base exported
-JamAnswers area first headers index last text end base (Err fault) = IsOutOfMemory fault ⊎ IsBaseFault (Some base) fault
+-- the right answer if the messages of the base with this path are to be added to a JAM base
+abbrev pub JamAnswers : List ℕ → ℕ → List ℕ → List ℕ → Option ℕ → List ℕ → JamEnd → Base → List ℕ → ℕ → ℕ → Result JamExport Fault → Type 0
+JamAnswers area first headers index last text end base path before now (Ok exported) = IsJamExport area first headers index last text end base exported
+JamAnswers area first headers index last text end base path before now (Err fault) = IsUnread path before now fault

@@ -1,12 +1,12 @@
 -- Messages of a base as numbered files of a folder: which of them, their bytes, and under which numbers.
-use Rattle.std.specs.Prelude.{◌≡◌, ℕ, zero, suc, ◌+◌, ◌⊎◌, ◌&&◌, ◌||◌, not, nat_le, nat_lt, max, Bool, false, List, [], ◌∷◌, ◌++◌, length, take, drop, if◌then◌else◌, slice_get, bytes_eq, Option, Some, None, is_some, Result, Ok, Err}
+use Rattle.std.specs.Prelude.{◌≡◌, ℕ, zero, suc, ◌+◌, ◌&&◌, ◌||◌, not, nat_le, nat_lt, max, Bool, false, List, [], ◌∷◌, ◌++◌, length, take, drop, if◌then◌else◌, slice_get, bytes_eq, Option, Some, None, is_some, Result, Ok, Err}
 use Rattle.echo_filed.specs.Filed.{Filed}
 use Rattle.echo_filed.specs.Stubs.{is_stub}
 use Rattle.echo_links.specs.Links.{upper}
 use Rattle.echo_text.specs.Echo.{msgid_of}
 use Rattle.cmd_status.specs.declared.fault.Fault.{Fault}
-use Rattle.cmd_status.specs.Ended.{IsOutOfMemory}
-use Rattle.cmd_status.specs.Inputs.{IsBaseFault, IsBaseGiven}
+use Rattle.base_file.specs.Base.{Base}
+use Rattle.base_folder.specs.Fetching.{IsUnread}
 use Rattle.echo_stored.specs.StoredMessage.{stored_bytes}
 use Rattle.cmd_numbered.specs.declared.numbering.Exported.{Exported}
 use Rattle.cmd_numbered.specs.declared.numbering.MessageFile.{MessageFile}
@@ -62,18 +62,15 @@ files_of area first cursor number base (suc n) =
 abbrev pub first_number : ℕ → ℕ
 first_number greatest = max greatest 1 + 1
 
--- The base file has no fault, and these are the files of its messages: those of the area from the number `first` on, or
--- from behind the one that is the last file of the folder. The area is asked for in letters of either case.
-pub record IsExport (area : List ℕ) (first greatest : ℕ) (last : Option (List ℕ)) (base : List ℕ) (exported : Exported) : Type 0 where
-  pub messages : List Filed
-  pub cursor : ℕ
-  pub given : IsBaseGiven (Some base) messages cursor
+-- These are the files of the messages of a base: those of the area from the number `first` on, or from behind the one that
+-- is the last file of the folder. The area is asked for in letters of either case.
+pub record IsExport (area : List ℕ) (first greatest : ℕ) (last : Option (List ℕ)) (base : Base) (exported : Exported) : Type 0 where
   pub from : ℕ
-  pub from_is : from ≡ resumed (upper area) first cursor last messages (length messages)
-  pub files_are : exported.files ≡ files_of (upper area) from cursor (first_number greatest) messages (length messages)
-  pub end_is : exported.end ≡ max from (length messages)
+  pub from_is : from ≡ resumed (upper area) first base.cursor last base.messages (length base.messages)
+  pub files_are : exported.files ≡ files_of (upper area) from base.cursor (first_number greatest) base.messages (length base.messages)
+  pub end_is : exported.end ≡ max from (length base.messages)
 
--- the right answer if the messages of a base are to become files
-abbrev pub ExportAnswers : List ℕ → ℕ → ℕ → Option (List ℕ) → List ℕ → Result Exported Fault → Type 0
-ExportAnswers area first greatest last base (Ok exported) = IsExport area first greatest last base exported
-ExportAnswers area first greatest last base (Err fault) = IsOutOfMemory fault ⊎ IsBaseFault (Some base) fault
+-- the right answer if the messages of the base with this path are to become files
+abbrev pub ExportAnswers : List ℕ → ℕ → ℕ → Option (List ℕ) → Base → List ℕ → ℕ → ℕ → Result Exported Fault → Type 0
+ExportAnswers area first greatest last base path before now (Ok exported) = IsExport area first greatest last base exported
+ExportAnswers area first greatest last base path before now (Err fault) = IsUnread path before now fault

@@ -1,15 +1,16 @@
 //! Which messages are added to a JAM base, and what that adds.
-ghost use Rattle.std.specs.Prelude.{List, ℕ, Some, ◌≡◌, ◌⊎◌, ◌+◌, ◌&&◌, not, IfOk, OnOk, length, option_copied};
-ghost use Rattle.cmd_status.specs.Inputs.{IsBaseGiven};
+ghost use Rattle.std.specs.Prelude.{◌≡◌, ◌≤◌, ◌+◌, ◌&&◌, not, IfErr, IfOk, OnOk, length, option_copied};
+ghost use Rattle.base_file.specs.Base.{Base};
+ghost use Rattle.base_folder.specs.Fetching.{IsUnread};
+ghost use Rattle.base_folder.specs.Source.{LooksAt};
 ghost use Rattle.cmd_numbered.specs.JamAdded.{JamAnswers, added_at, added_in, added_of, is_added, is_last_jam, is_written_there, nothing_added, resumed_jam, with_message};
 
-use crate::numbering::{base_read, is_exported};
-use base_file::Base;
+use crate::numbering::is_exported;
+use base_folder::{MessageSource, fetch_message};
 use cmd_status::Fault;
 use echo_filed::Filed;
 use echo_jam::{Jam, has_id, is_same, push_jam};
 use std::alloc::{AllocError, Global};
-use std::hash::BuildHasher;
 
 /// The end of a JAM base: the number of its next message, and the length of its headers and texts.
 #[derive(Clone, Copy, Debug)]
@@ -46,53 +47,50 @@ pub struct JamExport {
 
 /// `export --jam PATH --area TAG [--from I] BASE`: what the messages of the area add to a JAM base, from the number
 /// `first` on, or from behind the one that is its last: a run that was stopped goes on there. What the JAM base has from an
-/// editor is not added.
-pub fn export_jam<'a, S: BuildHasher + Drop>(
+/// editor is not added. The messages are those of the base with this path.
+pub fn export_jam<'a, M: MessageSource>(
     alloc: Global,
     area: &[u8],
     first: u64,
     jam: JamBase<'_>,
-    base: &[u8],
-    hasher: S,
+    path: &'a str,
+    messages: &mut M,
 ) -> Result<JamExport, Fault<'a>>
-    ensures { JamAnswers area.now first jam.entry.headers.now jam.entry.index.now jam.entry.last jam.entry.text.now jam.entry.end base.now result }
-{
-    let base = base_read(alloc, base, hasher)?;
-    export_read_jam(alloc, area, first, jam, &base)
-}
-
-// The same of a base that is read.
-fn export_read_jam<'a, S: BuildHasher>(
-    alloc: Global,
-    area: &[u8],
-    first: u64,
-    jam: JamBase<'_>,
-    base: &Base<S>,
-) -> Result<JamExport, Fault<'a>>
-    ensures { (bytes : List ℕ) → IsBaseGiven (Some bytes) base.now.messages base.now.cursor
-        → JamAnswers area.now first jam.entry.headers.now jam.entry.index.now jam.entry.last jam.entry.text.now jam.entry.end bytes result }
+    requires { (M.state messages.old).is_ready }
+    ensures { (M.state messages.new).is_honest → (base : Base) → (M.state messages.old).holds base
+        → JamAnswers area.now first jam.entry.headers.now jam.entry.index.now jam.entry.last jam.entry.text.now jam.entry.end base path.now (M.state messages.old).failures (M.state messages.new).failures result }
 {
     let area = area.to_ascii_uppercase(alloc)?;
-    let from = resumed_jam(alloc, &area, first, jam, base)?;
-    let adding = added_of(alloc, &area, from, jam, base)?;
-    let end = from.max(base.len() as u64);
+    let count = messages.count();
+    let from = resumed_jam(alloc, &area, first, jam, path, messages)?;
+    let adding = added_of(alloc, &area, from, jam, path, messages)?;
+    let end = from.max(count as u64);
     Ok(JamExport { adding, end })
 }
 
 // The number behind the last message that the last one of the JAM base is, else `first`.
-fn resumed_jam<S: BuildHasher>(
+fn resumed_jam<'a, M: MessageSource>(
     alloc: Global,
     area: &[u8],
     first: u64,
     jam: JamBase<'_>,
-    base: &Base<S>,
-) -> Result<u64, AllocError>
-    ensures { IfOk result (λ from. from ≡ resumed_jam area.now first base.now.cursor jam.entry.headers.now jam.entry.last jam.entry.text.now base.now.messages (length base.now.messages)) }
+    path: &'a str,
+    messages: &mut M,
+) -> Result<u64, Fault<'a>>
+    requires { (M.state messages.old).is_ready }
+    ensures from { (M.state messages.new).is_honest → (base : Base) → (M.state messages.old).holds base
+        → IfOk result (λ from. from ≡ resumed_jam area.now first base.cursor jam.entry.headers.now jam.entry.last jam.entry.text.now base.messages (length base.messages)) }
+    ensures fault { (M.state messages.new).is_honest → (base : Base) → (M.state messages.old).holds base
+        → IfErr result (IsUnread path.now (M.state messages.old).failures (M.state messages.new).failures) }
+    ensures looks { LooksAt (M.state messages.old) (M.state messages.new) }
+    ensures later { (M.state messages.old).failures ≤ (M.state messages.new).failures }
 {
-    let cursor = base.cursor();
+    let count = messages.count();
+    let cursor = messages.cursor();
     let mut from = first;
-    'messages: for i in 0..base.len() {
-        if is_last_jam(alloc, area, first, cursor, jam, i, base.message(i))? {
+    'messages: for i in 0..count {
+        fetch_message(messages, path, i)?;
+        if is_last_jam(alloc, area, first, cursor, jam, i, messages.at_hand())? {
             from = i as u64 + 1;
         }
     }
@@ -134,24 +132,34 @@ struct Selection<'a> {
 }
 
 // What the messages add.
-fn added_of<S: BuildHasher>(
+fn added_of<'a, M: MessageSource>(
     alloc: Global,
     area: &[u8],
     first: u64,
     jam: JamBase<'_>,
-    base: &Base<S>,
-) -> Result<Adding, AllocError>
-    ensures { IfOk result (λ adding. added_in adding ≡ added_of area.now first base.now.cursor jam.entry.headers.now jam.entry.index.now jam.entry.end base.now.messages (length base.now.messages)) }
+    path: &'a str,
+    messages: &mut M,
+) -> Result<Adding, Fault<'a>>
+    requires { (M.state messages.old).is_ready }
+    ensures added { (M.state messages.new).is_honest → (base : Base) → (M.state messages.old).holds base
+        → IfOk result (λ adding. added_in adding ≡ added_of area.now first base.cursor jam.entry.headers.now jam.entry.index.now jam.entry.end base.messages (length base.messages)) }
+    ensures fault { (M.state messages.new).is_honest → (base : Base) → (M.state messages.old).holds base
+        → IfErr result (IsUnread path.now (M.state messages.old).failures (M.state messages.new).failures) }
+    ensures looks { LooksAt (M.state messages.old) (M.state messages.new) }
+    ensures later { (M.state messages.old).failures ≤ (M.state messages.new).failures }
 {
+    let count = messages.count();
+    let cursor = messages.cursor();
     let wanted = Selection {
         area,
         first,
-        cursor: base.cursor(),
+        cursor,
         jam,
     };
     let mut adding = nothing_added(alloc);
-    'messages: for i in 0..base.len() {
-        add_if_wanted(alloc, &mut adding, wanted, i, base.message(i))?;
+    'messages: for i in 0..count {
+        fetch_message(messages, path, i)?;
+        add_if_wanted(alloc, &mut adding, wanted, i, messages.at_hand())?;
     }
     Ok(adding)
 }

@@ -1,11 +1,11 @@
 //! The message of a base that has an id.
-ghost use Rattle.std.specs.Prelude.{List, ℕ, Some, ◌≡◌, ◌≢◌, ◌≤◌, ◌<◌, ◌^◌, not, IfOk, MatchOption, length, option_copied, take_while};
+ghost use Rattle.std.specs.Prelude.{List, ℕ, Some, ◌≡◌, ◌≢◌, ◌≤◌, ◌<◌, ◌⊎◌, ◌^◌, not, IfErr, IfOk, MatchOption, length, option_copied, take_while};
 ghost use Rattle.echo_text.specs.Ids.{id_of};
-ghost use Rattle.cmd_status.specs.Inputs.{IsBaseGiven};
+ghost use Rattle.cmd_status.specs.Ended.{IsOutOfMemory};
+ghost use Rattle.cmd_status.specs.Inputs.{IsBaseFault, IsBaseGiven};
 ghost use Rattle.echo_addr.specs.Entries.{is_blank};
 ghost use Rattle.cmd_numbered.specs.Finding.{AnsweredAnswers, PostedAnswers, answered_as, charset_of, has_id, has_words, label_name, last_with};
 
-use crate::numbering::base_read;
 use base_file::Base;
 use cmd_status::Fault;
 use echo_addr::{Address, Items, is_blank};
@@ -35,6 +35,18 @@ pub fn find_answered<'a, S: BuildHasher + Drop>(
 {
     let base = base_read(alloc, base, hasher)?;
     answered_in(alloc, id, &base)
+}
+
+// The base of the file.
+fn base_read<'a, S: BuildHasher + Drop>(
+    alloc: Global,
+    base: &[u8],
+    hasher: S,
+) -> Result<Base<S>, Fault<'a>>
+    ensures ok { IfOk result (λ b. IsBaseGiven (Some base.now) b.messages b.cursor) }
+    ensures err { IfErr result (λ fault. IsOutOfMemory fault ⊎ IsBaseFault (Some base.now) fault) }
+{
+    Ok(Base::load(alloc, &mut &*base, hasher)?)
 }
 
 // The same of a base that is read.

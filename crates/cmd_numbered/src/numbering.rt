@@ -1,19 +1,19 @@
 //! Which messages become files, and under which numbers.
-ghost use Rattle.std.specs.Prelude.{List, ℕ, ◌≡◌, ◌⊎◌, ◌+◌, ◌++◌, ◌&&◌, Some, IfErr, IfOk, OnOk, drop, length, option_copied, take};
+ghost use Rattle.std.specs.Prelude.{ℕ, ◌≡◌, ◌≤◌, ◌+◌, ◌++◌, ◌&&◌, IfErr, IfOk, OnOk, drop, length, option_copied, take};
+ghost use Rattle.base_file.specs.Base.{Base};
+ghost use Rattle.base_folder.specs.Fetching.{IsUnread};
+ghost use Rattle.base_folder.specs.Source.{LooksAt};
 ghost use Rattle.echo_links.specs.Links.{upper};
-ghost use Rattle.cmd_status.specs.Ended.{IsOutOfMemory};
-ghost use Rattle.cmd_status.specs.Inputs.{IsBaseFault, IsBaseGiven};
 ghost use Rattle.echo_stored.specs.StoredMessage.{stored_bytes};
 ghost use Rattle.cmd_numbered.specs.Numbered.{ExportAnswers, before_numbers, behind_numbers, file_at, file_of, files_of, first_number, is_exported, is_last, is_purged, is_same_stored, resumed};
 
 use crate::names::file_name;
-use base_file::Base;
+use base_folder::{MessageSource, fetch_message};
 use cmd_status::Fault;
 use echo_addr::Items;
 use echo_filed::{Filed, is_stub};
 use echo_stored::push_stored;
 use std::alloc::{AllocError, Global};
-use std::hash::BuildHasher;
 
 /// A file that is to be made: its name in the folder, the number of its message in the base, and its bytes.
 #[derive(Debug, Drop)]
@@ -30,40 +30,27 @@ pub struct Exported {
     pub end: u64,
 }
 
-/// `export --msg DIR --area TAG [--from I] BASE`: the messages of the area as files, from the number `first` on. If
-/// the last file of the folder is one of these messages, they start after it: so a stopped run continues. `greatest`
-/// is the number of that file, 0 if there is none.
-pub fn export_files<'a, S: BuildHasher + Drop>(
+/// `export --msg DIR --area TAG [--from I] BASE`: the messages of the area as files, from the number `first` on, of
+/// the base with this path. If the last file of the folder is one of these messages, they start after it: so a stopped
+/// run continues. `greatest` is the number of that file, 0 if there is none.
+pub fn export_files<'a, M: MessageSource>(
     alloc: Global,
     area: &[u8],
     first: u64,
     greatest: u32,
     last: Option<&[u8]>,
-    base: &[u8],
-    hasher: S,
+    path: &'a str,
+    messages: &mut M,
 ) -> Result<Exported, Fault<'a>>
-    ensures { ExportAnswers area.now first greatest (option_copied last.entry) base.now result }
-{
-    let base = base_read(alloc, base, hasher)?;
-    export_read(alloc, area, first, greatest, last, &base)
-}
-
-// The same of a base that is read.
-fn export_read<'a, S: BuildHasher>(
-    alloc: Global,
-    area: &[u8],
-    first: u64,
-    greatest: u32,
-    last: Option<&[u8]>,
-    base: &Base<S>,
-) -> Result<Exported, Fault<'a>>
-    ensures { (bytes : List ℕ) → IsBaseGiven (Some bytes) base.now.messages base.now.cursor
-        → ExportAnswers area.now first greatest (option_copied last.entry) bytes result }
+    requires { (M.state messages.old).is_ready }
+    ensures { (M.state messages.new).is_honest → (base : Base) → (M.state messages.old).holds base
+        → ExportAnswers area.now first greatest (option_copied last.entry) base path.now (M.state messages.old).failures (M.state messages.new).failures result }
 {
     let area = area.to_ascii_uppercase(alloc)?;
-    let from = resumed(alloc, &area, first, last, base)?;
-    let files = files_of(alloc, &area, from, first_number(greatest), base)?;
-    let end = from.max(base.len() as u64);
+    let count = messages.count();
+    let from = resumed(alloc, &area, first, last, path, messages)?;
+    let files = files_of(alloc, &area, from, first_number(greatest), path, messages)?;
+    let end = from.max(count as u64);
     Ok(Exported {
         files: Items::new(files),
         end,
@@ -77,32 +64,29 @@ fn first_number(greatest: u32) -> u64
     u64::from(greatest.max(1)) + 1
 }
 
-/// The base of the file.
-pub(crate) fn base_read<'a, S: BuildHasher + Drop>(
-    alloc: Global,
-    base: &[u8],
-    hasher: S,
-) -> Result<Base<S>, Fault<'a>>
-    ensures ok { IfOk result (λ b. IsBaseGiven (Some base.now) b.messages b.cursor) }
-    ensures err { IfErr result (λ fault. IsOutOfMemory fault ⊎ IsBaseFault (Some base.now) fault) }
-{
-    Ok(Base::load(alloc, &mut &*base, hasher)?)
-}
-
 // The number behind the last message that the last file of the folder is, else `first`.
-fn resumed<S: BuildHasher>(
+fn resumed<'a, M: MessageSource>(
     alloc: Global,
     area: &[u8],
     first: u64,
     last: Option<&[u8]>,
-    base: &Base<S>,
-) -> Result<u64, AllocError>
-    ensures { IfOk result (λ from. from ≡ resumed area.now first base.now.cursor (option_copied last.entry) base.now.messages (length base.now.messages)) }
+    path: &'a str,
+    messages: &mut M,
+) -> Result<u64, Fault<'a>>
+    requires { (M.state messages.old).is_ready }
+    ensures from { (M.state messages.new).is_honest → (base : Base) → (M.state messages.old).holds base
+        → IfOk result (λ from. from ≡ resumed area.now first base.cursor (option_copied last.entry) base.messages (length base.messages)) }
+    ensures fault { (M.state messages.new).is_honest → (base : Base) → (M.state messages.old).holds base
+        → IfErr result (IsUnread path.now (M.state messages.old).failures (M.state messages.new).failures) }
+    ensures looks { LooksAt (M.state messages.old) (M.state messages.new) }
+    ensures later { (M.state messages.old).failures ≤ (M.state messages.new).failures }
 {
-    let cursor = base.cursor();
+    let count = messages.count();
+    let cursor = messages.cursor();
     let mut from = first;
-    'messages: for i in 0..base.len() {
-        if is_last(alloc, area, first, cursor, last, i, base.message(i))? {
+    'messages: for i in 0..count {
+        fetch_message(messages, path, i)?;
+        if is_last(alloc, area, first, cursor, last, i, messages.at_hand())? {
             from = i as u64 + 1;
         }
     }
@@ -186,29 +170,30 @@ fn behind_numbers(bytes: &[u8]) -> &[u8]
 }
 
 // The files of the messages.
-fn files_of<S: BuildHasher>(
+fn files_of<'a, M: MessageSource>(
     alloc: Global,
     area: &[u8],
     first: u64,
     number: u64,
-    base: &Base<S>,
-) -> Result<Vec<MessageFile>, AllocError>
-    ensures { IfOk result (λ files. files.items ≡ files_of area.now first base.now.cursor number base.now.messages (length base.now.messages)) }
+    path: &'a str,
+    messages: &mut M,
+) -> Result<Vec<MessageFile>, Fault<'a>>
+    requires { (M.state messages.old).is_ready }
+    ensures files { (M.state messages.new).is_honest → (base : Base) → (M.state messages.old).holds base
+        → IfOk result (λ files. files.items ≡ files_of area.now first base.cursor number base.messages (length base.messages)) }
+    ensures fault { (M.state messages.new).is_honest → (base : Base) → (M.state messages.old).holds base
+        → IfErr result (IsUnread path.now (M.state messages.old).failures (M.state messages.new).failures) }
+    ensures looks { LooksAt (M.state messages.old) (M.state messages.new) }
+    ensures later { (M.state messages.old).failures ≤ (M.state messages.new).failures }
 {
-    let cursor = base.cursor();
+    let count = messages.count();
+    let cursor = messages.cursor();
     let mut files = Vec::new(alloc);
-    'messages: for i in 0..base.len() {
+    'messages: for i in 0..count {
+        fetch_message(messages, path, i)?;
         let next = u128::from(number) + files.len() as u128;
-        push_file(
-            alloc,
-            &mut files,
-            area,
-            first,
-            cursor,
-            next,
-            i,
-            base.message(i),
-        )?;
+        let message = messages.at_hand();
+        push_file(alloc, &mut files, area, first, cursor, next, i, message)?;
     }
     Ok(files)
 }

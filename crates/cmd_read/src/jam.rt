@@ -9,15 +9,14 @@
 
 use crate::locked::{begun_again, locked_headers};
 use crate::named::{bytes_of, jam_fault, open_file, open_or_make, write_at};
-use base_file::BaseFault;
-use cmd_input::base_bytes;
+use base_folder::MessageSource;
+use cmd_input::{is_folder, load_base, look_into};
 use cmd_numbered::{JamBase, JamEnd, JamExport, export_jam, tell_added, tell_cuts};
 use cmd_status::{Fault, Status, ended, number_of};
 use cmd_words::ExportWords;
 use disk_io::Sink;
 use echo_jam::{Last, Standing, counts_after, link_replies, standing_in};
 use std::alloc::AllocError;
-use std::collections::hash_map::RandomState;
 use std::fs::File;
 use std::io;
 use std::os::unix::fs::FileExt;
@@ -74,7 +73,7 @@ pub fn run_export_jam<W: Sink, E: Sink>(
     }
 }
 
-// The JAM base, and the additions to it. If no seed for the hasher is available, that is a failed read.
+// The JAM base, and the additions to it.
 fn jam_given<'a>(
     rt: &HostRuntime,
     words: &ExportWords<'a>,
@@ -84,10 +83,27 @@ fn jam_given<'a>(
         Some(word) => number_of(word)?,
         None => 0,
     };
-    let hasher = RandomState::new(rt).map_err(|_| Fault::Base(BaseFault::Read))?;
     let headers = locked_headers(rt, path, words.base);
-    let base = base_bytes(rt, words.base)?;
-    let files = jam_files(rt, path, headers?)?;
+    if is_folder(rt, words.base) {
+        let mut messages = look_into(rt, words.base, 0, None)?;
+        return jam_under(rt, words, path, first, headers?, &mut messages);
+    }
+    let mut messages = load_base(rt, words.base)?;
+    jam_under(rt, words, path, first, headers?, &mut messages)
+}
+
+// The same of these messages, under the lock.
+fn jam_under<'a, M: MessageSource>(
+    rt: &HostRuntime,
+    words: &ExportWords<'a>,
+    path: &'a str,
+    first: u64,
+    headers: File,
+    messages: &mut M,
+) -> Result<(JamFiles, JamExport), Fault<'a>>
+    requires { (M.state messages.old).is_ready }
+{
+    let files = jam_files(rt, path, headers)?;
     let jam = JamBase {
         headers: files.found.as_slice(),
         index: files.entries.as_slice(),
@@ -96,7 +112,7 @@ fn jam_given<'a>(
         end: files.end,
     };
     let area = words.area.unwrap_or("").as_bytes();
-    let exported = export_jam(rt.alloc(), area, first, jam, &base, hasher)?;
+    let exported = export_jam(rt.alloc(), area, first, jam, words.base, messages)?;
     Ok((files, exported))
 }
 

@@ -3,7 +3,7 @@
 
 use crate::making::{Making, make_file, remove_left};
 use crate::named::{check_file, jam_fault, open_file, open_or_make, with_end, write_at};
-use cmd_input::{base_bytes, created_now, folder_of, lock_file, locked_folder, output_fault};
+use cmd_input::{check_base, created_now, folder_of, lock_file, locked_folder, output_fault};
 use cmd_status::Fault;
 use disk_system::flush_folder;
 use echo_jam::new_fixed;
@@ -26,7 +26,7 @@ pub(crate) fn locked_headers<'a>(
     let headers = with_end(rt, path, ".jhr")?;
     let beside = with_end(rt, headers.as_str(), ".~jam~.new")?;
     if !is_there(rt, path, headers.as_str())? {
-        base_bytes(rt, base)?;
+        check_base(rt, base)?;
         begin_alone(rt, path, headers.as_str(), beside.as_str())?;
     } else if is_there(rt, path, beside.as_str())? {
         // What cannot be tidied up is no fault of the base.

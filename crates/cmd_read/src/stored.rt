@@ -2,8 +2,10 @@
 //! until the last file is written. So two runs at once add each message once.
 
 use crate::making::{Making, make_file, remove_left};
-use base_file::BaseFault;
-use cmd_input::{base_bytes, folder_fault, locked_folder, output_fault, read_file};
+use base_folder::MessageSource;
+use cmd_input::{
+    folder_fault, is_folder, load_base, locked_folder, look_into, output_fault, read_file,
+};
 use cmd_numbered::{Exported, MessageFile, export_files, is_left, number_in, tell_exported};
 use cmd_status::{Fault, Status, ended, number_of};
 use cmd_words::ExportWords;
@@ -11,7 +13,6 @@ use disk_io::Sink;
 use disk_system::OutputFault;
 use echo_addr::Items;
 use std::alloc::AllocError;
-use std::collections::hash_map::RandomState;
 use std::fs::File;
 use std::{fs, io, str};
 
@@ -57,7 +58,7 @@ pub fn run_export_stored<W: Sink, E: Sink>(
     }
 }
 
-// The files to make, and the folder under its lock. A missing seed for the hasher is a failed read.
+// The files to make, and the folder under its lock.
 fn files_given<'a>(
     rt: &HostRuntime,
     words: &ExportWords<'a>,
@@ -67,10 +68,26 @@ fn files_given<'a>(
         Some(word) => number_of(word)?,
         None => 0,
     };
-    let hasher = RandomState::new(rt).map_err(|_| Fault::Base(BaseFault::Read))?;
     let locked = locked_folder(rt, folder);
-    let base = base_bytes(rt, words.base)?;
-    let locked = locked?;
+    if is_folder(rt, words.base) {
+        let mut messages = look_into(rt, words.base, 0, None)?;
+        return files_under(rt, words, folder, first, locked?, &mut messages);
+    }
+    let mut messages = load_base(rt, words.base)?;
+    files_under(rt, words, folder, first, locked?, &mut messages)
+}
+
+// The same of these messages, under the lock.
+fn files_under<'a, M: MessageSource>(
+    rt: &HostRuntime,
+    words: &ExportWords<'a>,
+    folder: &'a str,
+    first: u64,
+    locked: File,
+    messages: &mut M,
+) -> Result<Export, Fault<'a>>
+    requires { (M.state messages.old).is_ready }
+{
     let (greatest, last) = last_stored(rt, folder)?;
     let exported = export_files(
         rt.alloc(),
@@ -78,8 +95,8 @@ fn files_given<'a>(
         first,
         greatest,
         last.as_ref().map(|bytes| bytes.as_slice()),
-        &base,
-        hasher,
+        words.base,
+        messages,
     )?;
     Ok(Export { locked, exported })
 }

@@ -1,7 +1,15 @@
 -- The files of the messages so far.
-use Rattle.std.proofs.Common.{◌≡◌}
+use Rattle.std.proofs.Common.{◌≡◌, ◌≤◌}
+use Rattle.base_file.specs.Base.{Base}
 use Rattle.cmd_numbered.specs.Numbered.{files_of}
 use Rattle.cmd_numbered.proofs.numbering.files_of.Given as goal
 
 abbrev pub invariant-messages : goal.invariant-messages
-invariant-messages g l = l.files.items ≡ files_of l.area l.first l.base.cursor l.number l.base.messages l.i
+invariant-messages g l = record {
+  ready : (g.M.MessageSource.state l.messages).is_ready;
+  many : (g.M.MessageSource.state l.messages).count ≡ l.count;
+  honest : (g.M.MessageSource.state l.messages).is_honest → (g.M.MessageSource.state l.fn.messages).is_honest;
+  held : (base : Base) → (g.M.MessageSource.state l.fn.messages).holds base → (g.M.MessageSource.state l.messages).holds base;
+  later : (g.M.MessageSource.state l.fn.messages).failures ≤ (g.M.MessageSource.state l.messages).failures;
+  so_far : (g.M.MessageSource.state l.messages).is_honest → (base : Base) → (g.M.MessageSource.state l.fn.messages).holds base → l.files.items ≡ files_of l.area l.first base.cursor l.number base.messages l.i;
+}

@@ -1,7 +1,15 @@
 -- Where to go on behind the messages so far.
-use Rattle.std.proofs.Common.{◌≡◌, option_copied}
+use Rattle.std.proofs.Common.{◌≡◌, ◌≤◌, option_copied}
+use Rattle.base_file.specs.Base.{Base}
 use Rattle.cmd_numbered.specs.Numbered.{resumed}
 use Rattle.cmd_numbered.proofs.numbering.resumed.Given as goal
 
 abbrev pub invariant-messages : goal.invariant-messages
-invariant-messages g l = l.from ≡ resumed l.area l.first l.base.cursor (option_copied l.last) l.base.messages l.i
+invariant-messages g l = record {
+  ready : (g.M.MessageSource.state l.messages).is_ready;
+  many : (g.M.MessageSource.state l.messages).count ≡ l.count;
+  honest : (g.M.MessageSource.state l.messages).is_honest → (g.M.MessageSource.state l.fn.messages).is_honest;
+  held : (base : Base) → (g.M.MessageSource.state l.fn.messages).holds base → (g.M.MessageSource.state l.messages).holds base;
+  later : (g.M.MessageSource.state l.fn.messages).failures ≤ (g.M.MessageSource.state l.messages).failures;
+  so_far : (g.M.MessageSource.state l.messages).is_honest → (base : Base) → (g.M.MessageSource.state l.fn.messages).holds base → l.from ≡ resumed l.area l.first base.cursor (option_copied l.last) base.messages l.i;
+}

@@ -1,0 +1,62 @@
+use Rattle.std.proofs.Common.{◌≡◌, ◌∙◌, ◌+◌, ◌≤◌, ℕ, add-one, ap, arith, length, refl, subst, sym}
+use Rattle.base_folder.proofs.Fetchings.{unread_since}
+use Rattle.base_folder.proofs.Lookings.{err_is}
+use Rattle.base_folder.proofs.Readings.{looks_on}
+use Rattle.base_folder.specs.Fetching.{IsUnread}
+use Rattle.cmd_numbered.specs.JamAdded.{Added, added_at, added_in, added_of}
+use Rattle.cmd_numbered.proofs.adding.added_of.Goals as goal
+
+pub messages-init : goal.messages-init
+messages-init g c = record {
+  ready = c.requires;
+  many = sym c.count-count.ensures.count;
+  honest = λ h. h;
+  held = λ base held. held;
+  later = omega arith;
+  so_far = λ honest base held. c.nothing_added-adding.ensures;
+}
+
+pub fetch_message-requires : goal.fetch_message-requires
+fetch_message-requires g c = record { ready = c.messages.invariant.ready; within = omega (arith, c.messages-test.true, c.messages.invariant.many) }
+
+pub returns-in_err-fetch_message-clause-fault : goal.returns-in_err-fetch_message-clause-fault
+returns-in_err-fetch_message-clause-fault g c = λ honest base held.
+    let fault = c.in_err-fetch_message.field-0.0 in
+    let path = c.args.path.now in
+    let first = (g.M.MessageSource.state c.args.messages.now).failures in
+    let before = (g.M.MessageSource.state c.messages.messages).failures in
+    let now = (g.M.MessageSource.state c.fetch_message.new.messages).failures in
+    err_is (IsUnread path first now) fault c.from_residual.result c.from_residual.ensures.1
+    (unread_since path first before now fault c.messages.invariant.later (c.in_err-fetch_message.ensures.fault honest base (c.messages.invariant.held base held)))
+
+pub returns-in_err-fetch_message-clause-looks : goal.returns-in_err-fetch_message-clause-looks
+returns-in_err-fetch_message-clause-looks g c = looks_on _ _ _ (record { honest = c.messages.invariant.honest; ready = λ ready. c.messages.invariant.ready; count = c.messages.invariant.many ∙ c.count-count.ensures.count; holds = c.messages.invariant.held }) c.fetch_message.ensures.looks
+
+pub returns-in_err-add_if_wanted-clause-looks : goal.returns-in_err-add_if_wanted-clause-looks
+returns-in_err-add_if_wanted-clause-looks g c = looks_on _ _ _ (record { honest = c.messages.invariant.honest; ready = λ ready. c.messages.invariant.ready; count = c.messages.invariant.many ∙ c.count-count.ensures.count; holds = c.messages.invariant.held }) c.fetch_message.ensures.looks
+
+pub returns-clause-looks : goal.returns-clause-looks
+returns-clause-looks g c = record { honest = c.messages.invariant.honest; ready = λ ready. c.messages.invariant.ready; count = c.messages.invariant.many ∙ c.count-count.ensures.count; holds = c.messages.invariant.held }
+
+pub messages-preserved : goal.messages-preserved
+messages-preserved g c =
+    let looks = c.fetch_message.ensures.looks in
+    let i = c.messages.i in
+    record {
+      ready = looks.ready c.messages.invariant.ready;
+      many = looks.count ∙ c.messages.invariant.many;
+      honest = λ honest. c.messages.invariant.honest (looks.honest honest);
+      held = λ base held. looks.holds base (c.messages.invariant.held base held);
+      later = omega (arith, c.messages.invariant.later, c.fetch_message.ensures.later);
+      so_far = λ honest base held.
+          let before = c.messages.invariant.so_far (looks.honest honest) base held in
+          let here = c.at_hand.ensures ∙ c.in_ok-fetch_message.ensures.fetched honest base (c.messages.invariant.held base held) in
+          let at = c.cursor-cursor.ensures base held in
+          let jam = c.args.jam in
+          rw add-one (c.in_ok-add_if_wanted.ensures ∙ (λ k. added_at c.args.area.now c.args.first (at k) jam.headers.now jam.index.now jam.end i (here k) (before k)));
+    }
+
+pub returns-clause-added : goal.returns-clause-added
+returns-clause-added g c = λ honest base held.
+    let end : c.messages.i ≡ length base.messages = omega (arith, c.messages-test.false, c.messages.auto.i-end, c.count-count.ensures.all base held) in
+    subst (λ (n : ℕ). added_in c.messages.adding ≡ added_of c.args.area.now c.args.first base.cursor c.args.jam.headers.now c.args.jam.index.now c.args.jam.end base.messages n) end (c.messages.invariant.so_far honest base held)

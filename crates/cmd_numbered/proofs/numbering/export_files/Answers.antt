@@ -1,4 +1,0 @@
-use Rattle.cmd_numbered.proofs.numbering.export_files.Goals as goal
-
-pub returns : goal.returns
-returns g c = c.export_read.ensures _ c.in_ok-base.ensures.ok
