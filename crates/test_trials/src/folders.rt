@@ -1,7 +1,7 @@
 //! Commands on the base folder of a disk.
 ghost use Rattle.disk_io.specs.Disk.{Honestly};
 ghost use Rattle.base_log.specs.Opening.{AreAlone};
-ghost use Rattle.test_crashes.specs.declared.folders.TheConstants.{FOLDER};
+ghost use Rattle.test_trials.specs.declared.folders.TheConstants.{FOLDER};
 
 use crate::commands::{Job, run};
 use anyhow::{Result, bail};
