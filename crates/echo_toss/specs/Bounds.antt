@@ -1,5 +1,5 @@
 -- That a store holds too much, after calls that committed nothing.
-use Rattle.std.specs.Prelude.{◌≡◌, ◌⊎◌, List, Some}
+use Rattle.std.specs.Prelude.{◌≡◌, ◌⊎◌, Some}
 use Rattle.disk_io.specs.Disk.{Honestly}
 use Rattle.base_file.specs.Base.{Base}
 use Rattle.echo_addr.specs.declared.address.Address.{Address}
