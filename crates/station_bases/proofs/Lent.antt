@@ -10,27 +10,34 @@ use Rattle.disk_atomic.specs.StagingPaths.{staging_path}
 use Rattle.cmd_status.specs.Inputs.{IsBaseGiven}
 use Rattle.station.specs.Beneath.{IsGivenBack}
 use Rattle.station_bases.specs.InFile.{IsInFile, IsOfFile, file_state}
+use Rattle.station_bases.specs.declared.held.Held.{Held}
+use Rattle.station_bases.proofs.Reach.{held_seen, reach_seen}
 
-module _ (path own : List ℕ) (base : Base) (place : ℕ) (d e : DiskState) where
+module _ {S T : Type 0} (path own : List ℕ) (held : Held S T) (place : ℕ) (d e : DiskState) where
   -- the paths that are not the file's
   abbrev Others : List ℕ → Type 0
   Others m = IsOfFile path own m → ⊥
 
-  in_file : ChangesOnly Others d e → (b : Base) → IsInFile d path b → IsInFile e path b
-  in_file run b was =
-      let own_path : Others path → ⊥ = λ out. out (inr refl) in
-      record {
-        seen = subst (λ f. IsBaseGiven f b.messages b.cursor) (sym (run.seen path own_path)) was.seen;
-        left = λ c left.
-            let from = left_now d e (OneStepOn (DifferAt Others) d) run.any_moment c left in
-            subst (λ f. IsBaseGiven f b.messages b.cursor) (sym (from.2 path own_path)) (was.left from.0 from.1);
-      }
+  own_path : Others path → ⊥
+  own_path out = out (inr refl)
 
-  pub given_back : IsGivenBack (file_state d path own base place) d e (file_state e path own base place)
+  in_file : ChangesOnly Others d e → (b : Base) → IsInFile d path b → IsInFile e path b
+  in_file run b was = record {
+    seen = subst (λ f. IsBaseGiven f b.messages b.cursor) (sym (run.seen path own_path)) was.seen;
+    left = λ c left.
+        let from = left_now d e (OneStepOn (DifferAt Others) d) run.any_moment c left in
+        subst (λ f. IsBaseGiven f b.messages b.cursor) (sym (from.2 path own_path)) (was.left from.0 from.1);
+  }
+
+  pub given_back : IsGivenBack (file_state d path own held place) d e (file_state e path own held place)
   given_back = record {
     settled = λ b before after same stands. subst (λ f. IsBaseGiven f b.messages b.cursor) (sym (same path (inr refl))) stands;
     same = record { stands = λ b c. (λ is. is, λ is. is); own = λ m. (λ is. is, λ is. is); undoes = (λ is. is, λ is. is) };
-    holds = λ ready run. record { ready = ready; keeps = λ b is. is; committed = in_file run };
+    holds = λ ready run. record {
+      ready = (ready.0, reach_seen d e path held (run.seen path own_path) run.honest ready.1);
+      keeps = λ b is. held_seen d e path held (run.seen path own_path) b is;
+      committed = in_file run;
+    };
   }
 
 -- a path that begins so is one of these just where the rest is

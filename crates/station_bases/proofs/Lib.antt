@@ -4,3 +4,9 @@ pub mod Lent
 pub mod Begun
 pub mod FolderOpened
 pub mod FolderLent
+pub mod EntryJudged
+pub mod EntryKeys
+pub mod EntryMore
+pub mod Loaded
+pub mod Reach
+pub mod FileLooks

@@ -1,11 +1,12 @@
 -- A base file opened as a store.
-use Rattle.std.proofs.Common.{◌≡◌, ◌≤◌, inl, inr, ⊎_elim, ℕ, List, [], Result, Ok, Err, ap, sym, subst}
-use Rattle.std.specs.Prelude.{All, ◌≢◌, IfOk}
+use Rattle.std.proofs.Common.{◌≡◌, ◌≤◌, inl, inr, ⊎_elim, ℕ, List, [], Option, None, Some, Result, Ok, Err, ap, refl, sym, subst, ◌∙◌}
+use Rattle.std.specs.Prelude.{All, ◌≢◌, IfOk, IsSome}
 use Rattle.base_file.specs.Base.{Base}
-use Rattle.base_file.specs.BaseFile.{Loaded}
+use Rattle.base_file.specs.BaseFile.{LoadOf, Loaded}
+use Rattle.echo_filed.specs.Filed.{Filed}
 use Rattle.base_file.specs.Loading.{AnswersLoad}
 use Rattle.base_file.specs.declared.fault.BaseFault.{BaseFault}
-use Rattle.disk_io.specs.Disk.{DiskState, Honestly}
+use Rattle.disk_io.specs.Disk.{DiskState, Honestly, bytes_in}
 use Rattle.disk_io.specs.Runs.{ChangesNothing}
 use Rattle.disk_io.proofs.Moments.{weaker_run}
 use Rattle.echo_links.specs.Links.{LinkFile}
@@ -15,7 +16,8 @@ use Rattle.station.specs.Faults.{FailsAt}
 use Rattle.station.specs.Links.{AreLinks, NoLinks}
 use Rattle.station.specs.Opening.{IsNotOpened, IsOpenFor, IsOpened}
 use Rattle.station.specs.Place.{IsOfPlace, KeepsElsewhere, StandsOrWasLeft}
-use Rattle.station_bases.specs.InFile.{StandsInFile, file_state}
+use Rattle.station_bases.specs.InFile.{IsHeld, IsWithinReach, StandsInFile, file_state}
+use Rattle.station_bases.specs.declared.held.Held.{Held}
 use Rattle.station_bases.specs.Reading.{IsFileShut, IsSettled, IsShutFor, IsUnreadFor, file_place}
 
 abbrev base_in : Result Loaded BaseFault → Base
@@ -26,6 +28,16 @@ pub same_loaded : (result : Result Base BaseFault) (base : Base) (size : ℕ) �
 same_loaded (Ok b) base size answers = ap (λ r. base_in r) answers.1
 same_loaded (Err why) base size answers = tt
 
+-- without a file the base is empty
+pub empty_held : (f : Option (List ℕ)) (b base : Base) → (IsSome f → ⊥) → IsBaseGiven f b.messages b.cursor → base.messages ≡ [] → base.cursor ≡ 0 → b ≡ base
+empty_held None b base none given messages cursor = λ i. record { messages = (given.0 ∙ sym messages) i; cursor = (given.1 ∙ sym cursor) i }
+empty_held (Some bytes) b base none given messages cursor = absurd (none refl)
+
+-- and with one it is loaded from its bytes
+pub given_loads : (f : Option (List ℕ)) (messages : List Filed) (cursor : ℕ) → IsSome f → IsBaseGiven f messages cursor → (size : ℕ) × LoadOf (bytes_in f) (Ok (messages, cursor, size))
+given_loads None messages cursor some given = absurd (cc)
+given_loads (Some bytes) messages cursor some given = given
+
 quiet_elsewhere : (path : List ℕ) (d0 d1 : DiskState) → ChangesNothing d0 d1 → KeepsElsewhere (file_place path) d0 d1
 quiet_elsewhere path d0 d1 quiet = record {
   seen = λ m out. quiet.seen m;
@@ -35,8 +47,12 @@ quiet_elsewhere path d0 d1 quiet = record {
   honest = quiet.honest;
 }
 
-module _ (d0 d1 : DiskState) (path own : List ℕ) (base : Base) (place : ℕ) (quiet : ChangesNothing d0 d1) where
-  opened_file : IsSettled d1 path → ((b : Base) → StandsInFile path b d0.seen → b ≡ base) → IsOpenFor (file_place path) d0 (file_state d1 path own base place)
+-- a name that is settled stays so
+pub settled_still : (d0 d1 : DiskState) (path : List ℕ) → ChangesNothing d0 d1 → IsSettled d0 path → IsSettled d1 path
+settled_still d0 d1 path quiet was = record { named = quiet.named path (λ h. h) was.named; flushed = quiet.flushed path (λ h. h) was.flushed }
+
+module _ {S T : Type 0} (d0 d1 : DiskState) (path own : List ℕ) (held : Held S T) (place : ℕ) (quiet : ChangesNothing d0 d1) where
+  opened_file : IsSettled d1 path → ((b : Base) → StandsInFile path b d0.seen → IsHeld d1 path held b) → IsOpenFor (file_place path) d0 (file_state d1 path own held place)
   opened_file on only = record {
     keeps = only;
     committed = λ b stands.
@@ -45,18 +61,18 @@ module _ (d0 d1 : DiskState) (path own : List ℕ) (base : Base) (place : ℕ) (
     run = λ b stands. weaker_run d0 d1 d0.may_leave (StandsOrWasLeft (file_place path) d0 b) quiet.run (λ c left. inr left);
   }
 
-  of_file : IsOfPlace (file_place path) d0 (file_state d1 path own base place)
+  of_file : IsOfPlace (file_place path) d0 (file_state d1 path own held place)
   of_file = record {
     own = λ m of. (own, of);
     stands = λ b c. (λ h. h, λ h. h);
     elsewhere = quiet_elsewhere path d0 d1 quiet;
   }
 
-  pub is_opened : (links : List ℕ) (file : LinkFile) (before now : ℕ) → before ≤ now → All (λ b. b ≢ 47) own → Honestly d1 (AreLinks d0 links file) → Honestly d1 (IsSettled d1 path)
-      → Honestly d1 ((b : Base) → StandsInFile path b d0.seen → b ≡ base)
-      → IsOpened (file_place path) (λ file. AreLinks d0 links file) d0 before now (file_state d1 path own base place) file
-  is_opened links file before now later plain read on only = record {
-    ready = plain;
+  pub is_opened : (links : List ℕ) (file : LinkFile) (before now : ℕ) → before ≤ now → All (λ b. b ≢ 47) own → IsWithinReach d1 path held → Honestly d1 (AreLinks d0 links file) → Honestly d1 (IsSettled d1 path)
+      → Honestly d1 ((b : Base) → StandsInFile path b d0.seen → IsHeld d1 path held b)
+      → IsOpened (file_place path) (λ file. AreLinks d0 links file) d0 before now (file_state d1 path own held place) file
+  is_opened links file before now later plain reach read on only = record {
+    ready = (plain, reach);
     read = read;
     begun = λ honest. opened_file (on honest) (only honest);
     of_place = of_file;

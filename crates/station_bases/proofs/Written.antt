@@ -1,15 +1,17 @@
 -- A base that was put in the place of its file.
 use Rattle.std.proofs.Common.{◌≡◌, inl, inr, ⊎_elim, ◌∙◌, ℕ, List, Some, subst, sym, refl}
 use Rattle.base_file.specs.Base.{Base}
-use Rattle.disk_io.specs.Disk.{DiskState, Files}
-use Rattle.disk_io.specs.Runs.{LeavesOnly, OneStepOn}
+use Rattle.std.specs.Prelude.{All, ◌≢◌}
+use Rattle.disk_io.specs.Disk.{DiskState, Files, Honestly}
+use Rattle.disk_io.specs.Runs.{ChangesNothing, LeavesOnly, OneStepOn}
 use Rattle.disk_io.proofs.Moments.{no_call, weaker_run}
 use Rattle.disk_atomic.specs.Changes.{ChangesOnly, HasOnDisk}
 use Rattle.disk_atomic.specs.Replacing.{Replaces}
 use Rattle.disk_atomic.specs.StagingPaths.{staging_path}
 use Rattle.cmd_status.specs.Inputs.{IsBaseGiven}
-use Rattle.base_store.specs.Store.{MayCommit, LeavesEither}
-use Rattle.station_bases.specs.InFile.{IsInFile, IsOfFile, PutsBase, StandsInFile, file_state}
+use Rattle.base_store.specs.Store.{CommitsNothing, GoesOn, IsSameStore, KeepsBeside, LeavesCommitted, LeavesEither, LooksOn, MayCommit, StoreState}
+use Rattle.station_bases.specs.InFile.{IsHeld, IsInFile, IsOfFile, IsWithinReach, PutsBase, StandsInFile, file_state}
+use Rattle.station_bases.specs.declared.held.Held.{Held}
 
 -- no step yet
 pub puts_none : (path own : List ℕ) (base : Base) (c : Files) → PutsBase path own base c c
@@ -33,17 +35,73 @@ put_now path bytes base d says on = record {
   left = λ c left. stands_now path bytes base c says (d.on_disk path on.named on.flushed c left ∙ on.seen);
 }
 
-module _ (path own : List ℕ) (base : Base) (d0 d1 : DiskState) (p0 p1 : ℕ) (changes : ChangesOnly (IsOfFile path own) d0 d1) where
-  -- a crash meanwhile leaves what was committed, or what is put in its place
-  pub may_commit : LeavesOnly d0 d1 (OneStepOn (PutsBase path own base) d0) → MayCommit (file_state d0 path own base p0) (file_state d1 path own base p1)
-  may_commit run = record {
+-- what was committed is so still
+pub in_file_still : (path : List ℕ) (d0 d1 : DiskState) (base : Base) → ChangesNothing d0 d1 → IsInFile d0 path base → IsInFile d1 path base
+in_file_still path d0 d1 base quiet was = record {
+  seen = subst (λ f. IsBaseGiven f base.messages base.cursor) (sym (quiet.seen path)) was.seen;
+  left = λ c left. was.left c (quiet.no_more c left);
+}
+
+module _ {S T : Type 0} (path own : List ℕ) (held later : Held S T) (d0 d1 : DiskState) (p0 p1 : ℕ) where
+  abbrev old : StoreState
+  old = file_state d0 path own held p0
+
+  abbrev new : StoreState
+  new = file_state d1 path own later p1
+
+  same : IsSameStore old new
+  same = record { stands = λ b c. (λ h. h, λ h. h); own = λ m. (λ h. h, λ h. h); undoes = (λ h. h, λ h. h) }
+
+  -- a look at the file
+  pub looks_file : ChangesNothing d0 d1 → All (λ b. b ≢ 47) own → IsWithinReach d1 path later → ((b : Base) → IsHeld d0 path held b → IsHeld d1 path later b) → ((b : Base) → IsHeld d1 path later b → IsHeld d0 path held b) → LooksOn old new
+  looks_file quiet plain reach keeps no_other = record {
+    ready = (plain, reach);
+    keeps = keeps;
+    keeps_no_other = no_other;
+    committed = λ b is. in_file_still path d0 d1 b quiet is;
+    quiet = quiet;
+    same = same;
+  }
+
+  quiet_beside : ChangesNothing d0 d1 → KeepsBeside old new
+  quiet_beside quiet = record {
+    seen = λ m other. quiet.seen m;
+    named = λ m other is. quiet.named m (λ h. h) is;
+    flushed = λ m other is. quiet.flushed m (λ h. h) is;
+    alone = λ m other is. quiet.alone m (λ h. h) is;
+    honest = quiet.honest;
+  }
+
+  -- a change in memory commits nothing
+  pub quiet_commits : ChangesNothing d0 d1 → CommitsNothing old new
+  quiet_commits quiet = record {
+    any_moment = λ honest base is.
+        weaker_run d0 d1 d0.may_leave (LeavesCommitted old base) quiet.run (λ c left. record { beside = λ m other named flushed. d0.on_disk m named flushed c left; stands = is.left c left });
+    beside = quiet_beside quiet;
+    same = same;
+  }
+
+  pub quiet_may_commit : ChangesNothing d0 d1 → MayCommit old new
+  quiet_may_commit quiet = record {
     any_moment = λ honest first next was is.
-        weaker_run d0 d1 (OneStepOn (PutsBase path own base) d0) (LeavesEither (file_state d0 path own base p0) first next) run
+        weaker_run d0 d1 d0.may_leave (LeavesEither old first next) quiet.run (λ c left. record { beside = λ m other named flushed. d0.on_disk m named flushed c left; stands = inl (was.left c left) });
+    beside = quiet_beside quiet;
+    same = same;
+  }
+
+  -- and the store goes on
+  pub quiet_goes_on : ChangesNothing d0 d1 → All (λ b. b ≢ 47) own → IsWithinReach d1 path later → GoesOn old new
+  quiet_goes_on quiet plain reach = record { ready = (plain, reach); committed = λ honest b is. in_file_still path d0 d1 b quiet is; honest = quiet.honest }
+
+  -- a crash during a commit leaves what was committed, or what is put in its place
+  pub may_commit : ChangesOnly (IsOfFile path own) d0 d1 → (Honestly d1 ((b : Base) → IsHeld d0 path held b → LeavesOnly d0 d1 (OneStepOn (PutsBase path own b) d0))) → MayCommit old new
+  may_commit changes run = record {
+    any_moment = λ honest first next was is.
+        weaker_run d0 d1 (OneStepOn (PutsBase path own next) d0) (LeavesEither old first next) (run honest next is)
         (λ c step. record {
           beside = λ m other named flushed. step.2.others m other ∙ d0.on_disk m named flushed step.0 step.1;
-          stands = ⊎_elim (λ (same : c path ≡ step.0 path). inl (subst (λ f. IsBaseGiven f first.messages first.cursor) (sym same) (was.left step.0 step.1)))
-              (λ now. inr (subst (λ b. StandsInFile path b c) (sym is) now)) step.2.either;
+          stands = ⊎_elim (λ (one : c path ≡ step.0 path). inl (subst (λ f. IsBaseGiven f first.messages first.cursor) (sym one) (was.left step.0 step.1))) (λ now. inr now) step.2.either;
         });
     beside = record { seen = changes.seen; named = changes.named; flushed = changes.flushed; alone = changes.alone; honest = changes.honest };
-    same = record { stands = λ b c. (λ h. h, λ h. h); own = λ m. (λ h. h, λ h. h); undoes = (λ h. h, λ h. h) };
+    same = same;
   }

@@ -1,16 +1,18 @@
 -- A base in a file.
-use Rattle.std.specs.Prelude.{◌≡◌, ◌≢◌, ◌<◌, ◌^◌, ◌⊎◌, ℕ, ◌+◌, false, true, List, All, length, slice_get}
+use Rattle.std.specs.Prelude.{◌≡◌, ◌≢◌, ◌⊎◌, ◌/◌, ℕ, false, List, All, Option, length, slice_get}
 use Rattle.base_file.specs.Base.{Base}
 use Rattle.base_file.specs.BaseFile.{is_countable}
-use Rattle.disk_io.specs.Disk.{DiskState, Files}
+use Rattle.disk_io.specs.Disk.{DiskState, Files, bytes_in}
 use Rattle.echo_filed.specs.Filed.{Filed}
-use Rattle.echo_filed.specs.Stored.{is_short_enough, stored_as}
 use Rattle.disk_atomic.specs.Changes.{DifferAt}
 use Rattle.cmd_status.specs.Inputs.{IsBaseGiven}
 use Rattle.disk_atomic.specs.StagingPaths.{staging_path}
 use Rattle.base_store.specs.Store.{StoreState}
-use Rattle.base_store.specs.declared.store_error.StoreError.{StoreError}
-use Rattle.base_store.specs.declared.store_error.StoreError.TheVariants as error
+use Rattle.base_folder_store.specs.State.{only_message}
+use Rattle.station_bases.specs.Entries.{CanLookUp, HasRoomFor, HoldEntries}
+use Rattle.station_bases.specs.declared.file_rest.FileRest.{FileRest}
+use Rattle.station_bases.specs.declared.held.Held.{Held}
+use Rattle.station_bases.specs.declared.held.Held.TheVariants.{Apart, Whole}
 
 -- The path has a base file of this base, or there is no file and the base is empty.
 abbrev pub StandsInFile : List ℕ → Base → Files → Type 0
@@ -25,35 +27,60 @@ pub record IsInFile (disk : DiskState) (path : List ℕ) (base : Base) : Type 0 
 abbrev pub IsOfFile : List ℕ → List ℕ → List ℕ → Type 0
 IsOfFile path own m = (m ≡ staging_path path own) ⊎ (m ≡ path)
 
--- Four bytes count the messages with one more, and the bytes of its text.
-pub record HasRoomFor (base : Base) (message : Filed) : Type 0 where
-  pub messages : length base.messages + 1 < 2 ^ 32
-  pub text : is_short_enough (stored_as false message) ≡ true
-
 -- four bytes do not count its messages, or the bytes of a text
 abbrev pub IsUncounted : Base → Type 0
 IsUncounted base = is_countable base.messages base.cursor ≡ false
 
--- A base in memory, with the file in which it is committed.
-abbrev pub file_state : DiskState → List ℕ → List ℕ → Base → ℕ → StoreState
-file_state disk path own base place = record {
+-- The base that is held.
+abbrev pub IsHeld : {S T : Type 0} → DiskState → List ℕ → Held S T → Base → Type 0
+IsHeld disk path (Apart e) b = HoldEntries (bytes_in (disk.seen path)) e b
+IsHeld disk path (Whole base) b = b ≡ base
+
+-- All messages are in memory.
+abbrev pub IsInMemory : {S T : Type 0} → Held S T → Type 0
+IsInMemory (Apart e) = ⊥
+IsInMemory (Whole base) = Unit {0}
+
+-- Calls are allowed.
+abbrev pub IsWithinReach : {S T : Type 0} → DiskState → List ℕ → Held S T → Type 0
+IsWithinReach disk path (Apart e) = CanLookUp disk path e
+IsWithinReach disk path (Whole base) = Unit {0}
+
+-- The message that was fetched last, by its number where all are in memory.
+abbrev pub fetched_last : {S T : Type 0} → Held S T → ℕ → Option Filed
+fetched_last (Apart e) place = only_message e.alone
+fetched_last (Whole base) place = slice_get base.messages place
+
+-- Numbers in a base file do not count what is held.
+abbrev pub IsFullHeld : {S T : Type 0} → Held S T → Type 0
+IsFullHeld (Apart e) = ⊥
+IsFullHeld (Whole base) = IsUncounted base
+
+-- They count this message too.
+abbrev pub HasRoomHeld : {S T : Type 0} → Held S T → Filed → Type 0
+HasRoomHeld (Apart e) m = HasRoomFor (length e.keys.items / 16) m
+HasRoomHeld (Whole base) m = HasRoomFor (length base.messages) m
+
+-- A base file, with what is held of it and is not committed yet.
+abbrev pub file_state : {S T : Type 0} → DiskState → List ℕ → List ℕ → Held S T → ℕ → StoreState
+file_state disk path own held place = record {
   disk = disk;
-  is_ready = All (λ b. b ≢ 47) own;
-  keeps = λ b. b ≡ base;
+  is_ready = All (λ b. b ≢ 47) own × IsWithinReach disk path held;
+  keeps = λ b. IsHeld disk path held b;
   committed = λ b. IsInFile disk path b;
-  at_hand = slice_get base.messages place;
+  at_hand = fetched_last held place;
   stands = λ b c. StandsInFile path b c;
   is_own = IsOfFile path own;
   undoes = Unit {0};
-  is_full = IsUncounted base;
-  has_room = HasRoomFor base;
+  is_full = IsFullHeld held;
+  has_room = HasRoomHeld held;
   stays = λ honest ready b is c left. is.left c left;
   shown = λ honest ready b is. is.seen;
 }
 
--- No memory, or too many.
-abbrev pub IsUnsaved : StoreError → Type 0
-IsUnsaved why = (why ≡ error.Memory) ⊎ (why ≡ error.TooMany)
+-- The same, of what a store has but its disk.
+abbrev pub rest_state : {S T : Type 0} → DiskState → FileRest S T → StoreState
+rest_state disk rest = file_state disk rest.path.now rest.own rest.held rest.place
 
 -- The path has its old file or a file of this base. The staging path may have anything, and all else is unchanged.
 pub record PutsBase (path own : List ℕ) (base : Base) (before after : Files) : Type 0 where

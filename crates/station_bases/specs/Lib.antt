@@ -1,3 +1,5 @@
+pub mod Entries
+pub mod EntryOpening
 pub mod InFile
 pub mod Reading
 pub mod InFolder

@@ -21,7 +21,7 @@ pub struct FileStation<'a, S, T> {
     pub watch: T,
 }
 
-impl<'a, D: Disk + Drop, S: BuildHasher + Drop, T: MessageProgress + Drop> OpenStation<'a, D>
+impl<'a, D: Disk + Drop, S: BuildHasher + Copy + Drop, T: MessageProgress + Drop> OpenStation<'a, D>
     for FileStation<'a, S, T> {
     type Kept = FileStore<'a, D, S>;
 
@@ -43,12 +43,13 @@ impl<'a, D: Disk + Drop, S: BuildHasher + Drop, T: MessageProgress + Drop> OpenS
     ) -> Result<Opened<FileStore<'a, D, S>>, Stopped<'a, D>> {
         let mut disk = disk;
         let path = self.base;
+        let hasher = self.hasher;
         match read_station(alloc, &mut disk, locks, self) {
             Ok(read) => {
-                let Read { links, own, base } = read;
+                let Read { links, own, held } = read;
                 Ok(Opened {
                     links,
-                    kept: FileStore::new(alloc, disk, base, path, own),
+                    kept: FileStore::new(alloc, disk, held, hasher, path, own),
                 })
             }
             Err(fault) => Err(Stopped { disk, fault }),

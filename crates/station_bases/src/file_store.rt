@@ -1,9 +1,10 @@
-//! A base in memory with its file on a disk, as a store.
-ghost use Rattle.std.specs.Prelude.{◌≡◌, ◌≢◌, All};
-ghost use Rattle.station_bases.specs.InFile.{file_state};
+//! A base file on a disk, as a store.
+ghost use Rattle.std.specs.Prelude.{◌≡◌};
+ghost use Rattle.station_bases.specs.InFile.{rest_state};
 
-use crate::saving::{check_room, write_file};
-use base_file::Base;
+use crate::entry_adding::check_room;
+use crate::file_rest::FileRest;
+use crate::held::Held;
 use base_store::{PurgedStore, Store, StoreError};
 use disk_io::Disk;
 use echo_addr::Items;
@@ -11,7 +12,7 @@ use echo_filed::{Filed, Key};
 use std::alloc::Global;
 use std::hash::BuildHasher;
 
-/// A base in memory with its file, and the disk that has the file.
+/// What is held of a base file, and the disk that has the file.
 #[derive(Drop)]
 pub struct FileStore<'a, D: Disk, S: BuildHasher> {
     alloc: Global,
@@ -19,35 +20,25 @@ pub struct FileStore<'a, D: Disk, S: BuildHasher> {
     rest: FileRest<'a, S>,
 }
 
-/// A base in memory, and the path of the file that a commit replaces. `own` is the name of the system in the staging
-/// path.
-#[derive(Drop)]
-pub struct FileRest<'a, S: BuildHasher> {
-    base: Base<S>,
-    // The place of the current message.
-    place: usize,
-    path: &'a str,
-    own: Items<u8>,
-}
-
-impl<'a, D: Disk, S: BuildHasher> FileStore<'a, D, S> {
-    /// The base of the file with this path, as a store.
+impl<'a, D: Disk, S: BuildHasher + Copy + Drop> FileStore<'a, D, S> {
+    /// The base file with this path, as a store.
     pub fn new(
         alloc: Global,
         disk: D,
-        base: Base<S>,
+        held: Held<S>,
+        hasher: S,
         path: &'a str,
         own: Items<u8>,
     ) -> FileStore<'a, D, S>
-        requires { All (λ b. b ≢ 47) own }
         ensures disk { result.disk ≡ disk }
-        ensures base { result.rest.base ≡ base }
+        ensures held { result.rest.held ≡ held }
         ensures path { result.rest.path.now ≡ path.now }
         ensures own { result.rest.own ≡ own }
     {
         let rest = FileRest {
-            base,
+            held,
             place: 0,
+            hasher,
             path,
             own,
         };
@@ -56,8 +47,6 @@ impl<'a, D: Disk, S: BuildHasher> FileStore<'a, D, S> {
 
     /// The disk.
     pub fn into_disk(self) -> D
-    where
-        S: Drop,
         ensures { result ≡ self.entry.disk }
     {
         self.disk
@@ -80,64 +69,83 @@ impl<'a, D: Disk, S: BuildHasher> FileStore<'a, D, S> {
     }
 }
 
-impl<'a, D: Disk, S: BuildHasher> Store for FileStore<'a, D, S> {
-    ghost state = { λ store. file_state (D.state store.disk) store.rest.path.now store.rest.own store.rest.base store.rest.place };
+impl<'a, D: Disk, S: BuildHasher + Copy + Drop> Store for FileStore<'a, D, S> {
+    ghost state = { λ store. rest_state (D.state store.disk) store.rest };
 
     ghost failures = { λ store. D.failures store.disk };
 
     fn len(&self) -> usize {
-        self.rest.base.len()
+        match &self.rest.held {
+            Held::Apart(entries) => entries.count(),
+            Held::Whole(base) => base.len(),
+        }
     }
 
     fn cursor(&self) -> usize {
-        self.rest.base.cursor()
+        match &self.rest.held {
+            Held::Apart(entries) => entries.cursor(),
+            Held::Whole(base) => base.cursor(),
+        }
     }
 
     fn knows(&mut self, key: &Key) -> Result<bool, StoreError> {
-        Ok(self.rest.base.knows(key))
+        self.rest.knows(self.alloc, &mut self.disk, key)
     }
 
     fn has_id(&mut self, msgid: &[u8]) -> Result<bool, StoreError> {
-        Ok(self.rest.base.has_id(msgid)?)
+        self.rest.has_id(self.alloc, &mut self.disk, msgid)
     }
 
     fn fetch(&mut self, place: usize) -> Result<(), StoreError> {
-        self.rest.place = place;
-        Ok(())
+        self.rest.fetch(self.alloc, &mut self.disk, place)
     }
 
     fn at_hand(&self) -> Option<&Filed> {
-        self.rest.base.message(self.rest.place)
+        match &self.rest.held {
+            Held::Apart(entries) => entries.at_hand(),
+            Held::Whole(base) => base.message(self.rest.place),
+        }
     }
 
     fn file(&mut self, key: Key, message: Filed) -> Result<(), StoreError> {
-        // On a disk that is not honest a caller need not know it.
-        if self.rest.base.knows(&key) {
-            return Err(StoreError::Damaged);
+        match &mut self.rest.held {
+            Held::Apart(entries) => entries.file(self.alloc, &key, &message),
+            Held::Whole(base) => {
+                // On a disk that is not honest a caller need not know it.
+                if base.knows(&key) {
+                    return Err(StoreError::Damaged);
+                }
+                check_room(self.alloc, base.len(), &message)?;
+                Ok(base.file(key, message)?)
+            }
         }
-        check_room(self.alloc, &self.rest.base, &message)?;
-        Ok(self.rest.base.file(key, message)?)
     }
 
     fn move_to_end(&mut self) -> Result<(), StoreError> {
-        self.rest.base.move_to_end();
+        if let Held::Apart(entries) = &mut self.rest.held {
+            if !entries.is_odd() {
+                entries.move_to_end();
+                return Ok(());
+            }
+        }
+        self.rest.bring_in(self.alloc, &mut self.disk)?;
+        if let Held::Whole(base) = &mut self.rest.held {
+            base.move_to_end();
+        }
         Ok(())
     }
 
     fn commit(&mut self) -> Result<(), StoreError> {
-        let rest = &self.rest;
-        write_file(
-            self.alloc,
-            &mut self.disk,
-            &rest.base,
-            rest.path,
-            rest.own.as_slice(),
-        )
+        self.rest.commit(self.alloc, &mut self.disk)
     }
 }
 
-impl<'a, D: Disk, S: BuildHasher> PurgedStore for FileStore<'a, D, S> {
+impl<'a, D: Disk, S: BuildHasher + Copy + Drop> PurgedStore for FileStore<'a, D, S> {
     fn purge(&mut self) -> Result<u64, StoreError> {
-        Ok(self.rest.base.purge()?)
+        self.rest.bring_in(self.alloc, &mut self.disk)?;
+        match &mut self.rest.held {
+            Held::Whole(base) => Ok(base.purge()?),
+            Held::Apart(_) => Err(StoreError::Damaged),
+        }
     }
 }

@@ -1,10 +1,11 @@
 //! The disk of a station with a base file is used for other files.
 ghost use Rattle.std.specs.Prelude.{◌≡◌, ◌↔◌, ◌++◌, ℕ, List, IsTrue, codes};
 ghost use Rattle.disk_atomic.specs.StagingPaths.{staging_path};
-ghost use Rattle.station_bases.specs.InFile.{IsOfFile, file_state};
+ghost use Rattle.station_bases.specs.InFile.{IsOfFile, rest_state};
 
+use crate::file_rest::FileRest;
 use crate::file_station::FileStation;
-use crate::file_store::{FileRest, FileStore};
+use crate::file_store::FileStore;
 use cmd_status::MessageProgress;
 use disk_io::Disk;
 use station::{LendStation, OwnPaths};
@@ -76,13 +77,13 @@ fn is_new(name: &[u8]) -> bool
     }
 }
 
-impl<'a, D: Disk + Drop, S: BuildHasher + Drop, T: MessageProgress + Drop> LendStation<'a, D>
+impl<'a, D: Disk + Drop, S: BuildHasher + Copy + Drop, T: MessageProgress + Drop> LendStation<'a, D>
     for FileStation<'a, S, T> {
     type Rest = FileRest<'a, S>;
 
     type Paths = FilePaths<'a>;
 
-    ghost store_on = { λ rest disk. file_state (D.state disk) rest.path.now rest.own rest.base rest.place };
+    ghost store_on = { λ rest disk. rest_state (D.state disk) rest };
 
     fn paths(&self) -> FilePaths<'a> {
         FilePaths { path: self.base }

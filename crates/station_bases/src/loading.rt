@@ -1,5 +1,5 @@
-//! The link file and the base file of a station are read.
-ghost use Rattle.std.specs.Prelude.{◌≡◌, ◌≢◌, ◌≤◌, ◌⊎◌, All, IfErr, IfOk, OnOk, Some, None};
+//! The link file of a station is read, and its base file is opened.
+ghost use Rattle.std.specs.Prelude.{◌≡◌, ◌≢◌, ◌≤◌, ◌⊎◌, ◌↔◌, All, IfErr, IfNone, IfOk, IfSome, IsSome, IsTrue, OnOk, Some, None};
 ghost use Rattle.base_file.specs.Base.{Base as TheBase};
 ghost use Rattle.disk_io.specs.Device.{Failed};
 ghost use Rattle.disk_io.specs.Disk.{Honestly};
@@ -8,11 +8,15 @@ ghost use Rattle.station.specs.Links.{AreLinks};
 ghost use Rattle.cmd_status.specs.Ended.{IsOutOfMemory};
 ghost use Rattle.cmd_status.specs.Inputs.{IsBaseFault, IsBaseGiven};
 ghost use Rattle.station.specs.Opening.{AreFree, HaveFailed};
-ghost use Rattle.station_bases.specs.InFile.{StandsInFile};
+ghost use Rattle.station.specs.Faults.{IsFaultAt};
+ghost use Rattle.station_bases.specs.InFile.{IsHeld, IsWithinReach, StandsInFile};
 ghost use Rattle.station_bases.specs.Reading.{IsFileShut, IsSettled, IsUnreadFor};
 
+use crate::entry_opening::open_entries;
 use crate::file_station::FileStation;
+use crate::held::Held;
 use base_file::Base;
+use base_store::{Digest, SipDigest};
 use cmd_status::{Fault, FileLock, MessageProgress};
 use disk_io::{Disk, DiskError, folder_of, read_file};
 use echo_addr::Items;
@@ -21,63 +25,121 @@ use station::{Followed, Locks, links_at, lock_at, system_name};
 use std::alloc::Global;
 use std::hash::BuildHasher;
 
-/// A link file, the name of its system, and the base of the base file.
+/// A link file, the name of its system, and what is held of the base file.
 #[derive(Drop)]
 pub(crate) struct Read<S: BuildHasher> {
     pub links: LinkFile,
     pub own: Items<u8>,
-    pub base: Base<S>,
+    pub held: Held<S>,
 }
 
-// The bytes of a file, if it exists, once they and its name are synced. If it does not, that is synced.
-fn bytes_synced<D: Disk>(
-    alloc: Global,
-    disk: &mut D,
-    path: &[u8],
-) -> Result<Option<Items<u8>>, DiskError>
-    ensures found { Honestly (D.state disk.new) (IfOk result (λ found. found ≡ (D.state disk.old).seen path.now)) }
+// Syncs a file and its name, and answers whether it exists.
+fn settle<D: Disk>(disk: &mut D, path: &[u8]) -> Result<bool, DiskError>
+    ensures found { Honestly (D.state disk.new) (IfOk result (λ found. IsTrue found ↔ IsSome ((D.state disk.old).seen path.now))) }
     ensures settled { Honestly (D.state disk.new) (OnOk result (IsSettled (D.state disk.new) path.now)) }
     ensures quiet { ChangesNothing (D.state disk.old) (D.state disk.new) }
     ensures cause { HasCause (D.failures disk.old) (D.failures disk.new) result }
 {
     disk.sync_folder(folder_of(path))?;
     if !disk.exists(path)? {
-        return Ok(None);
+        return Ok(false);
     }
     disk.sync(path)?;
-    Ok(Some(Items::new(read_file(alloc, disk, path)?)))
+    Ok(true)
 }
 
-// The base in a base file; without a file the base is empty.
+// The base in these bytes of a base file.
 fn loaded<'a, S: BuildHasher + Drop, T: MessageProgress>(
     alloc: Global,
-    bytes: Option<Items<u8>>,
+    all: &[u8],
     hasher: S,
     watch: &T,
 ) -> Result<Base<S>, Fault<'a>>
-    ensures same { (base : TheBase) → IsBaseGiven bytes base.messages base.cursor → IfOk result (λ b. base ≡ b) }
-    ensures err { IfErr result (λ fault. IsOutOfMemory fault ⊎ IsBaseFault bytes fault) }
+    ensures same { (base : TheBase) → IsBaseGiven (Some all.now) base.messages base.cursor → IfOk result (λ b. base ≡ b) }
+    ensures err { IfErr result (λ fault. IsOutOfMemory fault ⊎ IsBaseFault (Some all.now) fault) }
 {
-    match bytes {
-        Some(bytes) => {
-            let all = bytes.as_slice();
-            let mut left = Followed::new(all, all.len(), watch);
-            Ok(Base::load(alloc, &mut left, hasher)?)
-        }
-        None => Ok(Base::new(alloc, hasher)),
+    let mut left = Followed::new(all, all.len(), watch);
+    Ok(Base::load(alloc, &mut left, hasher)?)
+}
+
+// A failure of the disk at this path, as the fault that is reported.
+fn fault_at(cause: DiskError, path: &str) -> Fault<'_>
+    ensures { IsFaultAt path.now cause result }
+{
+    match cause {
+        DiskError::Memory => Fault::OutOfMemory,
+        DiskError::Device => Fault::CannotUse(path),
     }
 }
 
-// Reads the base file of the station, under its locks.
-fn base_at<'a, D: Disk, L: FileLock, K: FileLock, S: BuildHasher + Drop, T: MessageProgress + Drop>(
+// The key of the digests of a run.
+fn digest_by<S: BuildHasher>(hasher: &S) -> SipDigest {
+    SipDigest::keyed(hasher.hash_one(&0u8), hasher.hash_one(&1u8))
+}
+
+// Opens a synced file whose messages can stay in it. Without a file the base is empty, and in memory.
+fn open_apart<D: Disk, S: BuildHasher + Drop, T: MessageProgress>(
+    alloc: Global,
+    disk: &mut D,
+    path: &[u8],
+    hasher: S,
+    watch: &T,
+) -> Result<Option<Held<S>>, DiskError>
+    ensures held { Honestly (D.state disk.new) (IfOk result (λ found. IfSome found (λ held. (base : TheBase) → StandsInFile path.now base (D.state disk.old).seen → IsHeld (D.state disk.new) path.now held base))) }
+    ensures reach { IfOk result (λ found. IfSome found (IsWithinReach (D.state disk.new) path.now)) }
+    ensures there { Honestly (D.state disk.new) (IfOk result (λ found. IfNone found (IsSome ((D.state disk.old).seen path.now)))) }
+    ensures settled { Honestly (D.state disk.new) (OnOk result (IsSettled (D.state disk.new) path.now)) }
+    ensures quiet { ChangesNothing (D.state disk.old) (D.state disk.new) }
+    ensures cause { HasCause (D.failures disk.old) (D.failures disk.new) result }
+{
+    if !settle(disk, path)? {
+        return Ok(Some(Held::Whole(Base::new(alloc, hasher))));
+    }
+    let digest = digest_by(&hasher);
+    match open_entries(alloc, disk, path, digest, watch)? {
+        Some(entries) => Ok(Some(Held::Apart(entries))),
+        None => Ok(None),
+    }
+}
+
+// Reads a whole base file into memory.
+fn open_whole<'a, D: Disk, S: BuildHasher + Drop, T: MessageProgress>(
+    alloc: Global,
+    disk: &mut D,
+    path: &'a str,
+    hasher: S,
+    watch: &T,
+) -> Result<Base<S>, Fault<'a>>
+    requires there { Honestly (D.state disk.old) (IsSome ((D.state disk.old).seen path.now)) }
+    ensures same { Honestly (D.state disk.new) ((base : TheBase) → StandsInFile path.entry.now base (D.state disk.old).seen → IfOk result (λ b. base ≡ b)) }
+    ensures quiet { ChangesNothing (D.state disk.old) (D.state disk.new) }
+    ensures later { D.failures disk.old ≤ D.failures disk.new }
+    ensures err { Honestly (D.state disk.new) (IfErr result (IsUnreadFor path.entry.now (Failed (D.failures disk.old) (D.failures disk.new)) (D.state disk.old))) }
+{
+    match read_file(alloc, disk, path.as_bytes()) {
+        Ok(bytes) => loaded(alloc, &bytes, hasher, watch),
+        Err(cause) => Err(fault_at(cause, path)),
+    }
+}
+
+// Opens the base file of the station, under its locks.
+fn base_at<
+    'a,
+    D: Disk,
+    L: FileLock,
+    K: FileLock,
+    S: BuildHasher + Copy + Drop,
+    T: MessageProgress + Drop,
+>(
     alloc: Global,
     disk: &mut D,
     _locks: &Locks<L, K>,
     at: FileStation<'a, S, T>,
-) -> Result<Base<S>, Fault<'a>>
+) -> Result<Held<S>, Fault<'a>>
     requires links_locked { L.held _locks.now.links ≡ Some at.links.now }
     requires base_locked { K.held _locks.now.base ≡ Some at.base.now }
-    ensures same { Honestly (D.state disk.new) ((base : TheBase) → StandsInFile at.entry.base.now base (D.state disk.old).seen → IfOk result (λ b. base ≡ b)) }
+    ensures same { Honestly (D.state disk.new) ((base : TheBase) → StandsInFile at.entry.base.now base (D.state disk.old).seen → IfOk result (λ held. IsHeld (D.state disk.new) at.entry.base.now held base)) }
+    ensures reach { IfOk result (IsWithinReach (D.state disk.new) at.entry.base.now) }
     ensures settled { Honestly (D.state disk.new) (OnOk result (IsSettled (D.state disk.new) at.entry.base.now)) }
     ensures quiet { ChangesNothing (D.state disk.old) (D.state disk.new) }
     ensures later { D.failures disk.old ≤ D.failures disk.new }
@@ -89,10 +151,13 @@ fn base_at<'a, D: Disk, L: FileLock, K: FileLock, S: BuildHasher + Drop, T: Mess
         watch,
         ..
     } = at;
-    match bytes_synced(alloc, disk, path.as_bytes()) {
-        Ok(bytes) => loaded(alloc, bytes, hasher, &watch),
-        Err(DiskError::Memory) => Err(Fault::OutOfMemory),
-        Err(DiskError::Device) => Err(Fault::CannotUse(path)),
+    match open_apart(alloc, disk, path.as_bytes(), hasher, &watch) {
+        Ok(Some(held)) => Ok(held),
+        Ok(None) => {
+            let base = open_whole(alloc, disk, path, hasher, &watch)?;
+            Ok(Held::Whole(base))
+        }
+        Err(cause) => Err(fault_at(cause, path)),
     }
 }
 
@@ -102,19 +167,20 @@ fn locked_base<
     D: Disk,
     L: FileLock,
     K: FileLock,
-    S: BuildHasher + Drop,
+    S: BuildHasher + Copy + Drop,
     T: MessageProgress + Drop,
 >(
     alloc: Global,
     disk: &mut D,
     locks: &mut Locks<L, K>,
     at: FileStation<'a, S, T>,
-) -> Result<Base<S>, Fault<'a>>
+) -> Result<Held<S>, Fault<'a>>
     requires links_locked { L.held locks.old.links ≡ Some at.links.now }
     requires free { K.held locks.old.base ≡ None }
     ensures locked { OnOk result (K.held locks.new.base ≡ Some at.entry.base.now) }
     ensures links { locks.new.links ≡ locks.old.links }
-    ensures same { Honestly (D.state disk.new) ((base : TheBase) → StandsInFile at.entry.base.now base (D.state disk.old).seen → IfOk result (λ b. base ≡ b)) }
+    ensures same { Honestly (D.state disk.new) ((base : TheBase) → StandsInFile at.entry.base.now base (D.state disk.old).seen → IfOk result (λ held. IsHeld (D.state disk.new) at.entry.base.now held base)) }
+    ensures reach { IfOk result (IsWithinReach (D.state disk.new) at.entry.base.now) }
     ensures settled { Honestly (D.state disk.new) (OnOk result (IsSettled (D.state disk.new) at.entry.base.now)) }
     ensures quiet { ChangesNothing (D.state disk.old) (D.state disk.new) }
     ensures later { D.failures disk.old ≤ D.failures disk.new }
@@ -130,7 +196,7 @@ pub(crate) fn read_station<
     D: Disk,
     L: FileLock,
     K: FileLock,
-    S: BuildHasher + Drop,
+    S: BuildHasher + Copy + Drop,
     T: MessageProgress + Drop,
 >(
     alloc: Global,
@@ -141,7 +207,8 @@ pub(crate) fn read_station<
     requires { AreFree (L.held locks.old.links) (K.held locks.old.base) }
     ensures locked { OnOk result ((L.held locks.new.links ≡ Some at.entry.links.now) × (K.held locks.new.base ≡ Some at.entry.base.now)) }
     ensures order { K.held locks.new.base ≡ Some at.entry.base.now → L.held locks.new.links ≡ Some at.entry.links.now }
-    ensures read { Honestly (D.state disk.new) (IfOk result (λ read. AreLinks (D.state disk.old) at.entry.links.now read.links × ((base : TheBase) → StandsInFile at.entry.base.now base (D.state disk.old).seen → base ≡ read.base))) }
+    ensures read { Honestly (D.state disk.new) (IfOk result (λ read. AreLinks (D.state disk.old) at.entry.links.now read.links × ((base : TheBase) → StandsInFile at.entry.base.now base (D.state disk.old).seen → IsHeld (D.state disk.new) at.entry.base.now read.held base))) }
+    ensures reach { IfOk result (λ read. IsWithinReach (D.state disk.new) at.entry.base.now read.held) }
     ensures plain { IfOk result (λ read. All (λ b. b ≢ 47) read.own) }
     ensures settled { Honestly (D.state disk.new) (OnOk result (IsSettled (D.state disk.new) at.entry.base.now)) }
     ensures quiet { ChangesNothing (D.state disk.old) (D.state disk.new) }
@@ -151,6 +218,6 @@ pub(crate) fn read_station<
 {
     let links = links_at(alloc, disk, &mut locks.links, at.links)?;
     let own = Items::new(system_name(alloc, &links)?);
-    let base = locked_base(alloc, disk, locks, at)?;
-    Ok(Read { links, own, base })
+    let held = locked_base(alloc, disk, locks, at)?;
+    Ok(Read { links, own, held })
 }

@@ -7,35 +7,16 @@ ghost use Rattle.disk_atomic.specs.Replacing.{Replaces};
 ghost use Rattle.disk_atomic.specs.StagingPaths.{staging_path};
 ghost use Rattle.cmd_status.specs.Inputs.{IsBaseGiven};
 ghost use Rattle.base_folder_store.specs.Calls.{HasWriteCause};
-ghost use Rattle.station_bases.specs.InFile.{HasRoomFor, IsInFile, IsOfFile, IsUncounted, IsUnsaved, PutsBase};
+ghost use Rattle.station_bases.specs.Entries.{IsUnsaved};
+ghost use Rattle.station_bases.specs.InFile.{IsInFile, IsOfFile, IsUncounted, PutsBase};
 
 use base_file::{Base, BaseFault, saved_base_law};
 use base_store::StoreError;
 use disk_atomic::{replace_file, staging_path};
 use disk_io::{Disk, DiskError, Watched, folder_of};
 use echo_addr::Items;
-use echo_filed::{Filed, is_short_enough};
 use std::alloc::Global;
 use std::hash::BuildHasher;
-
-/// The most messages of a base file.
-const MOST: usize = 4_294_967_295;
-
-/// A fault, unless a base file can have this message too.
-pub(crate) fn check_room<S: BuildHasher>(
-    alloc: Global,
-    base: &Base<S>,
-    message: &Filed,
-) -> Result<(), StoreError>
-    ensures room { OnOk result (HasRoomFor base.now message.now) }
-    ensures many { IsErrOf result StoreError.TooMany → HasRoomFor base.now message.now → ⊥ }
-    ensures err { IfErr result IsUnsaved }
-{
-    if base.len() >= MOST || !is_short_enough(alloc, message, false)? {
-        return Err(StoreError::TooMany);
-    }
-    Ok(())
-}
 
 // The bytes of a base file with this base.
 fn saved<S: BuildHasher>(alloc: Global, base: &Base<S>) -> Result<Items<u8>, StoreError>

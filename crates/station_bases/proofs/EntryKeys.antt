@@ -1,0 +1,37 @@
+-- Which entries a look-up goes to.
+use Rattle.std.proofs.Common.{◌≡◌, ℕ, List, refl}
+use Rattle.base_log.specs.Standing.{BaseBytes}
+use Rattle.base_file.specs.Base.{Base}
+use Rattle.base_store.specs.Keys.{StandWhereTold, digested_key}
+use Rattle.base_store.specs.Sip.{sip_digest}
+use Rattle.base_store.proofs.Placed.{stand_where_told}
+use Rattle.base_folder_store.specs.Answers.{HaveDigest}
+use Rattle.base_folder_store.specs.Held.{HoldsBase}
+use Rattle.base_folder_store.proofs.Seen.{id_digest, key_digest}
+use Rattle.echo_filed.specs.Filed.{Filed, has_id, key_of, same_key}
+use Rattle.echo_filed.specs.declared.key.Key.{Key}
+use Rattle.station_bases.specs.Entries.{AreEntriesOf, entry_digest, message_bytes}
+use Rattle.station_bases.specs.declared.entries.Entries.{Entries}
+
+-- the entries and bytes, as a base folder has them
+abbrev as_folder : List ℕ → Entries → ℕ → BaseBytes
+as_folder file e cursor = record { messages = message_bytes file e; keys = e.keys.items; cursor = cursor; mark = record { owner = 0; first = e.digest.first; second = e.digest.second } }
+
+module _ (file : List ℕ) (e : Entries) (messages : List Filed) (cursor : ℕ) (are : AreEntriesOf file e messages cursor) where
+  base : Base
+  base = record { messages = messages; cursor = cursor }
+
+  holds : HoldsBase sip_digest (as_folder file e cursor) base
+  unfolding base
+  holds = record { files = are; cursor = refl }
+
+  pub where_told : StandWhereTold messages (message_bytes file e) e.keys.items
+  where_told = stand_where_told (entry_digest e) messages cursor (message_bytes file e) e.keys.items are
+
+  pub key_told : (key : Key) (number : ℕ) → number ≡ entry_digest e (digested_key key) → HaveDigest (λ m. same_key (key_of m) key) number messages e.keys.items
+  unfolding base
+  key_told key number is = key_digest sip_digest (as_folder file e cursor) base key number holds is
+
+  pub id_told : (id : List ℕ) (number : ℕ) → number ≡ entry_digest e id → HaveDigest (has_id id) number messages e.keys.items
+  unfolding base
+  id_told id number is = id_digest sip_digest (as_folder file e cursor) base id number holds is

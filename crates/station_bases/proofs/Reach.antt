@@ -1,0 +1,49 @@
+-- A base file that is as it was.
+use Rattle.std.proofs.Common.{◌≡◌, ◌≤◌, ℕ, List, length, sym, ap, subst, Option}
+use Rattle.std.specs.Prelude.{IsSome}
+use Rattle.disk_io.specs.Disk.{DiskState, Honestly, bytes_in}
+use Rattle.disk_io.specs.Runs.{ChangesNothing}
+use Rattle.base_file.specs.Base.{Base}
+use Rattle.station_bases.specs.Entries.{AreIndexed, CanLookUp, HoldEntries, IsWithinFile}
+use Rattle.station_bases.specs.InFile.{IsHeld, IsWithinReach}
+use Rattle.station_bases.specs.declared.held.Held.{Held}
+use Rattle.station_bases.specs.declared.held.Held.TheVariants.{Apart, Whole}
+use Rattle.station_bases.specs.declared.entries.Entries.{Entries}
+
+module _ (d0 d1 : DiskState) (path : List ℕ) (quiet : ChangesNothing d0 d1) where
+  pub same_file : bytes_in (d1.seen path) ≡ bytes_in (d0.seen path)
+  same_file = ap bytes_in (quiet.seen path)
+
+  pub reach_still : (e : Entries) → IsWithinFile d0 path e → IsWithinFile d1 path e
+  reach_still e was = record {
+    there = subst (λ (f : Option (List ℕ)). IsSome f) (sym (quiet.seen path)) was.there;
+    long = subst (λ (f : Option (List ℕ)). e.end ≤ length (bytes_in f)) (sym (quiet.seen path)) was.long;
+  }
+
+  pub look_still : (e f : Entries) → AreIndexed f → f.end ≡ e.end → CanLookUp d0 path e → CanLookUp d1 path f
+  look_still e f indexed end was = record {
+    indexed = indexed;
+    legible = λ honest.
+        let before = was.legible (quiet.honest honest) in
+        record {
+          there = (reach_still e before).there;
+          long = subst (λ (n : ℕ). n ≤ length (bytes_in (d1.seen path))) (sym end) (reach_still e before).long;
+        };
+  }
+
+-- the same where only this file is
+pub reach_seen : {S T : Type 0} (d0 d1 : DiskState) (path : List ℕ) (held : Held S T) → d1.seen path ≡ d0.seen path → (d1.is_honest → d0.is_honest) → IsWithinReach d0 path held → IsWithinReach d1 path held
+reach_seen d0 d1 path (Apart e) seen before was = record {
+  indexed = was.indexed;
+  legible = λ honest.
+      let reach = was.legible (before honest) in
+      record {
+        there = subst (λ (f : Option (List ℕ)). IsSome f) (sym seen) reach.there;
+        long = subst (λ (f : Option (List ℕ)). e.end ≤ length (bytes_in f)) (sym seen) reach.long;
+      };
+}
+reach_seen d0 d1 path (Whole base) seen before was = tt
+
+pub held_seen : {S T : Type 0} (d0 d1 : DiskState) (path : List ℕ) (held : Held S T) → d1.seen path ≡ d0.seen path → (b : Base) → IsHeld d0 path held b → IsHeld d1 path held b
+held_seen d0 d1 path (Apart e) seen b was = subst (λ (f : Option (List ℕ)). HoldEntries (bytes_in f) e b) (sym seen) was
+held_seen d0 d1 path (Whole base) seen b was = was

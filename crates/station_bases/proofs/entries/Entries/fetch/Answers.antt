@@ -1,0 +1,27 @@
+use Rattle.std.proofs.Common.{◌≤◌, ◌/◌, List, ℕ, length, arith}
+use Rattle.std.specs.Prelude.{◌≡◌, slice_get}
+use Rattle.disk_io.specs.Disk.{bytes_in}
+use Rattle.base_file.specs.Base.{Base}
+use Rattle.base_folder_store.specs.Answers.{IsAloneOf}
+use Rattle.base_folder_store.proofs.Causes.{answers_error}
+use Rattle.base_folder_store.proofs.Seen.{fetched}
+use Rattle.station_bases.proofs.EntryKeys.{where_told}
+use Rattle.station_bases.proofs.EntryMore.{many_held}
+use Rattle.station_bases.proofs.entries.Entries.fetch.Goals as goal
+
+pub returns-then-place-count-clause-fetched : goal.returns-then-place-count-clause-fetched
+returns-then-place-count-clause-fetched g c honest = λ base held less.
+    let many = many_held (bytes_in ((g.D.Disk.state c.args.disk.now).seen c.args.path.now)) c.args.self.now base held in
+    let past = c.if-place-count.true in
+    omega (arith, many, less, past, c.count.ensures)
+
+pub returns-in_err-alone-clause-fetched : goal.returns-in_err-alone-clause-fetched
+returns-in_err-alone-clause-fetched g c honest = λ base held less.
+    let file = bytes_in ((g.D.Disk.state c.args.disk.now).seen c.args.path.now) in
+    answers_error {T = Base} (λ (alone : Base). IsAloneOf base.messages c.args.place alone) _ _ c.from_residual.result c.from_residual.ensures.1
+    (c.in_err-alone.ensures.read honest base.messages (where_told file c.args.self.now base.messages base.cursor held.files) less)
+
+pub returns-clause-fetched : goal.returns-clause-fetched
+returns-clause-fetched g c honest = λ base held less.
+    let file = bytes_in ((g.D.Disk.state c.args.disk.now).seen c.args.path.now) in
+    fetched base.messages c.args.place c.in_ok-alone.alone less (c.in_ok-alone.ensures.read honest base.messages (where_told file c.args.self.now base.messages base.cursor held.files) less)

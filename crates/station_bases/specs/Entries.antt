@@ -1,0 +1,77 @@
+-- A base file held as entries: for each message the place where it begins, and a digest of its key.
+use Rattle.std.specs.Prelude.{◌≡◌, ◌≤◌, ◌⊎◌, ◌<◌, ◌+◌, ◌*◌, ◌/◌, ◌^◌, ℕ, ⊤, false, true, nat_lt, List, [], ◌∷◌, ◌++◌, length, take, drop, IsSome}
+use Rattle.std.specs.List.{flat_map}
+use Rattle.disk_io.specs.Disk.{DiskState, Honestly, bytes_in}
+use Rattle.echo_filed.specs.Filed.{Filed}
+use Rattle.echo_filed.specs.Stored.{is_short, is_short_enough, stored_as, stored_bytes}
+use Rattle.echo_filed.specs.declared.stored.Version.TheVariants.{Second}
+use Rattle.base_file.specs.Base.{Base}
+use Rattle.base_file.specs.BaseFile.{head_bytes, is_countable, stored_from}
+use Rattle.base_store.specs.Index.{IsIndexOf}
+use Rattle.base_store.specs.Keys.{FolderStandsFor}
+use Rattle.base_store.specs.Sip.{sip_digest}
+use Rattle.base_store.specs.declared.store_error.StoreError.{StoreError}
+use Rattle.base_store.specs.declared.store_error.StoreError.TheVariants as error
+use Rattle.station_bases.specs.declared.entries.Entries.{Entries}
+
+-- the digest in its entries
+abbrev pub entry_digest : Entries → List ℕ → ℕ
+entry_digest e = sip_digest e.digest.first e.digest.second
+
+-- The bytes of the messages: those in the file behind its head, and those that wait to be written.
+abbrev pub message_bytes : List ℕ → Entries → List ℕ
+message_bytes file e = drop 16 (take e.end file) ++ e.waiting.items
+
+-- The bytes of a base file with these messages and this cursor.
+abbrev pub file_bytes : List ℕ → Entries → List ℕ
+file_bytes file e = head_bytes Second e.cursor (length e.keys.items / 16) ++ message_bytes file e
+
+-- The file is there, with all messages that it is known to have.
+pub record IsWithinFile (disk : DiskState) (path : List ℕ) (e : Entries) : Type 0 where
+  pub there : IsSome (disk.seen path)
+  pub long : e.end ≤ length (bytes_in (disk.seen path))
+
+-- The entries are whole, the index is one of them, and the messages end behind the head of the file.
+pub record AreIndexed (e : Entries) : Type 0 where
+  pub even : 16 * (length e.keys.items / 16) ≡ length e.keys.items
+  pub index : IsIndexOf e.keys.items e.index
+  pub head : 16 ≤ e.end
+  pub fits : e.end < 2 ^ 64
+
+-- Messages can be looked up.
+pub record CanLookUp (disk : DiskState) (path : List ℕ) (e : Entries) : Type 0 where
+  pub indexed : AreIndexed e
+  pub legible : Honestly disk (IsWithinFile disk path e)
+
+-- The entries and the bytes are those of these messages.
+abbrev pub AreEntriesOf : List ℕ → Entries → List Filed → ℕ → Type 0
+AreEntriesOf file e messages cursor = FolderStandsFor (entry_digest e) messages cursor (message_bytes file e) e.keys.items
+
+-- No message from the cursor on is stored in another form once it is scanned.
+abbrev pub KeepForms : ℕ → ℕ → List Filed → Type 0
+KeepForms cursor place [] = ⊤
+KeepForms cursor place (m ∷ later) = (nat_lt place cursor ≡ false → is_short Second 1 0 m ≡ false) × KeepForms cursor (place + 1) later
+
+-- The base that a base file with these entries holds, with the messages that wait to be written. The bytes of each message are those that are saved of it.
+pub record HoldEntries (file : List ℕ) (e : Entries) (base : Base) : Type 0 where
+  pub files : AreEntriesOf file e base.messages base.cursor
+  pub saved : message_bytes file e ≡ flat_map (stored_bytes Second) (stored_from base.cursor 0 base.messages)
+  pub countable : is_countable base.messages base.cursor ≡ true
+  pub forms : e.odd ≡ false → KeepForms base.cursor 0 base.messages
+  pub cursor : e.cursor ≡ base.cursor
+
+-- Four bytes count so many messages with one more, and the bytes of its text.
+pub record HasRoomFor (count : ℕ) (message : Filed) : Type 0 where
+  pub messages : count + 1 < 2 ^ 32
+  pub text : is_short_enough (stored_as false message) ≡ true
+
+-- No memory, or too many.
+abbrev pub IsUnsaved : StoreError → Type 0
+IsUnsaved why = (why ≡ error.Memory) ⊎ (why ≡ error.TooMany)
+
+-- The file and the digest are the same: only what waits may have changed.
+pub record SameButAdded (old new : Entries) : Type 0 where
+  pub digest : new.digest ≡ old.digest
+  pub cursor : new.cursor ≡ old.cursor
+  pub end : new.end ≡ old.end
+  pub alone : new.alone ≡ old.alone

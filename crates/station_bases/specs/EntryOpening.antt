@@ -1,0 +1,35 @@
+-- The messages of a base file are judged one after another, and their entries made.
+use Rattle.std.specs.Prelude.{◌≡◌, ◌≤◌, ℕ, ◌+◌, Bool, false, List, [], ◌++◌, length, map, take, drop}
+use Rattle.echo_filed.specs.Stored.{Stored, message_in}
+use Rattle.echo_filed.specs.declared.stored.Version.TheVariants.{Second}
+use Rattle.base_file.specs.BaseFile.{Begins}
+use Rattle.base_file.specs.Pieces.{IsJudged}
+use Rattle.base_file.specs.declared.base.loading.Head.{Head}
+use Rattle.base_file.specs.declared.piece.Next.TheVariants as next
+use Rattle.base_store.specs.Keys.{keys_from}
+use Rattle.echo_filed.specs.declared.key.Key.{Key}
+use Rattle.station_bases.specs.Entries.{KeepForms, entry_digest}
+use Rattle.station_bases.specs.declared.entry_opening.Piece.{Piece}
+use Rattle.station_bases.specs.declared.entries.Entries.{Entries}
+
+-- The bytes of a file from a place on.
+pub record IsPartOf (file : List ℕ) (piece : Piece) : Type 0 where
+  pub within : piece.begins + length piece.bytes.items ≤ length file
+  pub same : piece.bytes.items ≡ drop piece.begins (take (piece.begins + length piece.bytes.items) file)
+
+-- The entries are those of the first messages of a file with this head, and the next one begins where they end.
+pub record AreJudged (file : List ℕ) (head : Head) (e : Entries) : Type 0 where
+  pub all : List Stored
+  pub begins : Begins Second head.cursor head.number all (drop e.end file) file
+  pub within : e.end ≤ length file
+  pub few : length all ≤ head.number
+  pub none : e.waiting.items ≡ []
+  pub entries : e.keys.items ≡ keys_from (entry_digest e) 0 all
+  pub forms : e.odd ≡ false → KeepForms head.cursor 0 (map (message_in Second) all)
+
+-- A message that no rule refuses by itself is in front of these bytes.
+pub record IsSoundIn (cursor place : ℕ) (bytes : List ℕ) (key : Key) (size : ℕ) (short : Bool) : Type 0 where
+  pub piece : List ℕ
+  pub more : List ℕ
+  pub parts : bytes ≡ piece ++ more
+  pub judged : IsJudged Second cursor place piece (next.Sound key size short)

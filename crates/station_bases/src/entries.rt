@@ -1,0 +1,138 @@
+//! A base file whose messages stay in it: in memory are the place and the digest of each.
+ghost use Rattle.std.specs.Prelude.{◌≡◌, ◌≤◌, ◌<◌, ◌+◌, ◌-◌, ◌/◌, ◌++◌, List, length, IfOk, IsErrOf, IsSome, drop, take};
+ghost use Rattle.disk_io.specs.Disk.{Honestly, bytes_in};
+ghost use Rattle.disk_io.specs.Runs.{ChangesNothing, HasCause};
+ghost use Rattle.echo_filed.specs.Filed.{Filed};
+ghost use Rattle.base_store.specs.Keys.{StandWhereTold};
+ghost use Rattle.base_folder_store.specs.Answers.{Answers, HasReadCause, IsAloneOf, IsStoredOf};
+ghost use Rattle.station_bases.specs.Entries.{IsWithinFile, message_bytes};
+
+use base_folder_store::{Alone, read_alone};
+use base_store::{Index, SipDigest, StoreError, end_of, place_of};
+use disk_io::{Disk, DiskError, read_part};
+use std::alloc::Global;
+
+/// How many bytes of a base file come before its messages.
+pub(crate) const HEAD: usize = 16;
+
+/// How many bytes an entry has.
+pub(crate) const ENTRY: usize = 16;
+
+/// What is known of a base file of version 2, and of messages that wait to be written behind it.
+#[derive(Drop)]
+pub struct Entries {
+    pub(crate) digest: SipDigest,
+    pub(crate) cursor: usize,
+    // Where the messages in the file end.
+    pub(crate) end: usize,
+    // Whether a message that was not scanned may be stored in another form once it is.
+    pub(crate) odd: bool,
+    pub(crate) waiting: Vec<u8>,
+    pub(crate) keys: Vec<u8>,
+    pub(crate) index: Index,
+    // The current message.
+    pub(crate) alone: Option<Alone>,
+}
+
+// The bytes between two places behind the head of a file. The last ones wait to be written.
+fn read_between<D: Disk>(
+    alloc: Global,
+    disk: &mut D,
+    path: &[u8],
+    end: usize,
+    waiting: &[u8],
+    begins: usize,
+    ends: usize,
+) -> Result<Vec<u8>, DiskError>
+    requires there { Honestly (D.state disk.old) (IsSome ((D.state disk.old).seen path.now)) }
+    requires long { Honestly (D.state disk.old) (end ≤ length (bytes_in ((D.state disk.old).seen path.now))) }
+    requires head { 16 ≤ end }
+    requires order { begins ≤ ends }
+    requires within { ends ≤ end - 16 + length waiting.now }
+    ensures bytes { Honestly (D.state disk.new) (IfOk result (λ part. part.items
+        ≡ drop begins (take ends (drop 16 (take end (bytes_in ((D.state disk.old).seen path.now))) ++ waiting.now)))) }
+    ensures quiet { ChangesNothing (D.state disk.old) (D.state disk.new) }
+    ensures cause { HasCause (D.failures disk.old) (D.failures disk.new) result }
+{
+    let written = end - HEAD;
+    let from = begins.saturating_sub(written);
+    let to = ends.saturating_sub(written);
+    let first = begins.min(written);
+    let last = ends.min(written);
+    let mut part = read_part(alloc, disk, path, HEAD + first, HEAD + last)?;
+    part.extend_from_slice(&waiting[from..to])?;
+    Ok(part)
+}
+
+impl Entries {
+    /// How many messages there are.
+    pub(crate) fn count(&self) -> usize
+        ensures { result ≡ length self.now.keys.items / 16 }
+    {
+        self.keys.len() / ENTRY
+    }
+
+    /// How many of them, from the front, were scanned.
+    pub(crate) fn cursor(&self) -> usize
+        ensures { result ≡ self.now.cursor }
+    {
+        self.cursor
+    }
+
+    /// Whether a message that was not scanned may be stored in another form once it is.
+    pub(crate) fn is_odd(&self) -> bool
+        ensures { result ≡ self.now.odd }
+    {
+        self.odd
+    }
+
+    /// The bytes of the message of this number, counted from 0.
+    pub(crate) fn stored<D: Disk>(
+        &self,
+        alloc: Global,
+        disk: &mut D,
+        path: &[u8],
+        place: usize,
+    ) -> Result<Vec<u8>, StoreError>
+        requires legible { Honestly (D.state disk.old) (IsWithinFile (D.state disk.old) path.now self.now) }
+        requires head { 16 ≤ self.now.end }
+        requires within { place < length self.now.keys.items / 16 }
+        ensures stored { Honestly (D.state disk.new) ((base : List Filed) → StandWhereTold base (message_bytes (bytes_in ((D.state disk.old).seen path.now)) self.now) self.now.keys.items
+            → place < length base → Answers (λ bytes. IsStoredOf base place bytes.items) result) }
+        ensures quiet { ChangesNothing (D.state disk.old) (D.state disk.new) }
+        ensures cause { HasReadCause (D.failures disk.old) (D.failures disk.new) result }
+        ensures few { IsErrOf result StoreError.TooMany → ⊥ }
+    {
+        let Some(all) = (self.end - HEAD).checked_add(self.waiting.len()) else {
+            return Err(StoreError::Memory);
+        };
+        let begins = place_of(&self.keys, place) as usize;
+        let ends = end_of(&self.keys, place, all as u64) as usize;
+        if begins > ends || ends > all {
+            return Err(StoreError::Damaged);
+        }
+        let part = read_between(alloc, disk, path, self.end, &self.waiting, begins, ends)?;
+        Ok(part)
+    }
+
+    /// The message of this number, counted from 0.
+    pub(crate) fn read<D: Disk>(
+        &self,
+        alloc: Global,
+        disk: &mut D,
+        path: &[u8],
+        place: usize,
+    ) -> Result<Alone, StoreError>
+        requires legible { Honestly (D.state disk.old) (IsWithinFile (D.state disk.old) path.now self.now) }
+        requires head { 16 ≤ self.now.end }
+        requires within { place < length self.now.keys.items / 16 }
+        ensures read { Honestly (D.state disk.new) ((base : List Filed) → StandWhereTold base (message_bytes (bytes_in ((D.state disk.old).seen path.now)) self.now) self.now.keys.items
+            → place < length base → Answers (IsAloneOf base place) result) }
+        ensures quiet { ChangesNothing (D.state disk.old) (D.state disk.new) }
+        ensures cause { HasReadCause (D.failures disk.old) (D.failures disk.new) result }
+        ensures few { IsErrOf result StoreError.TooMany → ⊥ }
+    {
+        let bytes = self.stored(alloc, disk, path, place)?;
+        read_alone(alloc, &bytes)
+    }
+}

@@ -1,0 +1,110 @@
+//! A message of a base file looked up by its digest. Only messages that have it are read, and keys are compared whole.
+ghost use Rattle.std.specs.Prelude.{◌≡◌, ◌≤◌, ◌*◌, ◌/◌, List, length, IsErrOf, IsTrue, OnOk};
+ghost use Rattle.std.specs.List.{list_any};
+ghost use Rattle.disk_io.specs.Disk.{Honestly, bytes_in};
+ghost use Rattle.disk_io.specs.Runs.{ChangesNothing};
+ghost use Rattle.echo_filed.specs.Filed.{Filed};
+ghost use Rattle.base_store.specs.Index.{IsIndexOf, covered};
+ghost use Rattle.base_store.specs.Keys.{StandWhereTold};
+ghost use Rattle.base_folder_store.specs.Added.{IsStoredAlone};
+ghost use Rattle.base_folder_store.specs.Answers.{Answers, HasReadCause, HaveDigest};
+ghost use Rattle.station_bases.specs.Entries.{AreIndexed, CanLookUp, IsWithinFile, message_bytes};
+
+use crate::entries::{ENTRY, Entries};
+use base_folder_store::{Sought, read_alone};
+use base_store::{Index, StoreError};
+use disk_io::Disk;
+use std::alloc::{AllocError, Global};
+
+// Whether the message of these stored bytes is the sought one. All of it is read only if its front is inconclusive.
+fn is_stored<W: Sought>(alloc: Global, sought: &W, bytes: &[u8]) -> Result<bool, StoreError>
+    ensures found { (m : Filed) → IsStoredAlone m bytes.now → Answers (λ found. found ≡ W.test sought.now m) result }
+    ensures device { IsErrOf result StoreError.Device → ⊥ }
+    ensures few { IsErrOf result StoreError.TooMany → ⊥ }
+{
+    if sought.matches_by_header(bytes) {
+        return Ok(true);
+    }
+    let alone = read_alone(alloc, bytes)?;
+    Ok(sought.is_in(&alone)?)
+}
+
+// Takes the entries into the index that it lacks for a look-up of the digest.
+fn take_rest(keys: &[u8], index: &mut Index, digest: u64) -> Result<(), AllocError>
+    requires even { 16 * (length keys.now / 16) ≡ length keys.now }
+    requires indexed { IsIndexOf keys.now index.old }
+    ensures indexed { IsIndexOf keys.now index.new }
+    ensures covered { OnOk result (length keys.now / 16 ≤ covered index.new digest) }
+{
+    let from = index.covered(digest);
+    if from < keys.len() / ENTRY {
+        return index.take_in(digest, from, &keys[ENTRY * from..]);
+    }
+    Ok(())
+}
+
+// The index then covers all entries for a look-up of the digest.
+fn cover(alloc: Global, keys: &[u8], index: &mut Index, digest: u64) -> Result<(), AllocError>
+    requires even { 16 * (length keys.now / 16) ≡ length keys.now }
+    requires indexed { IsIndexOf keys.now index.old }
+    ensures indexed { IsIndexOf keys.now index.new }
+    ensures covered { OnOk result (length keys.now / 16 ≤ covered index.new digest) }
+{
+    take_rest(keys, index, digest)?;
+    index.chain(alloc, digest);
+    Ok(())
+}
+
+impl Entries {
+    // Whether a message is the sought one. The index covers all entries for the digest.
+    fn find_covered<D: Disk, W: Sought>(
+        &self,
+        alloc: Global,
+        disk: &mut D,
+        path: &[u8],
+        sought: &W,
+        digest: u64,
+    ) -> Result<bool, StoreError>
+        requires can { CanLookUp (D.state disk.old) path.now self.now }
+        requires covered { length self.now.keys.items / 16 ≤ covered self.now.index digest }
+        ensures found { Honestly (D.state disk.new) ((base : List Filed) → StandWhereTold base (message_bytes (bytes_in ((D.state disk.old).seen path.now)) self.now) self.now.keys.items
+            → HaveDigest (W.test sought.now) digest base self.now.keys.items
+            → Answers (λ found. found ≡ list_any (W.test sought.now) base) result) }
+        ensures quiet { ChangesNothing (D.state disk.old) (D.state disk.new) }
+        ensures cause { HasReadCause (D.failures disk.old) (D.failures disk.new) result }
+        ensures few { IsErrOf result StoreError.TooMany → ⊥ }
+    {
+        let mut below = self.count();
+        'entries: while let Some(place) = self.index.find_below(digest, below) {
+            let bytes = self.stored(alloc, disk, path, place)?;
+            if is_stored(alloc, sought, &bytes)? {
+                return Ok(true);
+            }
+            below = place;
+        }
+        Ok(false)
+    }
+
+    /// Whether a message is the sought one, if each such message has the digest.
+    pub(crate) fn find<D: Disk, W: Sought>(
+        &mut self,
+        alloc: Global,
+        disk: &mut D,
+        path: &[u8],
+        sought: &W,
+        digest: u64,
+    ) -> Result<bool, StoreError>
+        requires can { CanLookUp (D.state disk.old) path.now self.old }
+        ensures found { Honestly (D.state disk.new) ((base : List Filed) → StandWhereTold base (message_bytes (bytes_in ((D.state disk.old).seen path.now)) self.old) self.old.keys.items
+            → HaveDigest (W.test sought.now) digest base self.old.keys.items
+            → Answers (λ found. found ≡ list_any (W.test sought.now) base) result) }
+        ensures same { self.new ≡ record self.old { index = self.new.index } }
+        ensures indexed { AreIndexed self.new }
+        ensures quiet { ChangesNothing (D.state disk.old) (D.state disk.new) }
+        ensures cause { HasReadCause (D.failures disk.old) (D.failures disk.new) result }
+        ensures few { IsErrOf result StoreError.TooMany → ⊥ }
+    {
+        cover(alloc, &self.keys, &mut self.index, digest)?;
+        self.find_covered(alloc, disk, path, sought, digest)
+    }
+}
