@@ -1,10 +1,9 @@
 -- One message more behind a base file, and all of them scanned.
-use Rattle.std.proofs.Common.{◌≡◌, ℕ, suc, ◌+◌, ◌-◌, ◌*◌, ◌/◌, ◌<◌, ◌≤◌, ◌^◌, ◌&&◌, ◌||◌, nat_lt, Bool, false, true, List, [], ◌∷◌, ◌++◌, length, take, drop, get_or, refl, sym, ap, subst, ◌∙◌, Some, Ok, ◌⊎◌, arith, append_assoc, length-append, length-drop, ⊎_elim}
+use Rattle.std.proofs.Common.{◌≡◌, ℕ, ◌+◌, ◌-◌, ◌*◌, ◌/◌, ◌<◌, ◌≤◌, ◌^◌, ◌&&◌, nat_lt, Bool, false, true, List, [], ◌∷◌, ◌++◌, length, take, drop, refl, sym, ap, subst, ◌∙◌, Some, Ok, ◌⊎◌, arith, append_assoc, length-append, length-drop, ⊎_elim}
 use Rattle.std.specs.Prelude.{slice_get}
 use Rattle.std.specs.List.{flat_map, list_all}
-use Rattle.std.proofs.lemmas.Bool.{and_from, and_parts, cases_lt, le-ltb, lt-ltb, ltb-true, ltb-false, or_parts}
+use Rattle.std.proofs.lemmas.Bool.{cases_lt, le-ltb, lt-ltb, ltb-true, ltb-false}
 use Rattle.std.proofs.lemmas.List.{append-nil, drop_at, length-take-le, take_all, take_at}
-use Rattle.disk_io.specs.Disk.{DiskState, bytes_in}
 use Rattle.echo_filed.specs.Filed.{Filed, IsFiled, key_of}
 use Rattle.echo_filed.specs.Stored.{is_short, is_short_enough, stored_as, stored_bytes}
 use Rattle.echo_filed.specs.declared.stored.Version.TheVariants.{Second}
@@ -20,7 +19,7 @@ use Rattle.base_store.proofs.Placed.{stand_where_told}
 use Rattle.base_folder_store.specs.Added.{IsStoredAlone, with_stored}
 use Rattle.base_folder_store.specs.Held.{HoldsBase, digest_by}
 use Rattle.base_log.specs.Standing.{BaseBytes}
-use Rattle.station_bases.specs.Entries.{AreEntriesOf, HoldEntries, KeepForms, entry_digest, file_bytes, message_bytes}
+use Rattle.station_bases.specs.Entries.{HoldEntries, KeepForms, entry_digest, file_bytes, message_bytes}
 use Rattle.station_bases.specs.declared.entries.Entries.{Entries}
 
 -- a message stored so wherever it is scanned

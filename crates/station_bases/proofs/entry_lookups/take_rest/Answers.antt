@@ -1,4 +1,4 @@
-use Rattle.std.proofs.Common.{◌≡◌, ◌≤◌, ◌+◌, ◌-◌, ◌*◌, ◌/◌, length, take, drop, sym, ◌∙◌, arith, length-drop}
+use Rattle.std.proofs.Common.{◌≡◌, ◌≤◌, ◌+◌, ◌-◌, ◌*◌, ◌/◌, length, take, drop, sym, arith}
 use Rattle.base_store.specs.Index.{covered}
 use Rattle.base_folder_store.proofs.Causes.{done_both, on_ok_from}
 use Rattle.station_bases.proofs.EntryMore.{piece_behind, piece_long}

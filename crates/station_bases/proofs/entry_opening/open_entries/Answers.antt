@@ -1,9 +1,7 @@
-use Rattle.std.proofs.Common.{◌≡◌, ◌≤◌, ℕ, List, true, length, drop, min, Option, Ok, sym, ap, subst, ◌∙◌, arith}
+use Rattle.std.proofs.Common.{◌≡◌, ◌≤◌, ℕ, List, true, length, drop, Option, sym, subst, ◌∙◌, arith}
 use Rattle.std.specs.Prelude.{IsSome}
-use Rattle.base_file.specs.BaseFile.{LoadOf}
 use Rattle.base_file.specs.Pieces.{BeginsWith}
 use Rattle.disk_io.specs.Disk.{bytes_in}
-use Rattle.station_bases.specs.Entries.{HoldEntries}
 use Rattle.station_bases.specs.EntryOpening.{AreJudged}
 use Rattle.station_bases.proofs.EntryJudged.{judged_holds, judged_none, piece_front}
 use Rattle.station_bases.proofs.Reach.{same_file}

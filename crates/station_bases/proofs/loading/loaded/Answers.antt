@@ -1,4 +1,4 @@
-use Rattle.std.proofs.Common.{List, ℕ, Ok, rules, subst, sym}
+use Rattle.std.proofs.Common.{Ok, rules, subst, sym}
 use Rattle.base_file.specs.BaseFile.{LoadOf}
 use Rattle.echo_packet.specs.Header.{AreBytes}
 use Rattle.station_bases.proofs.Opened.{same_loaded}

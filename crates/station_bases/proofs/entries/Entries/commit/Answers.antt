@@ -1,10 +1,8 @@
-use Rattle.std.proofs.Common.{◌≡◌, ◌≤◌, ◌+◌, ◌-◌, ◌++◌, ℕ, List, length, take, drop, Option, refl, sym, ap, subst, ◌∙◌, arith}
+use Rattle.std.proofs.Common.{◌≡◌, ◌+◌, ◌++◌, ℕ, List, length, take, drop, Option, refl, sym, ap, subst, ◌∙◌, arith}
 use Rattle.std.specs.Prelude.{IsSome}
 use Rattle.disk_io.specs.Disk.{bytes_in}
 use Rattle.station_bases.specs.Entries.{file_bytes}
-use Rattle.station_bases.specs.declared.entries.Entries.{Entries}
 use Rattle.station_bases.proofs.EntryMore.{held_still, put_same, put_within}
-use Rattle.station_bases.proofs.entries.Entries.commit.Given as given
 use Rattle.station_bases.proofs.entries.Entries.commit.Goals as goal
 
 pub returns-clause-held : goal.returns-clause-held

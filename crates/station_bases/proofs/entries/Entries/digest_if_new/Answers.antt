@@ -1,11 +1,8 @@
-use Rattle.std.proofs.Common.{ap, sym, subst, ◌∙◌, Ok, Bool, Result}
+use Rattle.std.proofs.Common.{ap, sym, ◌∙◌}
 use Rattle.disk_io.specs.Disk.{bytes_in}
-use Rattle.base_file.specs.Base.{is_known}
-use Rattle.base_folder_store.specs.Answers.{Answers}
 use Rattle.station_bases.specs.Entries.{entry_digest}
 use Rattle.station_bases.proofs.EntryKeys.{key_told, where_told}
 use Rattle.station_bases.proofs.entries.Entries.digest_if_new.Goals as goal
-use Rattle.std.specs.Prelude.{◌≡◌}
 
 pub returns-in-Ok-false-clause-new : goal.returns-in-Ok-false-clause-new
 returns-in-Ok-false-clause-new g c honest = λ base cursor are.

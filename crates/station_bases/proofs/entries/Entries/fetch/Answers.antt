@@ -1,5 +1,4 @@
-use Rattle.std.proofs.Common.{◌≤◌, ◌/◌, List, ℕ, length, arith}
-use Rattle.std.specs.Prelude.{◌≡◌, slice_get}
+use Rattle.std.proofs.Common.{arith}
 use Rattle.disk_io.specs.Disk.{bytes_in}
 use Rattle.base_file.specs.Base.{Base}
 use Rattle.base_folder_store.specs.Answers.{IsAloneOf}

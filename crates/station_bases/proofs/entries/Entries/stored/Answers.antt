@@ -1,4 +1,4 @@
-use Rattle.std.proofs.Common.{◌≡◌, ◌≤◌, ◌-◌, ◌+◌, ◌++◌, length, take, drop, sym, ap, subst, ◌∙◌, arith, List, ℕ, length-append, length-drop}
+use Rattle.std.proofs.Common.{◌≡◌, ◌≤◌, ◌++◌, length, take, drop, sym, ap, subst, ◌∙◌, arith, List, ℕ, length-append, length-drop}
 use Rattle.std.proofs.lemmas.List.{length-take-le, take_all}
 use Rattle.disk_io.specs.Disk.{bytes_in}
 use Rattle.base_store.specs.Keys.{HasBytesOf, place_at, place_behind}

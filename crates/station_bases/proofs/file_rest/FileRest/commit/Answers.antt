@@ -1,5 +1,5 @@
 use Rattle.std.proofs.Common.{List, ℕ, sym, subst}
-use Rattle.std.specs.Prelude.{All, OnOk, ◌≢◌}
+use Rattle.std.specs.Prelude.{OnOk}
 use Rattle.disk_io.specs.Runs.{ChangesNothing}
 use Rattle.base_store.specs.Store.{Commits, HasStoreCause, MayCommit}
 use Rattle.base_store.proofs.Runs.{quiet_disk}

@@ -1,4 +1,4 @@
-use Rattle.std.proofs.Common.{◌≢◌, ◌∙◌, All, List, ℕ, subst, sym}
+use Rattle.std.proofs.Common.{◌≢◌, All, List, ℕ, subst, sym}
 use Rattle.station.specs.Links.{AreLinks}
 use Rattle.station.specs.Opening.{IsOpened}
 use Rattle.station_bases.specs.InFile.{IsHeld, IsWithinReach, file_state}
