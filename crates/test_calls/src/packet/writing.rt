@@ -67,6 +67,13 @@ fn failing_writers_are_reported(rt: HostRuntime) -> Result<(), Fail> {
     Ok(())
 }
 
+// The header, written to the device as the begin of a packet.
+fn begin<W: Sink + Drop>(device: W) -> Result<(), PacketFault> {
+    let header = read_header(&mut &FIRST[..])?;
+    PacketWriter::begin(device, &header)?;
+    Ok(())
+}
+
 // The answers of the device to the header, to the message written twice, and to the end.
 fn put_twice<W: Sink + Drop>(
     device: W,
@@ -76,8 +83,17 @@ fn put_twice<W: Sink + Drop>(
     let mut packet = PacketWriter::begin(device, &header)?;
     let first = packet.put(message).err();
     let second = packet.put(message).err();
-    let end = packet.finish().err();
-    Ok([first, second, end.map(|left| left.fault)])
+    Ok([first, second, finish(packet).err()])
+}
+
+fn write_empty<W: Sink + Drop>(device: W) -> Result<(), PacketFault> {
+    let header = read_header(&mut &FIRST[..])?;
+    finish(PacketWriter::begin(device, &header)?)
+}
+
+fn finish<W: Sink + Drop>(packet: PacketWriter<W>) -> Result<(), PacketFault> {
+    packet.finish()?;
+    Ok(())
 }
 
 // A device fails in each second write and takes all bytes in the others. It gets nothing between a failed write
@@ -85,25 +101,20 @@ fn put_twice<W: Sink + Drop>(
 #[test]
 fn sends_nothing_after_a_fault(rt: HostRuntime) -> Result<(), Fail> {
     let message = first_message(rt.alloc())?;
-    let header = read_header(&mut &FIRST[..])?;
     let mut out = [0xffu8; SIZE];
     let mut device = Watched::new(Trial::new(&mut out[..], SIZE, 16, 1000));
     // The write of the header is the first, and fails.
-    let begun = PacketWriter::begin(&mut device, &header).err();
-    let fault = begun.map(|left| left.fault);
-    assert_eq!(rt; fault, Some(PacketFault::Write { bytes: 0 }));
+    assert_eq!(rt; begin(&mut device), Err(PacketFault::Write { bytes: 0 }));
     // Here it is the second, and the first of the message fails.
     let [first, second, end] = put_twice(&mut device, &message)?;
     assert_eq!(rt; first, Some(PacketFault::Write { bytes: 58 }));
     assert_eq!(rt; second, Some(PacketFault::Stopped));
     assert_eq!(rt; end, Some(PacketFault::Stopped));
     // The header after that one, and its terminator; that write fails.
-    let ended = match PacketWriter::begin(&mut device, &header) {
-        Ok(packet) => packet.finish().err(),
-        Err(left) => Some(left),
-    };
-    let fault = ended.map(|left| left.fault);
-    assert_eq!(rt; fault, Some(PacketFault::Write { bytes: 58 }));
+    assert_eq!(rt;
+        write_empty(&mut device),
+        Err(PacketFault::Write { bytes: 58 })
+    );
     assert_eq!(rt; device.failures(), 3);
     // The header is there twice, and nothing was written after it.
     assert_eq!(rt; out.get(..58), FIRST.get(..58));
