@@ -103,10 +103,10 @@ def by_chance(count, folder):
     chance = random.Random("damaged")
     station = filled_station(os.path.join(folder, "damaged"))
     keys = keys_in(converted(station))
-    names = sorted(os.listdir(os.path.join(station, "base")))
     for _ in range(count):
+        # The copy lacks the note of the folder of packets.
         place = copy_of(station, os.path.join(folder, "place"))
-        name = chance.choice(names)
+        name = chance.choice(sorted(os.listdir(os.path.join(place, "base"))))
         path = os.path.join(place, "base", name)
         content = bytearray(content_of(path))
         at = chance.randrange(len(content) + 1)
