@@ -32,7 +32,7 @@ fn offset_at<'a>(rt: &HostRuntime, at: Timestamp) -> Result<Offset, Fault<'a>> {
     }
 }
 
-// The offset where no time zone could be read: that of UTC, unless there is one.
+// The offset if no time zone could be read: that of UTC if none is set, else a fault.
 fn offset_unread<'a>(rt: &HostRuntime, error: &Error) -> Result<Offset, Fault<'a>> {
     if is_none_set(rt, error) {
         Ok(Offset::UTC)

@@ -14,7 +14,7 @@ use std::io::{ErrorKind, IsTerminal};
 use std::os::unix::fs::MetadataExt;
 use std::{fs, io};
 
-/// How often a file is locked that lost its path before, until that is a fault.
+/// After so many locked files that had lost their path the file cannot be used.
 const MOST_TRIES: u32 = 1_000;
 
 /// The lock of a link file. It is held until this value is dropped.
@@ -142,7 +142,7 @@ fn locked_at(rt: &HostRuntime, path: &str) -> io::Result<File> {
     Err(ErrorKind::Other.into())
 }
 
-// Locks an open file. Answers whether it still has the path.
+// Locks an open file. Returns whether it still has the path.
 fn lock_at_path(rt: &HostRuntime, file: &File, path: &str) -> io::Result<bool> {
     lock_file(rt, file, path)?;
     has_path(rt, file, path)

@@ -29,9 +29,9 @@ pub enum Reason<'a> {
     Word(WrongWord<'a>),
     /// The area of this tag is missing in the link file with this path.
     NoArea(&'a str, &'a str),
-    /// The base has no message of this number, but so many messages.
+    /// The base has no message of this number. It has so many messages.
     NoMessage(u64, u64),
-    /// No message of the base with this path, which comes second, has the area of this tag.
+    /// No message of the base has the area of this tag. The path of the base comes second.
     NoneOfArea(&'a str, &'a str),
 }
 

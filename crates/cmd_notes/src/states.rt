@@ -32,7 +32,7 @@ pub(crate) fn state_at<'a>(rt: &HostRuntime, path: &'a str, usage: Usage) -> Opt
     }
 }
 
-// The same where this error came.
+// The same after this error.
 fn missing_at<'a>(
     rt: &HostRuntime,
     error: &io::Error,
@@ -51,7 +51,7 @@ fn missing_at<'a>(
     Some(PathState { path, state })
 }
 
-// A folder that is missing, or is none.
+// The state of a folder that is missing, or of another file at its path.
 fn no_folder<'a>(rt: &HostRuntime, folder: &'a str) -> Option<PathState<'a>> {
     let state = match fs::metadata(rt, folder) {
         Ok(found) if found.is_dir() => return None,

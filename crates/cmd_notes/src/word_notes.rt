@@ -28,7 +28,7 @@ pub(crate) fn explain_word<E: Sink>(
     }
 }
 
-/// The words for the moment and for the serial.
+/// The words for the stamp and for the serial.
 pub(crate) fn explain_moment<E: Sink>(
     met: Met<'_>,
     at: &str,
@@ -110,7 +110,7 @@ fn base_of(rt: &HostRuntime, bytes: &[u8]) -> Option<Base<RandomState>> {
     Base::load(rt.alloc(), &mut &*bytes, hasher).ok()
 }
 
-/// Whether a base that can be read has no message of an area, whose tag is in letters of either case.
+/// Whether a readable base has no message of this area. The tag is in letters of either case.
 pub(crate) fn has_none_of(rt: &HostRuntime, path: &str, tag: &str) -> bool {
     matches!(none_of(rt, path, tag), Some(true))
 }

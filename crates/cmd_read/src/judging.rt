@@ -1,4 +1,4 @@
-//! The command `links`, which goes on where a file cannot be used.
+//! The command `links`, which goes on if a file cannot be used.
 
 use cmd_input::{PathNames, read_link_file};
 use cmd_show::{NamedFile, links};

@@ -1,5 +1,5 @@
-//! A JAM base under its lock: `flock` on the file of headers. A base that is not there is begun before, under the lock of
-//! its folder.
+//! A JAM base under its lock: `flock` on the file of headers. A missing base is made first, under the lock of its
+//! folder.
 
 use crate::making::{Making, make_file, remove_left};
 use crate::named::{check_file, jam_fault, open_file, open_or_make, with_end, write_at};
@@ -16,8 +16,8 @@ const HEADERS_KNOWN_BY: usize = 4;
 /// How long the fixed header is.
 const FIXED: usize = 1024;
 
-/// The headers of the JAM base with this path, open and locked. If it does not exist, it is begun, after the base with
-/// its messages is found to be readable.
+/// The headers of the JAM base with this path, open and locked. A missing one is made, if the base with the messages
+/// can be read.
 pub(crate) fn locked_headers<'a>(
     rt: &HostRuntime,
     path: &'a str,
@@ -29,13 +29,13 @@ pub(crate) fn locked_headers<'a>(
         check_base(rt, base)?;
         begin_alone(rt, path, headers.as_str(), beside.as_str())?;
     } else if is_there(rt, path, beside.as_str())? {
-        // What cannot be tidied up is no fault of the base.
+        // A staging file that cannot be removed is no fault of the base.
         let _ = begin_alone(rt, path, headers.as_str(), beside.as_str());
     }
     locked_again(rt, path)
 }
 
-/// The headers of a JAM base that is there, open and locked.
+/// The headers of an existing JAM base, open and locked.
 pub(crate) fn locked_again<'a>(rt: &HostRuntime, path: &'a str) -> Result<File, Fault<'a>> {
     let headers = open_file(rt, path, ".jhr").map_err(|error| jam_fault(&error, path))?;
     lock_file(rt, &headers, path).map_err(|_| Fault::CannotUse(path))?;
@@ -48,7 +48,7 @@ fn is_there<'a>(rt: &HostRuntime, path: &'a str, file: &str) -> Result<bool, Fau
     fs::exists(rt, file).map_err(|error| jam_fault(&error, path))
 }
 
-// Begins a JAM base where there still is none, under the lock of its folder, and removes what a stopped run left there.
+// Makes a JAM base under the lock of its folder, unless another run made it. Removes the staging file of a stopped run.
 fn begin_alone<'a>(
     rt: &HostRuntime,
     path: &'a str,
@@ -70,7 +70,7 @@ fn begin_alone<'a>(
     begun
 }
 
-// Begins a JAM base. The file of headers comes last and in one step, when the names of the others are on the disk.
+// Makes a JAM base. The file of headers comes last and in one step, when the names of the others are on the disk.
 // Readers know by it that there is a base.
 fn begin_jam<'a>(
     rt: &HostRuntime,
@@ -101,8 +101,8 @@ fn make_others<'a>(rt: &HostRuntime, path: &'a str, is_new: bool) -> Result<(), 
     flush_folder(rt, folder_of(path)).map_err(|fault| output_fault(fault, path))
 }
 
-/// The headers, of which a power cut may have left nothing behind the fixed one, or less. Then the base is begun again:
-/// its other files are made where they are not there.
+/// The headers of a base that a power cut may have cut. If they are zeros, the base is made again. If they are the
+/// fixed header alone, the missing files are made.
 pub(crate) fn begun_again<'a>(
     rt: &HostRuntime,
     path: &'a str,
@@ -122,7 +122,7 @@ pub(crate) fn begun_again<'a>(
     Ok(found)
 }
 
-// Whether the index and the texts are there.
+// Whether the index and the texts exist.
 fn has_others<'a>(rt: &HostRuntime, path: &'a str) -> Result<bool, Fault<'a>> {
     let (index, texts) = (with_end(rt, path, ".jdx")?, with_end(rt, path, ".jdt")?);
     Ok(is_there(rt, path, index.as_str())? && is_there(rt, path, texts.as_str())?)

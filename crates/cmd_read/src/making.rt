@@ -1,4 +1,4 @@
-//! New files with the mode that the umask says, and staging files of stopped runs.
+//! New files with the mode of the umask, and staging files of stopped runs.
 
 use cmd_input::folder_of;
 use disk_io::{Watched, send};
@@ -37,7 +37,7 @@ pub(crate) fn make_file(rt: &HostRuntime, making: Making<'_>) -> Result<(), Outp
     done
 }
 
-/// Removes what a stopped run left, where it is a regular file of this user. What cannot be removed stays.
+/// Removes the staging file of a stopped run, if it is a regular file of this user. One that cannot be removed stays.
 pub(crate) fn remove_left(rt: &HostRuntime, beside: &str) {
     if let Ok(true) = is_own(rt, beside) {
         let _ = fs::remove_file(rt, beside);

@@ -1,4 +1,4 @@
-//! Files of a JAM base, by the path of the base. No symbolic link in the place of one is followed.
+//! Files of a JAM base, by the path of the base. A symbolic link at such a path is not followed.
 
 use cmd_input::input_fault;
 use cmd_status::Fault;
@@ -24,13 +24,13 @@ pub(crate) fn with_end(rt: &HostRuntime, path: &str, end: &str) -> Result<String
     Ok(whole)
 }
 
-/// Opens one of the files to read and to write, which has to be there.
+/// Opens one of the files, which has to exist, to read and to write.
 pub(crate) fn open_file(rt: &HostRuntime, path: &str, end: &str) -> io::Result<File> {
     let path = with_end(rt, path, end)?;
     open_named(rt, path.as_str())
 }
 
-/// The same, but makes it without bytes where it is not there, with the mode that the umask says.
+/// The same, but makes a missing file, without bytes and with the mode of the umask.
 pub(crate) fn open_or_make(rt: &HostRuntime, path: &str, end: &str) -> io::Result<File> {
     let path = with_end(rt, path, end)?;
     let new = OpenOptions::new()
@@ -56,7 +56,7 @@ fn open_named(rt: &HostRuntime, path: &str) -> io::Result<File> {
     Ok(file)
 }
 
-// A fault, unless the open file still is the one that has the path.
+// A fault, unless the open file still has the path.
 fn check_named(rt: &HostRuntime, path: &str, file: &File) -> io::Result<()> {
     let (found, named) = (file.metadata()?, fs::symlink_metadata(rt, path)?);
     if found.dev() == named.dev() && found.ino() == named.ino() {

@@ -1,4 +1,4 @@
-//! The commands that judge the areas of a net, or try out what would become of it.
+//! The commands that judge the areas of a net, or show a run of it.
 
 use cmd_check::{
     Besides, assume, check, check_all, check_assuming, picture, picture_why, print_assumed, replay,

@@ -258,7 +258,7 @@ fn scan_opened<'a, D: Disk + Drop, L: FileLock, K: FileLock, W: Sink>(
     scanned.done
 }
 
-// The scan as its crate takes it.
+// The scan in the form of station_scan.
 fn wanted<'a>(
     scan: Scan<'a>,
     progress: &'a Progress<'a>,

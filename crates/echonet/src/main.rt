@@ -23,8 +23,8 @@ use disk_io::{Sink, Watched};
 use std::process::ExitCode;
 use std::{env, io};
 
-// Runs a command of a net, if the words ask for one. They are lent, so that no case has to be proved to drop what another
-// one has.
+// Runs a command of a net, if the words ask for one. The words are borrowed, so no case has to be proved to drop those
+// of another.
 fn run_of_net<W: Sink, E: Sink>(
     rt: &HostRuntime,
     words: &Words<'_>,
@@ -157,7 +157,7 @@ fn words_given(rt: &HostRuntime) -> Result<Vec<String>, Status> {
     }
 }
 
-// Runs the command that is asked for, and prints notes on its faults behind them.
+// Runs the command that is asked for, and prints notes on its faults after them.
 fn run_asked(rt: &HostRuntime, asked: &Asked<'_>) -> Status {
     let progress = Progress::new(rt);
     let noted = Noted::of(rt, asked);

@@ -47,7 +47,7 @@ fn is_stopped(ending: Ending, line: &[u8]) -> bool {
     status == Status::Device && (full || told == b"echonet: out of memory\n".as_slice())
 }
 
-// Standard output is named `-` where it fails.
+// A fault of standard output names it `-`.
 #[test]
 fn output_that_fails_is_reported(rt: HostRuntime) {
     let (mut few, mut line) = ([0u8; 10], [0u8; 64]);

@@ -3,7 +3,7 @@ ghost use Rattle.std.specs.Prelude.{◌≡◌, ◌↔◌, IsTrue};
 use echo_filed::{Key, by_id};
 use std::alloc::{AllocError, Global};
 
-// Keys compare equal just where they are the same.
+// Two keys compare equal exactly if they are the same.
 fn same(a: &Key, b: &Key) -> bool
     ensures { IsTrue result ↔ (a.now ≡ b.now) }
 {

@@ -1,4 +1,4 @@
-//! Tests of the disks, and of what writes files on them. It promises nothing to other crates.
+//! Tests of the disks, and of calls that write files on them. It promises nothing to other crates.
 //!
 //! On a disk in memory a command crashes before each of its calls, with a base folder and with a base file. Writes that
 //! were not synced are torn in several ways. On a file system that fails at each call, files are read and made whole.

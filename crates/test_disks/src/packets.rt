@@ -13,10 +13,10 @@ use std::test::Fail;
 /// The bytes of the packet.
 const WHOLE: &[u8] = b"a packet of some bytes";
 
-/// What is left of them.
+/// The bytes that are left of it.
 const FRONT: &[u8] = b"a packet";
 
-/// Calls before which it is cut: more than are made.
+/// The number of calls before which it is cut: more than are made.
 const CALLS: u64 = 16;
 
 /// A packet of this name.

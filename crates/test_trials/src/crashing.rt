@@ -198,7 +198,7 @@ impl Found {
     }
 }
 
-// Counts a crash, where it left what it may leave.
+// Counts a crash, if it left a state that is allowed.
 fn judge(expected: &Expected, found: &Found, counts: &mut Counts) -> Result<()> {
     let before = found.is(&expected.before, &expected.next_before);
     let after = found.is(&expected.after, &expected.next_after);

@@ -89,7 +89,7 @@ pub(crate) fn run_after_crash(
     Ok(ran)
 }
 
-/// Crashes, and answers the disk and the base file of what the folder has then.
+/// Crashes, and returns the disk, and the messages of its folder as a base file.
 pub(crate) fn file_after_crash(alloc: Global, disk: MemoryDisk) -> Result<(MemoryDisk, Vec<u8>)> {
     let mut disk = disk;
     disk.crash(u64::MAX)?;

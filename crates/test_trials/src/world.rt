@@ -34,7 +34,7 @@ fn base_of(alloc: Global, world: &World, system: usize) -> Result<Vec<u8>> {
     Ok(writer.into_inner())
 }
 
-/// Writes the bytes to a file of the folder, where there is one, and answers how many they are.
+/// Writes the bytes to a file of the folder, if there is one, and returns their number.
 fn put(rt: &HostRuntime, folder: Option<&String>, name: &String, bytes: &[u8]) -> Result<u64> {
     if let Some(folder) = folder {
         let path = format!(in rt.alloc(); "{folder}/{name}")?;
@@ -43,7 +43,7 @@ fn put(rt: &HostRuntime, folder: Option<&String>, name: &String, bytes: &[u8]) -
     Ok(bytes.len() as u64)
 }
 
-/// Writes the base files, and answers their bytes.
+/// Writes the base files, and returns the number of their bytes.
 fn put_bases(rt: &HostRuntime, folder: Option<&String>, world: &World) -> Result<u64> {
     let mut all = 0u64;
     for system in 0..world.systems() {
@@ -54,7 +54,7 @@ fn put_bases(rt: &HostRuntime, folder: Option<&String>, world: &World) -> Result
     Ok(all)
 }
 
-/// Writes the packets, and answers their bytes.
+/// Writes the packets, and returns the number of their bytes.
 fn put_packets(rt: &HostRuntime, folder: Option<&String>, world: &World) -> Result<u64> {
     let mut all = 0u64;
     for packet in 0..world.packets() {
