@@ -34,8 +34,8 @@ struct Given {
     mail: Vec<u8>,
 }
 
-/// `post --mail`: the charset, the serial and the stamp are judged first, then that the files can be read, then the
-/// mail, and what the files hold last.
+/// `post --mail`: the charset, the serial and the stamp are judged first, then whether the files can be read, then the
+/// mail. The contents of the files come last.
 pub fn run_post_mail<W: Sink, E: Sink>(
     rt: &HostRuntime,
     words: &PostMailWords<'_>,
@@ -155,7 +155,7 @@ fn post_given<W: Sink, E: Sink>(
     }
 }
 
-// The charset of the posting. Where no message is answered, that of the answered message is CP437.
+// The charset of the posting. If that of the answered message is asked for and there is none, it is CP437.
 fn charset_of(given: &Given, found: Option<&Answered>) -> Option<Charset> {
     match (given.charset, found) {
         (Some(charset), _) => Some(charset),

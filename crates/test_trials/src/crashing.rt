@@ -22,8 +22,8 @@ const WAYS: u64 = 15;
 /// on the disk then.
 const FOURTH: u64 = 4;
 
-/// The number of crashes, and how many of them left the base before the command, the one after it, or, if the command
-/// changes nothing, the one base.
+/// The number of crashes. `before` of them left the base before the command, `after` the one after it. `alike` were
+/// those of commands that change nothing.
 #[derive(Clone, Copy)]
 pub(crate) struct Counts {
     pub(crate) crashes: u64,
