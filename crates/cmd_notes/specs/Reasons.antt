@@ -119,7 +119,7 @@ form_complaint form.Limit = codes "bad number '"
 form_complaint form.NodeAddress = codes "bad address '"
 
 abbrev pub form_expectation : WordForm → List ℕ
-form_expectation form.Stamp = codes "', expected YYYY-MM-DDThh:mm:ss or now"
+form_expectation form.Stamp = codes "', expected YYYY-MM-DDThh:mm:ss, now or local"
 form_expectation form.Serial = codes "', expected eight hexadecimal digits or auto"
 form_expectation form.Number = codes "', expected decimal digits"
 form_expectation form.Limit = codes "', expected a number up to 16777216"

@@ -321,7 +321,7 @@ fn form_expectation(form: WordForm) -> &'static [u8]
     ensures { result.now ≡ form_expectation form }
 {
     match form {
-        WordForm::Stamp => b"', expected YYYY-MM-DDThh:mm:ss or now",
+        WordForm::Stamp => b"', expected YYYY-MM-DDThh:mm:ss, now or local",
         WordForm::Serial => b"', expected eight hexadecimal digits or auto",
         WordForm::Number => b"', expected decimal digits",
         WordForm::Limit => b"', expected a number up to 16777216",
