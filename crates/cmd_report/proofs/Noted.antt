@@ -1,5 +1,5 @@
 -- Notes on messages that are tossed one after another.
-use Rattle.std.proofs.Common.{◌≡◌, ◌≢◌, ℕ, ◌+◌, List, [], ◌∷◌, ◌++◌, length, refl, sym, ap, ◌∙◌, subst, arith, append_assoc, append-nil, length-append, Option, None}
+use Rattle.std.proofs.Common.{◌≡◌, ℕ, ◌+◌, List, [], ◌∷◌, ◌++◌, length, refl, sym, ap, ◌∙◌, subst, arith, append_assoc, append-nil, length-append, Option}
 use Rattle.std.specs.Prelude.{option_to_list}
 use Rattle.std.proofs.KnownBytes.{Consumes-nil, Consumes-trans}
 use Rattle.echo_addr.specs.declared.address.Address.{Address}
@@ -13,11 +13,9 @@ use Rattle.echo_filed.specs.Filed.{Filed as FiledMessage}
 use Rattle.echo_filed.specs.Written.{echo_of}
 use Rattle.echo_filed.proofs.Texts.{says_accepted, says_one}
 use Rattle.model_steps.specs.declared.outcome.Outcome.{Outcome}
-use Rattle.model_steps.specs.declared.outcome.Outcome.TheVariants.{BadTag, Filed, Known, NoArea, NotEcho, NotLinked}
 use Rattle.model_steps.specs.SystemState.{SystemState}
-use Rattle.model_steps.specs.Tossing.{toss_outcome, tossed, tossing, where_filed}
+use Rattle.model_steps.specs.Tossing.{toss_outcome, tossed, tossing}
 use Rattle.echo_toss.specs.declared.tally.Tally.{Tally}
-use Rattle.echo_toss.specs.declared.fault.TossCause.TheVariants as stop
 use Rattle.echo_toss.specs.Messages.{HasTaken, IsOpened, TossesToEnd}
 use Rattle.echo_toss.specs.PacketSteps.{HasTossed, TossesAll}
 use Rattle.echo_toss.specs.Tallies.{tally_of}
@@ -81,15 +79,6 @@ one_more_noted limits sender old mid before left ms m given at tally answer text
     ∙ ap (λ p. text ++ (before_it ++ last (1 + length ms) p answer)) h.place
     ∙ ap (λ o. text ++ (before_it ++ last (1 + length ms) here o)) outcome
     ∙ ap (λ l. text ++ l) (sym (notes_of-push old.file old.base sender 1 58 ms m))
-
--- a message that is not filed leaves the state
-pub not_filed : (answer : Outcome) (m : FiledMessage) → answer ≢ Filed → where_filed answer m ≡ None
-not_filed Filed m other = absurd (other refl)
-not_filed NotEcho m other = refl
-not_filed BadTag m other = refl
-not_filed NoArea m other = refl
-not_filed NotLinked m other = refl
-not_filed Known m other = refl
 
 -- the notes on a packet's messages
 pub noted_some : (limits : Limits) (sender : Address) (old new : SystemState) (before mid : Option (List ℕ)) (tally : Tally) (text noted : List ℕ)

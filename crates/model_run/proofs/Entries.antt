@@ -55,10 +55,6 @@ target-to file m a h other unseen =
           | inl t ↦ absurd (other (ap (λ (x : Address). Some x) (sym ((same_address_decides a b).0 t))))
         ]
 
--- the copy lists what the message lists, the own net and node, and those of the links
-pub entries : (file : LinkFile) (e : EchoText) → List NetNode
-entries file e = e.seen ++ map net_node_of (file.system ∷ links_of file e.tag)
-
 pub listed-from : (file : LinkFile) (e : EchoText) (n : NetNode) → Among n (exported file e).seen →
     Among n e.seen ⊎ ((n ≡ net_node_of file.system) ⊎ ((z : Address) × Among z (links_of file e.tag) × (n ≡ net_node_of z)))
 unfolding exported

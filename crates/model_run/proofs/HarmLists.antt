@@ -59,6 +59,3 @@ none_passes {X} p (y ∷ xs) h x i =
           omega (arith, first)) in
           elim i [ inl e ↦ ap p e ∙ f | inr t ↦ none_passes p xs (subst P there h) x t ])
     ]
-
-same_list : {X : Type 0} (x : X) (xs ys : List X) → xs ≡ ys → Among x xs → Among x ys
-same_list {X} x xs ys e h = let P : List X → Type 0 = λ zs. Among x zs in subst P e h
