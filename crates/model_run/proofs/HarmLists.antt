@@ -5,7 +5,8 @@ use Rattle.std.specs.List.{position_or_len}
 use Rattle.std.proofs.lemmas.Bool.{cond-true, cond-false}
 use Rattle.model_graph.specs.Walk.{Among}
 use Rattle.model_run.specs.Run.{nth, change}
-use Rattle.model_run.proofs.Lists.{none_some, some_same, yes_or_no}
+use Rattle.model_run.proofs.Lists.{yes_or_no}
+use Rattle.model_run.proofs.Targets.{some_same, none_some}
 
 -- an item stands at each index below the length, and at no other
 pub nth-below : {X : Type 0} (i : ℕ) (xs : List X) → i < length xs → (x : X) × (nth i xs ≡ Some x)

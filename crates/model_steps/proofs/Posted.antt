@@ -1,5 +1,5 @@
 -- What a posting files.
-use Rattle.std.proofs.Common.{◌≡◌, ℕ, ◌==◌, ◌||◌, Bool, true, false, cond, not, List, [], ◌∷◌, ◌++◌, length, codes, refl, sym, ap, subst, ◌∙◌, Option, Some, None, is_none, arith, inl, inr}
+use Rattle.std.proofs.Common.{◌≡◌, ℕ, ◌==◌, ◌||◌, true, false, cond, not, List, [], ◌∷◌, ◌++◌, length, codes, refl, sym, ap, subst, ◌∙◌, Option, Some, None, is_none, arith, inl, inr}
 use Rattle.std.specs.Prelude.{bytes_eq, find, is_some}
 use Rattle.std.specs.List.{AllByRecursion, AllPass, list_any}
 use Rattle.std.specs.Cmp.Lexicographic.{bytes_decides}
@@ -23,10 +23,7 @@ use Rattle.echo_filed.proofs.Choices.{all_weaker}
 use Rattle.echo_filed.proofs.Keys.{msgid_first}
 use Rattle.model_steps.proofs.OwnIds.{own_id_is_id, plain_id}
 use Rattle.echo_filed.proofs.Plain.{IsLineByte, Plain, all_append, plain_if, plain_line}
-
-passed : {F : Type 0} (b : Bool) (f : F) (rest : Option F) → cond b (Some f) rest ≡ None → (b ≡ false) × (rest ≡ None)
-passed true f rest h = absurd (cc)
-passed false f rest h = (refl, h)
+use Rattle.echo_links.proofs.LinkFiles.{passed}
 
 pub allowed : (file : LinkFile) (base : List Filed) (tag : List ℕ) (draft : Draft) (serial : ℕ) (stamp : Stamp)
     → post_refusal file base tag draft serial stamp ≡ None → IsAllowed file base tag draft serial stamp

@@ -199,7 +199,7 @@ held_loads file bytes e base is was =
     (saved_loads base.messages base.cursor [] was.files.holds was.countable)
 
 -- the bytes of a base file behind its head
-head_long : (cursor number : ℕ) → length (head_bytes Second cursor number) ≡ 16
+pub head_long : (cursor number : ℕ) → length (head_bytes Second cursor number) ≡ 16
 unfolding head_bytes
 head_long cursor number = refl
 
