@@ -113,10 +113,6 @@ looked_up (e ∷ entries) key h =
     some_if (derived key e.0) e.1 (lookup (derived key) entries)
     ∙ (λ i. (turned key e.0 ∙ ap (λ k. same_key k key) same.0) i || looked_up entries key same.1 i)
 
-none_from : {X : Type 0} (o : Option X) → is_some o ≡ false → o ≡ None
-none_from None h = refl
-none_from (Some x) h = absurd (true≢false h)
-
 pub any_map : {X Y : Type 0} (f : X → Y) (p : Y → Bool) (xs : List X) → list_any p (map f xs) ≡ list_any (λ x. p (f x)) xs
 any_map f p [] = refl
 any_map f p (x ∷ xs) = ap (λ b. p (f x) || b) (any_map f p xs)

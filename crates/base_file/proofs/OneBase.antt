@@ -11,7 +11,7 @@ use Rattle.base_file.proofs.Loading.{only_outcome}
 two_loads : (bytes : List ℕ) → AreBytes bytes → (a b : Result Loaded BaseFault) → LoadOf bytes a → LoadOf bytes b → a ≡ b
 two_loads bytes are a b h g = only_outcome bytes are a h ∙ sym (only_outcome bytes are b g)
 
-same_ok : (x y : Loaded) (a b : Result Loaded BaseFault) → a ≡ Ok x → b ≡ Ok y → a ≡ b → x ≡ y
+pub same_ok : (x y : Loaded) (a b : Result Loaded BaseFault) → a ≡ Ok x → b ≡ Ok y → a ≡ b → x ≡ y
 same_ok x y a b h g e = cc
 
 pub only_base : (base other : List Filed) (cursor at : ℕ) (bytes : List ℕ) → AreBytes bytes → BaseOf base cursor bytes → BaseOf other at bytes
@@ -31,7 +31,7 @@ pub only_length : (base other : List Filed) (cursor at n m : ℕ) (bytes : List 
 only_length base other cursor at n m bytes are room room' h g =
     ap (λ (x : Loaded). x.2) (same_ok (base, cursor, n) (other, at, m) _ _ refl refl (two_loads bytes are (Ok (base, cursor, n)) (Ok (other, at, m)) (room, h) (room', g)))
 
-ok_no_err : (x : Loaded) (f : BaseFault) → Ok x ≡ Err f → ⊥
+pub ok_no_err : (x : Loaded) (f : BaseFault) → Ok x ≡ Err f → ⊥
 ok_no_err x f h = cc
 
 pub no_other_fault : (base : List Filed) (cursor n : ℕ) (bytes : List ℕ) (refused : BaseFault) → AreBytes bytes → n ≤ length bytes

@@ -38,7 +38,7 @@ purged_keys (suc n) (m ∷ base) =
     let more = purged_keys n base in
     λ i. one i ∷ more i
 
-known_by_keys : (base : List Filed) (key : Key) → is_known base key ≡ list_any (λ k. same_key k key) (map key_of base)
+pub known_by_keys : (base : List Filed) (key : Key) → is_known base key ≡ list_any (λ k. same_key k key) (map key_of base)
 known_by_keys [] key = refl
 known_by_keys (m ∷ base) key = ap (λ b. same_key (key_of m) key || b) (known_by_keys base key)
 

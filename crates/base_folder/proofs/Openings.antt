@@ -28,12 +28,10 @@ use Rattle.base_folder_store.specs.declared.folder.Folder.{Folder}
 use Rattle.base_folder_store.proofs.Claimed.{claimed_holds, claimed_open}
 use Rattle.base_folder_store.proofs.Bases.{opened_run}
 use Rattle.base_folder_store.proofs.Waits.{written_held}
-use Rattle.base_folder.specs.Ours.{IsLeftAlone, IsMarkOfOther, IsOfOther, SameKey, number_of}
+use Rattle.base_folder.specs.Ours.{IsMarkOfOther, IsOfOther, SameKey, number_of}
 use Rattle.base_folder.specs.Unopened.{HaveRoom, OpensOnly}
 use Rattle.base_folder.specs.Wrong.{IsToldBy}
 use Rattle.base_folder.proofs.Wrongs.{one_end}
-use Rattle.base_folder.specs.declared.open_error.OpenError.{OpenError}
-use Rattle.base_folder.specs.declared.open_error.OpenError.TheVariants as unread
 
 -- what a crash leaves after the looks
 pub looked_run : (keyed : ℕ → ℕ → List ℕ → ℕ) (path : List ℕ) (d e : DiskState) (base : Base) → ChangesNothing d e → LeavesOnly d e (StandsForBaseOrWasLeft keyed path d base)
@@ -123,14 +121,6 @@ opening_run keyed path d e f log base stands quiet is read run =
     let since : StandsForBase keyed path base e.seen = record { bytes = stands.bytes; stands = stands_quiet d e path stands.bytes quiet stands.stands; holds = stands.holds } in
     opened_run_since keyed path d e f base quiet
     (opened_run keyed path e f base since (subst (λ (b : BaseBytes). LeavesOnly e f (StandsOrWasLeft path e b)) (base_is path stands.bytes d e log quiet is read stands.stands) run))
-
--- looks change nothing, whatever they find
-pub left_alone : (d e : DiskState) (why : OpenError) → ChangesNothing d e → IsLeftAlone d e why
-left_alone d e (unread.Wrong fault) quiet = quiet
-left_alone d e (unread.NotOwner address) quiet = quiet
-left_alone d e unread.Memory quiet = tt
-left_alone d e unread.Device quiet = tt
-left_alone d e unread.Raced quiet = tt
 
 pub claimed_named : (f g : Folder) → g ≡ with_mark f g.told.mark → IsNamed f → IsNamed g
 claimed_named f g only named = subst (λ (x : Folder). IsNamed x) (sym only) named

@@ -1,5 +1,5 @@
 -- What is known of the base for which the files of a folder stand.
-use Rattle.std.proofs.Common.{◌≡◌, ℕ, ◌≤◌, List, length, sym, ◌∙◌, ap, subst, arith, inl, inr, ⊎_elim}
+use Rattle.std.proofs.Common.{◌≡◌, ℕ, List, length, sym, ◌∙◌, ap, subst, arith, inl, inr, ⊎_elim}
 use Rattle.disk_io.specs.Disk.{DiskState}
 use Rattle.disk_io.specs.Runs.{ChangesNothing, LeavesOnly}
 use Rattle.disk_io.proofs.Moments.{weaker_run}
@@ -24,9 +24,6 @@ use Rattle.base_folder_store.proofs.Waits.{written_held}
 -- each message has its entry, and the cursor is within them
 pub told_where : (keyed : ℕ → ℕ → List ℕ → ℕ) (bytes : BaseBytes) (base : Base) → HoldsBase keyed bytes base → StandWhereTold base.messages bytes.messages bytes.keys
 told_where keyed bytes base holds = stand_where_told (digest_by keyed bytes.mark) base.messages base.cursor bytes.messages bytes.keys holds.files
-
-pub cursor_within : (keyed : ℕ → ℕ → List ℕ → ℕ) (bytes : BaseBytes) (base : Base) → HoldsBase keyed bytes base → bytes.cursor ≤ length base.messages
-cursor_within keyed bytes base holds = let within = holds.files.holds.within in omega (arith, holds.cursor)
 
 -- a crash at any moment of opening
 pub opened_run : (keyed : ℕ → ℕ → List ℕ → ℕ) (path : List ℕ) (d e : DiskState) (base : Base) (stands : StandsForBase keyed path base d.seen)

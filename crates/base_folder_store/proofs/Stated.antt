@@ -18,6 +18,7 @@ use Rattle.base_folder_store.specs.Opened.{IsNamed, IsOpen, and_waiting, committ
 use Rattle.base_folder_store.specs.State.{IsUsable, state_of}
 use Rattle.base_folder_store.specs.declared.folder.Folder.{Folder}
 use Rattle.base_folder_store.proofs.Bases.{open_quiet}
+use Rattle.base_store.proofs.Causes.{same_error}
 
 -- a look at the disk is one at the store
 pub looks : (d e : DiskState) (keyed : ℕ → ℕ → List ℕ → ℕ) (f : Folder) (h k : Option Base) → IsUsable d f → ChangesNothing d e → LooksOn (state_of d keyed f h) (state_of e keyed f k)
@@ -117,10 +118,6 @@ read_cause s t P before now r cause answers = record {
 pub answered : {T : Type 0} (P : T → Type 0) (r : Result T StoreError) → Answers P r → IfOk r P
 answered P (Ok value) was = was
 answered P (Err e) was = tt
-
--- one answer has one error
-same_error : {T : Type 0} (r : Result T StoreError) (e f : StoreError) → r ≡ Err e → r ≡ Err f → e ≡ f
-same_error r e f one other = cc
 
 -- why a read failed whose error was handed on
 pub handed_cause : {T U : Type 0} (s t : StoreState) (P : Base → T → Type 0) (before now : ℕ) (e : StoreError) → HasReadCause {T = T} before now (Err e)

@@ -1,5 +1,5 @@
 -- A message as the only one of a base file.
-use Rattle.std.proofs.Common.{◌≡◌, ◌≢◌, ℕ, ◌-◌, ◌^◌, ◌<◌, ◌≤◌, Bool, true, false, List, [], ◌∷◌, ◌++◌, length, get_or, refl, sym, ap, subst, ◌∙◌, Result, Ok, Err, if◌then◌else◌, arith, lit<, lit≤, ⊎_elim}
+use Rattle.std.proofs.Common.{◌≡◌, ◌≢◌, ℕ, ◌-◌, ◌^◌, ◌<◌, ◌≤◌, Bool, true, false, List, [], ◌∷◌, ◌++◌, length, get_or, refl, sym, ap, subst, ◌∙◌, Ok, Err, if◌then◌else◌, arith, lit<, lit≤, ⊎_elim}
 use Rattle.std.proofs.lemmas.List.{append-nil, take_all}
 use Rattle.disk_io.specs.Device.{Failed}
 use Rattle.echo_filed.specs.Filed.{Filed}
@@ -11,6 +11,7 @@ use Rattle.base_file.specs.Loading.{AnswersLoad, CountsLoad}
 use Rattle.base_file.specs.declared.fault.BaseFault.{BaseFault}
 use Rattle.base_file.specs.declared.fault.BaseFault.TheVariants as fault
 use Rattle.base_store.specs.Keys.{MayStandAlone, cursor_alone}
+use Rattle.base_file.proofs.OneBase.{same_ok, ok_no_err}
 
 at_most_one : (tagged : Bool) → (if tagged then 1 else 0) ≤ 1
 at_most_one true = lit≤ tt
@@ -39,16 +40,10 @@ whole_loads s size alone =
       }),
     )
 
-same_ok : (x y : Loaded) (a b : Result Loaded BaseFault) → a ≡ Ok x → b ≡ Ok y → a ≡ b → x ≡ y
-same_ok x y a b h g e = cc
-
 -- what loading answers of the bytes of a base
 pub loaded_is : (base : List Filed) (cursor count : ℕ) (found : Base) → AnswersLoad (Ok found) (Ok (base, cursor, count)) → found.messages ≡ base
 loaded_is base cursor count found answers =
     sym (ap (λ (x : Loaded). x.0) (same_ok (base, cursor, count) (found.messages, found.cursor, answers.0) _ _ refl refl answers.1))
-
-ok_no_err : (x : Loaded) (f : BaseFault) → Ok x ≡ Err f → ⊥
-ok_no_err x f h = cc
 
 never_failed : Failed 0 0 → ⊥
 never_failed failed = ⊎_elim (λ (more : 0 < 0). omega (arith, more)) (λ (at : (2 ^ 64 - 1 ≤ 0) × (0 ≡ 0)). omega (arith, at.0)) failed

@@ -21,7 +21,7 @@ base_quiet d e path told quiet = λ i. record {
 }
 
 -- the same is seen
-seen_quiet : (d e : DiskState) → ChangesNothing d e → e.seen ≡ d.seen
+pub seen_quiet : (d e : DiskState) → ChangesNothing d e → e.seen ≡ d.seen
 seen_quiet d e quiet = λ i m. quiet.seen m i
 
 -- the log is where it was

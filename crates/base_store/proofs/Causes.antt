@@ -20,7 +20,7 @@ failed_since before mid now le (inr (full, same)) = elim (eq-or-lt_of_le le) [
 ]
 
 -- one answer has one error
-same_error : {T : Type 0} (r : Result T StoreError) (e f : StoreError) → r ≡ Err e → r ≡ Err f → e ≡ f
+pub same_error : {T : Type 0} (r : Result T StoreError) (e f : StoreError) → r ≡ Err e → r ≡ Err f → e ≡ f
 same_error r e f one other = cc
 
 -- the failure of a call after others, of which the store holds a base where it held one

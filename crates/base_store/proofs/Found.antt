@@ -1,5 +1,5 @@
 -- Messages found for digests that are expected.
-use Rattle.std.proofs.Common.{◌≡◌, ◌≢◌, ℕ, Bool, true, false, ◌+◌, ◌*◌, ◌/◌, ◌<◌, ◌≤◌, ◌-◌, ◌⊎◌, inr, List, [], ◌∷◌, ◌++◌, length, take, drop, get_or, refl, sym, ap, subst, ◌∙◌, arith, ⊎_elim, append_assoc, length-append, length-drop, Option, Some, None, Result, Ok, Err, if◌then◌else◌}
+use Rattle.std.proofs.Common.{◌≡◌, ℕ, Bool, true, false, ◌+◌, ◌*◌, ◌/◌, ◌<◌, ◌≤◌, ◌-◌, ◌⊎◌, inr, List, [], ◌∷◌, ◌++◌, length, take, drop, get_or, sym, ap, subst, ◌∙◌, arith, ⊎_elim, append_assoc, length-append, length-drop, Option, Some, None, Result, Ok, Err, if◌then◌else◌}
 use Rattle.std.specs.Prelude.{Contains, IfNone, IfSome, OnOk, is_ok}
 use Rattle.std.specs.Int.{w64, from_le_bytes}
 use Rattle.std.proofs.lemmas.Bool.{cases_lt}
@@ -152,36 +152,6 @@ seen_more places digest below i last place inside at is from low was = record {
       omega (arith, number))
       (cases_lt k i);
 }
-
--- it is not
-pub seen_same : (places : List Place) (digest below i last : ℕ) (place : Place) → i < length places → place ≡ get_or places i place → (place.digest ≡ digest → last ≤ place.number → place.number < below → ⊥)
-    → IsLastSeen places digest below i last → IsLastSeen places digest below (i + 1) last
-seen_same places digest below i last place inside at other was = record {
-  within = was.within;
-  has = was.has;
-  seen = λ k d under lower same.
-      ⊎_elim (λ (h : k < i). was.seen k d h lower same)
-      (λ (h : i ≤ k).
-      let here : k ≡ i = omega (arith, h, under) in
-      let that : get_or places k d ≡ place = ap (λ (n : ℕ). get_or places n d) here ∙ get_or_default places i d place inside ∙ sym at in
-      let number = ap (λ (p : Place). p.number) that in
-      ⊎_elim (λ (less : place.number < last). omega (arith, number, less))
-      (λ (greater : last ≤ place.number). absurd (other (sym (ap (λ (p : Place). p.digest) that) ∙ same) greater (omega (arith, number, lower))))
-      (cases_lt place.number last))
-      (cases_lt k i);
-}
-
--- no message from there on that was gone over has the digest
-pub beyond : (keys : List ℕ) (expected : Expected) (digest below i last : ℕ) → length expected.places.items ≤ i → IsLastSeen expected.places.items digest below i last → AreFound keys expected
-    → is_expected expected digest ≡ true → (j : ℕ) → last ≤ j → j < below → j < expected.passed → digest_at keys j ≢ digest
-beyond keys expected digest below i last all was found is j from under passed same =
-    let places = expected.places.items in
-    let p : Place = record { number = j; digest = digest_at keys j } in
-    let at = found.each j passed (subst (λ (d : ℕ). is_expected expected d ≡ true) (sym same) is) in
-    let inside = at.1 in
-    let number : (get_or places at.0 p).number ≡ j = ap (λ (q : Place). q.number) at.2 in
-    let less = was.seen at.0 p (omega (arith, inside, all)) (omega (arith, number, under)) (ap (λ (q : Place). q.digest) at.2 ∙ same) in
-    omega (arith, number, less, from)
 
 -- of no places nothing is wrong
 pub found_none : (keys : List ℕ) (expected : Expected) → expected.passed ≡ 0 → expected.places.items ≡ [] → AreFound keys expected

@@ -69,7 +69,7 @@ looks_commit old new ready looks = record {
   same = looks.same;
 }
 
-beside_twice : (old mid new : StoreState) → IsSameStore old mid → KeepsBeside old mid → KeepsBeside mid new → KeepsBeside old new
+pub beside_twice : (old mid new : StoreState) → IsSameStore old mid → KeepsBeside old mid → KeepsBeside mid new → KeepsBeside old new
 beside_twice old mid new same first second =
     let out : (m : List ℕ) → (old.is_own m → ⊥) → mid.is_own m → ⊥ = λ m other own. other ((same.own m).0 own) in
     record {

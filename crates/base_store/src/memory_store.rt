@@ -31,13 +31,6 @@ impl<S: BuildHasher> MemoryStore<S> {
     {
         &self.base
     }
-
-    /// The base.
-    pub fn into_base(self) -> Base<S>
-        ensures { (⟦<MemoryStore<S> as Store>⟧.state self).keeps result }
-    {
-        self.base
-    }
 }
 
 impl<S: BuildHasher> Store for MemoryStore<S> {

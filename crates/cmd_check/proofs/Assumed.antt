@@ -1,7 +1,5 @@
 -- Link files of assumed systems, behind others.
 use Rattle.std.proofs.Common.{◌≡◌, ℕ, ◌+◌, ◌<◌, ◌++◌, ◌∙◌, ◌∷◌, ◌⊎◌, [], ap, append-nil, append_assoc, Bool, Err, false, get_or, inl, inr, length, List, None, Ok, Option, refl, Result, subst, sym, take, true}
-use Rattle.std.specs.Prelude.{Contains, ◌↔◌}
-use Rattle.std.specs.List.{flat_map}
 use Rattle.std.proofs.lemmas.List.{take_more}
 use Rattle.echo_addr.specs.declared.address.Address.{Address}
 use Rattle.echo_links.specs.declared.fault.LinkFault.{LinkFault}
@@ -16,8 +14,8 @@ use Rattle.cmd_status.specs.declared.status.Status.TheVariants.{Good}
 use Rattle.cmd_status.specs.Ended.{IsOutOfMemory}
 use Rattle.cmd_status.specs.Inputs.{AreLinkFiles, IsFirstFaultGiven, IsLinkFault}
 use Rattle.cmd_status.proofs.Giving.{read_more}
-use Rattle.cmd_check.specs.Assuming.{AddsAssumed, AddsEach, AreAssumed, AreEachAssumed, IsAssumed, assumed_line}
-use Rattle.cmd_check.specs.Checking.{IsChecked, RunsAreOrderly}
+use Rattle.cmd_check.specs.Assuming.{AddsAssumed, AddsEach, AreAssumed, AreEachAssumed, IsAssumed}
+use Rattle.cmd_check.specs.Checking.{RunsAreOrderly}
 use Rattle.cmd_check.specs.CheckingAssumed.{CheckAssumingAnswers, IsAssumedFault, IsCheckedAssuming, IsCheckedWith, IsPromisedAssuming, ReadsMore}
 use Rattle.cmd_check.proofs.Checks.{one_reading}
 use Rattle.model_run.specs.Tidy.{Tidy}
@@ -29,13 +27,6 @@ not_so false is h = cc
 -- what stands behind nothing
 pub behind_none : {X : Type 0} (none all more : List X) → none ≡ [] → all ≡ none ++ more → all ≡ more
 behind_none none all more nothing whole = whole ∙ ap (λ n. n ++ more) nothing
-
--- what a sorted list holds, the list holds
-pub held_again : {X : Type 0} (before after all : List X) → before ≡ all → ((x : X) → Contains after x ↔ Contains before x) → (x : X) → Contains after x ↔ Contains all x
-held_again {X} before after all is same x = (
-  λ h. subst (λ (xs : List X). Contains xs x) is ((same x).0 h),
-  λ h. (same x).1 (subst (λ (xs : List X). Contains xs x) (sym is) h),
-)
 
 module _ (files : List LinkFile) (tag : List ℕ) where
   one_more : (assumed : List Address) (texts : List (List ℕ)) (a : Address) (text : List ℕ) → AreEachAssumed files tag assumed texts → IsAssumed files tag a text

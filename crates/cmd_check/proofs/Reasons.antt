@@ -17,9 +17,9 @@ use Rattle.cmd_print.specs.Checked.{verdict_line}
 use Rattle.cmd_print.specs.Pushed.{Pushes}
 use Rattle.cmd_status.proofs.Lines.{alone}
 use Rattle.cmd_check.specs.Whys.{AreNamed, AreWhyLines, found_lines, named_in, who_line}
-use Rattle.cmd_check.proofs.Assumed.{held_again}
 use Rattle.cmd_check.proofs.Checks.{good_is_yes, of_same, yes_is_good}
 use Rattle.cmd_check.proofs.Explaining.{was_explained}
+use Rattle.echo_net.proofs.Drawings.{held_again}
 
 -- lines that were added to none
 pub were_pushed : (P : List ℕ → Type 0) (none lines : List ℕ) → none ≡ [] → Pushes P none lines → P lines

@@ -3,8 +3,7 @@ use Rattle.std.proofs.Common.{◌≡◌, ℕ, List, [], ◌++◌, length, map, s
 use Rattle.std.proofs.lemmas.List.{length-map}
 use Rattle.echo_links.specs.Links.{LinkFile}
 use Rattle.model_run.specs.Event.{RunEvent, run_event}
-use Rattle.model_run.specs.Run.{Run, System, run_of, start}
-use Rattle.model_run.proofs.WholeRuns.{along, event-files, fresh-files}
+use Rattle.model_run.specs.Run.{Run, System, run_of}
 use Rattle.model_run.specs.declared.event.Event.{Event}
 use Rattle.model_replay.specs.Script.{ScriptOf}
 use Rattle.model_replay.specs.Worlds.{IsWorldOf, WorldState}
@@ -14,11 +13,7 @@ use Rattle.cmd_status.specs.Inputs.{AreLinkFiles}
 use Rattle.cmd_check.specs.Replaying.{AreWorldLines, IsReplayed}
 use Rattle.cmd_check.specs.Replayed.{replay_lines}
 use Rattle.cmd_status.proofs.Lines.{alone}
-
--- the systems of a run are those of the files
-pub run_files : (files : List LinkFile) (events : List RunEvent) → map (λ (s : System). s.file) (run_of files events).systems ≡ files
-run_files files events =
-    along (λ run. map (λ (s : System). s.file) run.systems ≡ files) (λ run event same. event-files run event ∙ same) events (start files) (fresh-files files)
+use Rattle.model_run.proofs.HarmSteps.{run-files as run_files}
 
 pub run_length : (files : List LinkFile) (events : List RunEvent) → length (run_of files events).systems ≡ length files
 run_length files events = sym (length-map (run_of files events).systems (λ (s : System). s.file)) ∙ ap length (run_files files events)

@@ -1,5 +1,5 @@
 -- A packet that a system makes again, as an answer.
-use Rattle.std.proofs.Common.{◌≡◌, ◌⊎◌, ◌∙◌, ℕ, List, Some, Ok, Err, inl, inr, refl}
+use Rattle.std.proofs.Common.{◌≡◌, ◌∙◌, ℕ, List, Some, Ok, Err, inl, inr, refl}
 use Rattle.echo_addr.specs.declared.address.Address.{Address}
 use Rattle.echo_links.specs.Links.{LinkFile, upper}
 use Rattle.model_steps.specs.declared.fault.ScanFault.{ScanFault}
@@ -8,10 +8,8 @@ use Rattle.model_steps.specs.declared.packet.Packet.{Packet}
 use Rattle.model_steps.specs.declared.stamp.Stamp.{Stamp}
 use Rattle.model_steps.specs.Resending.{IsResent, resent_packet}
 use Rattle.model_steps.specs.SystemState.{SystemState}
-use Rattle.cmd_status.specs.declared.fault.Fault.{Fault}
 use Rattle.cmd_status.specs.declared.fault.Fault.TheVariants.{Scan}
-use Rattle.cmd_status.specs.Ended.{IsOutOfMemory}
-use Rattle.cmd_status.specs.Inputs.{IsBaseFault, IsBaseGiven}
+use Rattle.cmd_status.specs.Inputs.{IsBaseGiven}
 use Rattle.cmd_numbered.specs.Resending.{ResendAnswers}
 
 -- the packet was made
@@ -31,9 +29,3 @@ pub not_made : (file : LinkFile) (s : SystemState) (stamp : Stamp) (area tag : L
     → IsResent s stamp tag to first (Err why) → ResendAnswers file stamp area to first bytes (Err (Scan why))
 not_made file s stamp area tag to first bytes scan.BadStamp is = inr (inr (refl, is))
 not_made file s stamp area tag to first bytes scan.Memory is = inl tt
-
--- the base was not read
-pub not_read : (file : LinkFile) (stamp : Stamp) (area : List ℕ) (to : Address) (first : ℕ) (bytes : List ℕ) (fault : Fault)
-    → IsOutOfMemory fault ⊎ IsBaseFault (Some bytes) fault → ResendAnswers file stamp area to first bytes (Err fault)
-not_read file stamp area to first bytes fault (inl memory) = inl memory
-not_read file stamp area to first bytes fault (inr faulty) = inr (inl faulty)

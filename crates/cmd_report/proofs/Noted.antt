@@ -1,11 +1,10 @@
 -- Notes on messages that are tossed one after another.
-use Rattle.std.proofs.Common.{◌≡◌, ◌≢◌, ℕ, ◌+◌, List, [], ◌∷◌, ◌++◌, length, refl, sym, ap, ◌∙◌, subst, arith, append_assoc, append-nil, length-append, Option, None}
+use Rattle.std.proofs.Common.{◌≡◌, ℕ, ◌+◌, List, [], ◌∷◌, ◌++◌, length, refl, sym, ap, ◌∙◌, arith, append_assoc, append-nil, length-append, Option}
 use Rattle.std.specs.Prelude.{option_to_list}
-use Rattle.std.proofs.KnownBytes.{Consumes-nil, Consumes-trans}
+use Rattle.std.proofs.KnownBytes.{Consumes-nil}
 use Rattle.echo_addr.specs.declared.address.Address.{Address}
 use Rattle.echo_packet.specs.declared.limits.Limits.{Limits}
 use Rattle.echo_packet.specs.Fault.{place_of}
-use Rattle.echo_packet.specs.Header.{header_bytes, word}
 use Rattle.echo_packet.specs.Message.{Message, message_bytes, messages_bytes}
 use Rattle.echo_text.specs.Echo.{EchoOf, EchoText}
 use Rattle.echo_links.specs.Links.{LinkFile}
@@ -13,13 +12,10 @@ use Rattle.echo_filed.specs.Filed.{Filed as FiledMessage}
 use Rattle.echo_filed.specs.Written.{echo_of}
 use Rattle.echo_filed.proofs.Texts.{says_accepted, says_one}
 use Rattle.model_steps.specs.declared.outcome.Outcome.{Outcome}
-use Rattle.model_steps.specs.declared.outcome.Outcome.TheVariants.{BadTag, Filed, Known, NoArea, NotEcho, NotLinked}
 use Rattle.model_steps.specs.SystemState.{SystemState}
-use Rattle.model_steps.specs.Tossing.{toss_outcome, tossed, tossing, where_filed}
+use Rattle.model_steps.specs.Tossing.{toss_outcome, tossed, tossing}
 use Rattle.echo_toss.specs.declared.tally.Tally.{Tally}
-use Rattle.echo_toss.specs.declared.fault.TossCause.TheVariants as stop
-use Rattle.echo_toss.specs.Messages.{HasTaken, IsOpened, TossesToEnd}
-use Rattle.echo_toss.specs.PacketSteps.{HasTossed, TossesAll}
+use Rattle.echo_toss.specs.Messages.{HasTaken, IsOpened}
 use Rattle.echo_toss.specs.Tallies.{tally_of}
 use Rattle.echo_toss.proofs.Stops.{some_tossed}
 use Rattle.cmd_report.specs.Notes.{area_said, note_of, notes_of, said_unless, text_said}
@@ -82,15 +78,6 @@ one_more_noted limits sender old mid before left ms m given at tally answer text
     ∙ ap (λ o. text ++ (before_it ++ last (1 + length ms) here o)) outcome
     ∙ ap (λ l. text ++ l) (sym (notes_of-push old.file old.base sender 1 58 ms m))
 
--- a message that is not filed leaves the state
-pub not_filed : (answer : Outcome) (m : FiledMessage) → answer ≢ Filed → where_filed answer m ≡ None
-not_filed Filed m other = absurd (other refl)
-not_filed NotEcho m other = refl
-not_filed BadTag m other = refl
-not_filed NoArea m other = refl
-not_filed NotLinked m other = refl
-not_filed Known m other = refl
-
 -- the notes on a packet's messages
 pub noted_some : (limits : Limits) (sender : Address) (old new : SystemState) (before mid : Option (List ℕ)) (tally : Tally) (text noted : List ℕ)
     → IsOpened old.file before mid sender → NotesTaken limits sender old mid tally new text noted → NotesSome limits old before tally new text noted
@@ -98,21 +85,6 @@ noted_some limits sender old new before mid tally text noted o t = record {
   some = some_tossed limits sender old new before mid t.left t.messages t.given t.at tally o t.taken;
   notes = t.notes ∙ ap (λ s. text ++ notes_of old.file old.base s 1 58 t.messages) o.origin;
 }
-
--- a whole packet was tossed
-pub tossed_whole : (limits : Limits) (sender : Address) (old new : SystemState) (before mid after : Option (List ℕ)) (tally : Tally)
-    → IsOpened old.file before mid sender → TossesToEnd limits sender old mid after tally new → TossesAll limits old before after tally new
-tossed_whole limits sender old new before mid after tally o t =
-    let h = header_bytes o.header in
-    let ms = messages_bytes t.messages in
-    let behind = Consumes-trans mid t.left after ms (word 0) t.taken.bytes t.ends in
-    record {
-      header = o.header;
-      messages = t.messages;
-      bytes = (h ++ (ms ++ word 0), Consumes-trans before mid after h (ms ++ word 0) o.bytes behind, record { header = o.is_header; messages = t.taken.are_messages; bytes = refl });
-      for_us = o.for_us;
-      done = subst (λ s. HasTossed s t.messages old tally new) o.origin t.taken.done;
-    }
 
 -- before the first message
 pub none_noted : (limits : Limits) (sender : Address) (old : SystemState) (before : Option (List ℕ)) (tally : Tally) (text : List ℕ) (failed : ℕ) (room : Type 0)

@@ -19,7 +19,7 @@ use Rattle.base_file.specs.Base.{Base}
 use Rattle.echo_export.specs.declared.json_line.State.{State}
 use Rattle.echo_export.specs.declared.json_line.State.TheVariants.{Purged, Scanned, Waiting}
 use Rattle.echo_filed.specs.Filed.{Filed}
-use Rattle.echo_links.proofs.Found.{bytes_turned}
+use Rattle.echo_links.proofs.Found.{bytes_turned, tied, apart}
 use Rattle.cmd_print.specs.BaseListed.{is_purged, total_text}
 use Rattle.cmd_status.specs.declared.fault.Fault.{Fault}
 use Rattle.cmd_status.specs.declared.status.Status.{Status}
@@ -117,20 +117,6 @@ within_more i c Purged within = record { messages = omega (arith, within.message
 
 pub within_next : (i : ℕ) (c : AreaCounts) → AreWithin i c → AreWithin (i + 1) c
 within_next i c within = record { messages = omega (arith, within.messages); waiting = omega (arith, within.waiting); purged = omega (arith, within.purged) }
-
--- two keys that tie: the new value stands where the old one stood
-tied : {X : Type 0} (b c : Bool) (x y z : Option X) → c ≡ b → cond c x z ≡ cond b x (cond c y z)
-tied true true x y z e = refl
-tied true false x y z e = absurd (true≢false (sym e))
-tied false true x y z e = absurd (true≢false e)
-tied false false x y z e = refl
-
--- two keys of which one at most passes
-apart : {X : Type 0} (b c : Bool) (x y z : Option X) → (b ≡ true → c ≡ true → ⊥) → cond c y (cond b x z) ≡ cond b x (cond c y z)
-apart true true x y z h = absurd (h refl refl)
-apart true false x y z h = refl
-apart false true x y z h = refl
-apart false false x y z h = refl
 
 -- a value that was put in, or else what was found before
 unwrapped : (b : Bool) (v : AreaCounts) (o : Option AreaCounts) → unwrap_or (cond b (Some v) o) no_counts ≡ cond b v (unwrap_or o no_counts)

@@ -1,14 +1,9 @@
 -- Lines that were added to those kept back, which are on their way to standard output.
-use Rattle.std.proofs.Common.{◌≡◌, ℕ, ◌+◌, ◌-◌, ◌≤◌, List, [], ◌++◌, Option, Result, Ok, Err, OnErr, sym, ap, subst, ◌∙◌, append_assoc, append-nil, zero, suc, arith}
+use Rattle.std.proofs.Common.{◌≡◌, ℕ, ◌+◌, ◌-◌, ◌≤◌, List, [], ◌++◌, Option, sym, ap, subst, ◌∙◌, append_assoc, append-nil, zero, suc, arith}
 use Rattle.cmd_print.specs.Pushed.{Pushes}
 use Rattle.cmd_status.specs.Lines.{PassesOn, WritesFront}
 use Rattle.cmd_status.proofs.Lines.{alone, front_more, none_passed}
 use Rattle.cmd_show.specs.Written.{AddsLines}
-
--- what holds anyhow holds at an error
-pub at_error : {T E P : Type 0} (r : Result T E) → P → OnErr r P
-at_error (Ok x) p = tt
-at_error (Err e) p = p
 
 -- lines that were made by themselves were added
 pub added_behind : (none line more behind all : List ℕ) → none ≡ [] → more ≡ none ++ line → all ≡ behind ++ more → all ≡ behind ++ line

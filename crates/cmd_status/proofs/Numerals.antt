@@ -1,27 +1,14 @@
 -- Numbers as the command line writes them.
 use Rattle.std.proofs.Common.{◌≡◌, ◌≢◌, ◌<◌, ◌≤◌, ◌-◌, ◌^◌, ℕ, min, true, List, [], ◌∷◌, nat_lt, length, get_or, Result, Ok, Err, refl, sym, ap, subst, ◌∙◌, inl, inr, arith}
-use Rattle.std.specs.Char.{digit_value, is_ascii_digit}
-use Rattle.std.specs.List.{list_all}
+use Rattle.std.specs.Char.{is_ascii_digit}
 use Rattle.std.specs.Str.{all_ascii_digits}
 use Rattle.std.specs.Result.{result_unwrap_or}
-use Rattle.std.specs.Str.Parse.{AllDigits, ParsesUnsigned, digits_value, without_leading_plus}
+use Rattle.std.specs.Str.Parse.{ParsesUnsigned, digits_value, without_leading_plus}
 use Rattle.std.proofs.Math.Nat.{min-eq_left, min-eq_right}
-use Rattle.std.proofs.lemmas.Bool.{and_from, and_parts, cases_lt, lt-ltb, ltb-true}
-use Rattle.std.proofs.lemmas.Str.Parse.{digits_value_short, parse_gives, without_leading_plus_none}
+use Rattle.std.proofs.lemmas.Bool.{and_parts, cases_lt, ltb-true}
+use Rattle.std.proofs.lemmas.Str.Parse.{parse_gives, without_leading_plus_none}
 use Rattle.echo_addr.specs.Digits.{is_number}
 use Rattle.echo_addr.proofs.Decimals.{own}
-use Rattle.echo_text.specs.Ids.{is_hex_digit}
-use Rattle.echo_text.proofs.Ids.{hex_digit_same}
-
--- four digits write a number below ten thousand
-pub short_number : (ds : List ℕ) → is_number ds ≡ true → length ds ≤ 4 → digits_value 10 ds < 10000
-short_number ds is few = digits_value_short own ds 4 (and_parts (nat_lt 0 (length ds)) (all_ascii_digits ds) is).1 few
-
--- digits to the base 16 are such bytes
-pub all_hex : (ds : List ℕ) → AllDigits 16 ds → list_all is_hex_digit ds ≡ true
-all_hex [] each = refl
-all_hex (d ∷ ds) each =
-    and_from (is_hex_digit d) (list_all is_hex_digit ds) (sym (hex_digit_same d) ∙ lt-ltb (digit_value d) 16 each.0) (all_hex ds each.1)
 
 -- digits have no sign
 no_plus : (ds : List ℕ) → all_ascii_digits ds ≡ true → get_or ds 0 0 ≢ 43

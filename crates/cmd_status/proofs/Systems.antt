@@ -1,10 +1,6 @@
 -- The system that a link file and a base file make.
-use Rattle.std.proofs.Common.{◌≡◌, ℕ, ◌⊎◌, inl, inr, List, length, take, Option, Some, None, Result, Ok, Err, refl, sym, ap, subst, ◌∙◌, arith}
+use Rattle.std.proofs.Common.{◌≡◌, ℕ, List, length, take, Option, Some, None, Ok, refl, sym, ap, subst, ◌∙◌, arith}
 use Rattle.std.proofs.lemmas.List.{length-append, take_at}
-use Rattle.echo_links.specs.declared.fault.LinkFault.{LinkFault}
-use Rattle.echo_links.specs.declared.fault.LinkFault.TheVariants as link
-use Rattle.echo_links.specs.Links.{LinkFile}
-use Rattle.echo_links.specs.LinkLines.{LinksOf}
 use Rattle.echo_filed.specs.Filed.{Filed}
 use Rattle.base_file.specs.BaseFile.{BaseOf, LoadOf}
 use Rattle.base_file.specs.Loading.{TakesBase}
@@ -17,8 +13,3 @@ took_base bytes (Some rest) messages cursor took =
     let came = took.0 in
     let front : take (length came) bytes ≡ came = ap (take (length came)) took.1 ∙ take_at came rest (length came) refl in
     (length came, (omega (arith, ap length took.1, length-append came rest), subst (BaseOf messages cursor) (sym front) took.2))
-
--- a link file that was read has no fault
-pub links_read : (links : List ℕ) (file : LinkFile) → (let read : Result LinkFile LinkFault = Ok file in read ≡ Err link.Memory) ⊎ LinksOf links (Ok file) → LinksOf links (Ok file)
-links_read links file (inl memory) = absurd cc
-links_read links file (inr read) = read

@@ -1,5 +1,5 @@
 -- Commands on a store that holds too much.
-use Rattle.std.proofs.Common.{◌≡◌, List, ℕ, inl, inr, Option, Result, Ok, Err, ap, sym, ◌∙◌}
+use Rattle.std.proofs.Common.{List, ℕ, inl, inr, Option, Result, Ok, Err, sym, ◌∙◌}
 use Rattle.std.specs.Prelude.{IsErrOf}
 use Rattle.base_file.specs.Base.{Base}
 use Rattle.disk_io.specs.Disk.{Files, Honestly}
@@ -7,7 +7,7 @@ use Rattle.disk_io.proofs.Moments.{then_run}
 use Rattle.base_store.specs.Store.{CommitsNothing, GoesOn, IsSameStore, KeepsBeside, KeepsOrCommits, LeavesCommitted, LeavesEither, MayCommit, SameBesideStore, StoreState}
 use Rattle.base_store.specs.declared.store_error.StoreError.{StoreError}
 use Rattle.base_store.specs.declared.store_error.StoreError.TheVariants.{TooMany}
-use Rattle.base_store.proofs.Runs.{commits_none, same_twice}
+use Rattle.base_store.proofs.Runs.{commits_none, same_twice, beside_twice as kept_twice}
 use Rattle.cmd_status.specs.declared.fault.Fault.{Fault}
 use Rattle.echo_filed.specs.Filed.{Filed}
 use Rattle.echo_toss.specs.declared.step_error.PostStepError.{PostStepError}
@@ -22,7 +22,6 @@ use Rattle.echo_toss.proofs.Bounds.{full_now, handed_many, past_after}
 use Rattle.cmd_store.specs.Bounded.{IsStoppedFull, IsUncommitted}
 use Rattle.cmd_store.specs.Stops.{post_stop, store_answer}
 use Rattle.cmd_store.specs.Tossed.{ReportsIn, ReportsStop}
-use Rattle.cmd_store.proofs.Commits.{kept_twice}
 
 -- a posting that the store held too much for, as a command tells it
 pub post_many : (P : Type 0) (A B : Type 0) (why : PostStepError) → (IsErrOf (post_answer {T = A} (Err why)) TooMany → P) → IsErrOf (store_answer {A = B} (Err (post_stop why))) TooMany → P

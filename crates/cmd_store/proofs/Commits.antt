@@ -1,13 +1,13 @@
 -- What becomes of a store, and what a crash leaves of it, where a command changes it and then commits.
-use Rattle.std.proofs.Common.{◌≤◌, ℕ, List, inl, inr, ⊎_elim, Result, Ok, Err, refl, arith, ◌∙◌}
+use Rattle.std.proofs.Common.{◌≤◌, ℕ, inl, inr, ⊎_elim, Result, Ok, Err, refl, arith, ◌∙◌}
 use Rattle.std.specs.Prelude.{IfErr, OnOk}
 use Rattle.base_file.specs.Base.{Base}
 use Rattle.disk_io.specs.Disk.{Files, Honestly}
 use Rattle.disk_io.proofs.Moments.{then_nothing, then_run, weaker_run}
-use Rattle.base_store.specs.Store.{Commits, CommitsNothing, GoesOn, HasStoreCause, IsSameStore, KeepsBeside, KeepsOrCommits, LooksOn, MayCommit, LeavesCommitted, LeavesEither, StoreState}
+use Rattle.base_store.specs.Store.{Commits, CommitsNothing, GoesOn, HasStoreCause, KeepsOrCommits, LooksOn, MayCommit, LeavesCommitted, LeavesEither, StoreState}
 use Rattle.base_store.specs.declared.store_error.StoreError.{StoreError}
 use Rattle.base_store.proofs.Causes.{cause_after, no_cause}
-use Rattle.base_store.proofs.Runs.{commits_none, goes_on_twice, looks_commit, looks_go_on, same_twice}
+use Rattle.base_store.proofs.Runs.{commits_none, goes_on_twice, looks_commit, looks_go_on, same_twice, beside_twice as kept_twice}
 use Rattle.echo_toss.specs.declared.step_error.PostStepError.{PostStepError}
 use Rattle.echo_toss.specs.declared.step_error.PostStepError.TheVariants as post
 use Rattle.echo_toss.specs.Stores.{LooksWhereRefused}
@@ -15,18 +15,6 @@ use Rattle.cmd_store.specs.declared.command_error.CommandError.{CommandError}
 use Rattle.cmd_store.specs.declared.command_error.CommandError.TheVariants.{Met, Store}
 use Rattle.cmd_store.specs.Stops.{IsOfStore, post_stop}
 use Rattle.cmd_store.specs.Answered.{CommitsNoneWhereMet, GoesOnFromEither, HasCommitted, LooksWhereMet, MayCommitWhereMet, MayMake, StandsForMade}
-
--- what stands beside the store through both
-pub kept_twice : (old mid new : StoreState) → IsSameStore old mid → KeepsBeside old mid → KeepsBeside mid new → KeepsBeside old new
-kept_twice old mid new same first second =
-    let out : (m : List ℕ) → (old.is_own m → ⊥) → mid.is_own m → ⊥ = λ m other own. other ((same.own m).0 own) in
-    record {
-      seen = λ m other. second.seen m (out m other) ∙ first.seen m other;
-      named = λ m other is. second.named m (out m other) (first.named m other is);
-      flushed = λ m other is. second.flushed m (out m other) (first.flushed m other is);
-      alone = λ m other is. second.alone m (out m other) (first.alone m other is);
-      honest = λ is. first.honest (second.honest is);
-    }
 
 -- where nothing was committed, a commit did not come about
 pub none_may : (old new : StoreState) → CommitsNothing old new → MayCommit old new

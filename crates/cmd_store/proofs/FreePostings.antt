@@ -88,11 +88,6 @@ refused_on file new words draft serial base (post.Refused why) is unless =
     ]
 refused_on file new words draft serial base (post.Store cause) is unless = tt
 
--- a refusal after looks has changed nothing
-pub looks_where : (old mid new : StoreState) (why : PostStepError) → LooksOn old mid → LooksWhereRefused mid new why → LooksWhereRefused old new why
-looks_where old mid new (post.Refused why) looks more = looks_twice old mid new looks more
-looks_where old mid new (post.Store cause) looks more = tt
-
 -- what refused a serial that is known has changed nothing
 pub looks_known : (mid new : StoreState) (why : PostStepError) → why ≡ post.Refused fault.KnownSerial → LooksWhereRefused mid new why → LooksOn mid new
 looks_known mid new (post.Refused why) known looks = looks

@@ -11,11 +11,10 @@ use Rattle.cmd_status.proofs.Lines.{alone}
 use Rattle.cmd_status.specs.Devices.{Output}
 use Rattle.model_steps.specs.Purging.{changed}
 use Rattle.base_store.specs.Store.{KeepsOrCommits, MayCommit, LeavesEither, StoreState, purged}
-use Rattle.base_store.proofs.Runs.{same_twice}
+use Rattle.base_store.proofs.Runs.{same_twice, beside_twice as kept_twice}
 use Rattle.cmd_store.specs.declared.command_error.CommandError.{CommandError}
 use Rattle.cmd_store.specs.Answered.{MayMake, PrintsAll, RefusesNone, StandsForMade}
 use Rattle.cmd_store.specs.Purged.{HoldsOrPurges, IsPurgedAt, PurgesOn}
-use Rattle.cmd_store.proofs.Commits.{kept_twice}
 use Rattle.cmd_store.proofs.Printed.{answered}
 
 -- what may be committed by a purge is what was held before

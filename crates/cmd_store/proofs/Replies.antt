@@ -13,12 +13,11 @@ use Rattle.echo_links.specs.Links.{LinkFile}
 use Rattle.cmd_status.specs.Devices.{Output}
 use Rattle.model_steps.specs.SystemState.{SystemState}
 use Rattle.base_store.specs.Store.{LooksOn, LeavesCommitted, StoreState}
-use Rattle.base_store.proofs.Runs.{goes_on_twice, looks_commit, looks_go_on, looks_then_commits, same_twice}
+use Rattle.base_store.proofs.Runs.{goes_on_twice, looks_commit, looks_go_on, looks_then_commits, same_twice, beside_twice as kept_twice}
 use Rattle.cmd_store.specs.declared.command_error.CommandError.{CommandError}
 use Rattle.cmd_store.specs.declared.command_error.CommandError.TheVariants.{Met, Store}
 use Rattle.cmd_store.specs.Answered.{CommitsNoneWhereMet, MayMake, StandsForMade}
 use Rattle.cmd_store.specs.Replied.{FindsOn, PostsAs, Replies, RepliesOn}
-use Rattle.cmd_store.proofs.Commits.{kept_twice}
 
 -- the message whose words were found
 pub found_message : (o : Option Filed) (found : ReplyFields) → FindsOn o (Ok found) → (m : Filed) × (o ≡ Some m) × IsFound m found

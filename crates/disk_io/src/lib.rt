@@ -36,7 +36,7 @@ pub use folder::{folder_of, sync_folder_of};
 pub use part::read_part;
 pub use sink::{Sink, send};
 pub use source::{Source, fill, fill_from};
-pub use synced::{cut_synced, write_synced};
+pub use synced::write_synced;
 pub use trial::Trial;
 pub use watched::Watched;
 pub use whole::read_file;

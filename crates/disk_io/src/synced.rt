@@ -1,7 +1,7 @@
 //! Changes of one file, each followed by a sync.
-ghost use Rattle.std.specs.Prelude.{◌≡◌, ◌≤◌, length, take, OnOk};
+ghost use Rattle.std.specs.Prelude.{◌≤◌, length, OnOk};
 ghost use Rattle.disk_io.specs.Disk.{Honestly, bytes_in};
-ghost use Rattle.disk_io.specs.Steps.{IsWrittenAt, TornWrite, TornCut, ChangesFile};
+ghost use Rattle.disk_io.specs.Steps.{IsWrittenAt, TornWrite, ChangesFile};
 ghost use Rattle.disk_io.specs.Runs.{OneStepOn, LeavesOnly, HasCause};
 ghost use Rattle.disk_io.specs.Synced.{IsOnDisk, KeepsOthers};
 
@@ -26,21 +26,5 @@ pub fn write_synced<D: Disk>(
     ensures cause { HasCause (D.failures disk.old) (D.failures disk.new) result }
 {
     disk.write_at(path, at, bytes)?;
-    disk.sync(path)
-}
-
-/// Cuts a file to a length. At `Ok` it is on the disk.
-pub fn cut_synced<D: Disk>(disk: &mut D, path: &[u8], len: usize) -> Result<(), DiskError>
-    requires on_disk { Honestly (D.state disk.old) (IsOnDisk (D.state disk.old) path.now) }
-    requires within { Honestly (D.state disk.old) (len ≤ length (bytes_in ((D.state disk.old).seen path.now))) }
-    ensures short { OnOk result (bytes_in ((D.state disk.new).seen path.now)
-        ≡ take len (bytes_in ((D.state disk.old).seen path.now))) }
-    ensures durable { Honestly (D.state disk.new) (OnOk result (IsOnDisk (D.state disk.new) path.now)) }
-    ensures others { KeepsOthers (D.state disk.old) (D.state disk.new) path.now }
-    ensures any_moment { LeavesOnly (D.state disk.old) (D.state disk.new)
-        (OneStepOn (ChangesFile (D.state disk.old) path.now (TornCut len)) (D.state disk.old)) }
-    ensures cause { HasCause (D.failures disk.old) (D.failures disk.new) result }
-{
-    disk.cut(path, len)?;
     disk.sync(path)
 }

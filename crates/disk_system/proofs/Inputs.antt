@@ -1,22 +1,9 @@
 -- What was read of an input.
-use Rattle.std.proofs.Common.{◌≡◌, ℕ, ◌+◌, ◌-◌, ◌<◌, ◌≤◌, List, ◌++◌, length, take, drop, replicate, take_all, Option, None, Some, IfSome, sym, ap, subst, ◌∙◌, arith, length-append, length-drop}
+use Rattle.std.proofs.Common.{◌≡◌, ℕ, ◌+◌, ◌-◌, ◌≤◌, List, ◌++◌, length, take, drop, replicate, take_all, Option, ap, ◌∙◌, arith, length-append, length-drop}
 use Rattle.std.proofs.lemmas.List.{length-replicate, length-take}
 use Rattle.std.proofs.Math.Seq.{take-add, take-append_seam}
 use Rattle.disk_io.specs.Device.{FillsTo}
-use Rattle.std.specs.Io.KnownBytes.{Consumes}
-use Rattle.std.proofs.KnownBytes.{Consumes-trans}
 use Rattle.disk_system.specs.Input.{ReadsOn}
-
--- one piece more was read
-pub more_read : (a b c : Option (List ℕ)) (old new : List ℕ) (n piece : ℕ) → Consumes a b old → ReadsOn b c old new n piece → Consumes a c new
-more_read a b c old new n piece before more =
-    subst (Consumes a c) (sym more.whole) (Consumes-trans a b c old more.came before more.took)
-
--- more was read than is allowed
-pub over : (a b : Option (List ℕ)) (got : List ℕ) (most : ℕ) → Consumes a b got → most < length got → IfSome a (λ bytes. most < length bytes)
-over None b got most took above = tt
-over (Some x) None got most took above = absurd took
-over (Some x) (Some y) got most took above = omega (arith, ap length took, length-append got y)
 
 -- a piece of zeros behind the bytes
 pub made_room : (size count : ℕ) (old new : List ℕ) → count ≡ length old → size ≡ count + 65536 → new ≡ take size old ++ replicate (size - count) 0

@@ -1,6 +1,6 @@
 -- A disk after a call, and all files that a crash may then leave by that call.
 use Rattle.std.specs.Prelude.{◌≡◌, ◌≢◌, ◌≤◌, ◌⊎◌, ℕ, suc, cond, List, bytes_eq, Option, None}
-use Rattle.std.proofs.Common.{inl, inr, ◌∙◌, sym, refl, ap, subst}
+use Rattle.std.proofs.Common.{inl, inr, ◌∙◌, sym, ap, subst}
 use Rattle.std.proofs.Math.Nat.{lt_irrefl}
 use Rattle.std.proofs.lemmas.Bool.{false_from_ne_true}
 use Rattle.std.proofs.lemmas.Slice.Eq.{bytes_eq-Decides}
@@ -15,9 +15,6 @@ with_file path file files m = cond (bytes_eq m path) file (files m)
 pub beside_file : (path : List ℕ) (file : Option (List ℕ)) (files : Files) (m : List ℕ) → m ≢ path → with_file path file files m ≡ files m
 beside_file path file files m other =
     ap (λ b. cond b file (files m)) (false_from_ne_true (bytes_eq m path) (λ same. other ((bytes_eq-Decides m path).0 same)))
-
-pub at_file : (path : List ℕ) (file : Option (List ℕ)) (files : Files) → with_file path file files path ≡ file
-at_file path file files = ap (λ b. cond b file (files path)) ((bytes_eq-Decides path path).1 refl)
 
 pub was_or_is : (old : DiskState) (leaves : Files → Type 0) (c : Files) → leaves c ⊎ ((suc old.moment ≤ old.moment) × old.left_since (suc old.moment) c) → leaves c
 was_or_is old leaves c (inl now) = now

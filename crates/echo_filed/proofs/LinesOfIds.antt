@@ -5,11 +5,10 @@ use Rattle.std.specs.Cmp.Lexicographic.{pointwise}
 use Rattle.std.proofs.lemmas.Bool.{and_right, ne_eqb}
 use Rattle.std.proofs.lemmas.List.{append-nil}
 use Rattle.std.proofs.lemmas.List.Elements.{All-weaker}
-use Rattle.echo_addr.proofs.Pieces.{some_pieces}
 use Rattle.echo_text.specs.Lines.{is_return, lines, msgid_word}
 use Rattle.echo_text.specs.Echo.{IsLine, ended}
 use Rattle.echo_text.proofs.EndedLines.{PutTogether, whole_text}
-use Rattle.echo_text.proofs.TextLines.{IsPiece, no_lines}
+use Rattle.echo_text.proofs.TextLines.{IsPiece, no_lines, some_lines}
 use Rattle.echo_filed.specs.Filed.{id_line}
 
 -- a line has no 0D
@@ -26,10 +25,6 @@ id_text none word text id n w t line =
 -- no line, and more than one
 pub none_alone : (text line : List ℕ) (kept : List (List ℕ)) → lines text ≡ kept → length text ≡ 0 → pointwise bytes_eq kept (line ∷ []) ≡ false
 none_alone text line kept is none = ap (λ ls. pointwise bytes_eq ls (line ∷ [])) (sym is ∙ no_lines text none)
-
-some_lines : (text : List ℕ) → 0 < length text → 0 < length (lines text)
-unfolding lines
-some_lines text some = some_pieces is_return text some
 
 more_lines : (first line : List ℕ) (ls : List (List ℕ)) → 0 < length ls → pointwise bytes_eq (first ∷ ls) (line ∷ []) ≡ false
 more_lines first line [] some = absurd (omega arith)

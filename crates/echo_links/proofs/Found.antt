@@ -64,14 +64,14 @@ number_is [] tag (Some i) is = absurd (omega (arith, is.0))
 number_is (area ∷ areas) tag (Some i) is = sym (ap is_some (is.1 ∙ slice_get-get_or (area ∷ areas) i area is.0))
 
 -- two keys that tie: the new value stands where the old one stood
-tied : {X : Type 0} (b c : Bool) (x y z : Option X) → c ≡ b → cond c x z ≡ cond b x (cond c y z)
+pub tied : {X : Type 0} (b c : Bool) (x y z : Option X) → c ≡ b → cond c x z ≡ cond b x (cond c y z)
 tied true true x y z e = refl
 tied true false x y z e = absurd (true≢false (sym e))
 tied false true x y z e = absurd (true≢false e)
 tied false false x y z e = refl
 
 -- two keys of which one at most passes
-apart : {X : Type 0} (b c : Bool) (x y z : Option X) → (b ≡ true → c ≡ true → ⊥) → cond c y (cond b x z) ≡ cond b x (cond c y z)
+pub apart : {X : Type 0} (b c : Bool) (x y z : Option X) → (b ≡ true → c ≡ true → ⊥) → cond c y (cond b x z) ≡ cond b x (cond c y z)
 apart true true x y z h = absurd (h refl refl)
 apart true false x y z h = refl
 apart false true x y z h = refl

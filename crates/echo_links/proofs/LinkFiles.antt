@@ -39,7 +39,7 @@ one_address (word ∷ []) h = address_read word h
 one_address (word ∷ (next ∷ more)) h = absurd (true≢false (sym h))
 
 -- a chain of refusals of which none applies
-passed : {F : Type 0} (b : Bool) (f : F) (rest : Option F) → cond b (Some f) rest ≡ None → (b ≡ false) × (rest ≡ None)
+pub passed : {F : Type 0} (b : Bool) (f : F) (rest : Option F) → cond b (Some f) rest ≡ None → (b ≡ false) × (rest ≡ None)
 passed true f rest h = absurd (cc)
 passed false f rest h = (refl, h)
 

@@ -12,7 +12,6 @@ use Rattle.echo_links.specs.declared.link_file.reading.Reading.{Reading}
 use Rattle.echo_links.specs.Links.{Area}
 use Rattle.echo_links.specs.LinkLines.{area_in, file_fault, file_lines, file_of, first_fault, is_area_line, is_name_line, is_skipped, is_system_line, line_fault, name_in, no_address, system_in, tag_in}
 use Rattle.echo_links.specs.LinkReading.{Adds, Holds, Knows, areas_of, is_area_known, kept, name_of, system_of}
-use Rattle.echo_links.proofs.Found.{bytes_turned}
 use Rattle.echo_links.proofs.LinkBytes.{no_lines_left, skipped_word}
 use Rattle.echo_links.proofs.LinkTaking.{areas_one, name_one, or_none, system_one}
 
@@ -110,33 +109,6 @@ module _ (line : List ℕ) where
         ]
   ]
 
-has_tag_append : (all more : List Area) (tag : List ℕ) → is_area_known (all ++ more) tag ≡ (is_area_known all tag || is_area_known more tag)
-has_tag_append [] more tag = refl
-has_tag_append (area ∷ all) more tag = elim (cases_Bool (bytes_eq area.tag tag)) [
-  | inl is ↦
-      ap is_some (cond-true (bytes_eq area.tag tag) (Some area) (find (λ (a : Area). bytes_eq a.tag tag) (all ++ more)) is)
-      ∙ sym (ap (λ o. is_some o || is_area_known more tag) (cond-true (bytes_eq area.tag tag) (Some area) (find (λ (a : Area). bytes_eq a.tag tag) all) is))
-  | inr isnt ↦
-      ap is_some (cond-false (bytes_eq area.tag tag) (Some area) (find (λ (a : Area). bytes_eq a.tag tag) (all ++ more)) isnt)
-      ∙ has_tag_append all more tag
-      ∙ sym (ap (λ o. is_some o || is_area_known more tag) (cond-false (bytes_eq area.tag tag) (Some area) (find (λ (a : Area). bytes_eq a.tag tag) all) isnt))
-]
-
-one_tag : (area : Area) (tag : List ℕ) → is_area_known (area ∷ []) tag ≡ bytes_eq tag area.tag
-one_tag area tag = elim (cases_Bool (bytes_eq area.tag tag)) [
-  | inl is ↦ ap is_some (cond-true (bytes_eq area.tag tag) (Some area) None is) ∙ sym (bytes_turned tag area.tag ∙ is)
-  | inr isnt ↦ ap is_some (cond-false (bytes_eq area.tag tag) (Some area) None isnt) ∙ sym (bytes_turned tag area.tag ∙ isnt)
-]
-
-or_turned : (x y : Bool) → (x || y) ≡ (y || x)
-or_turned true true = refl
-or_turned true false = refl
-or_turned false true = refl
-or_turned false false = refl
-
-no_begun : Knows [] (record { system = None; name = None; areas = [] })
-no_begun = record { system = refl; name = refl; areas = λ tag. refl }
-
 knows_more : (earlier : List (List ℕ)) (line : List ℕ) (old new : Reading) → Knows earlier old → Adds (line ∷ []) old new → Knows (line ∷ earlier) new
 knows_more earlier line old new knows adds = record {
   system = ap (λ t. is_system_line line || t) knows.system ∙ ap (λ t. t || is_some old.system) (sym (says_system line))
@@ -173,16 +145,6 @@ pub record LinesRead (bytes : List ℕ) (number : ℕ) (rest : List ℕ) (r : Re
   pub system : system_of (file_lines bytes) ≡ option_or r.system (system_of (file_lines rest))
   pub name : name_of (file_lines bytes) ≡ option_or r.name (name_of (file_lines rest))
   pub areas : areas_of (file_lines bytes) ≡ r.areas ++ areas_of (file_lines rest)
-
-pub lines_begun : (bytes : List ℕ) → LinesRead bytes 0 bytes (record { system = None; name = None; areas = [] })
-lines_begun bytes = record {
-  earlier = [];
-  knows = no_begun;
-  faults = refl;
-  system = refl;
-  name = refl;
-  areas = refl;
-}
 
 module _ (bytes : List ℕ) (number : ℕ) (rest line after : List ℕ) (old : Reading) (h : LinesRead bytes number rest old)
     (next : file_lines rest ≡ line ∷ file_lines after) where

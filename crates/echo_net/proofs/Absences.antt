@@ -1,5 +1,5 @@
 -- What a nodelist says of one carrier after another.
-use Rattle.std.proofs.Common.{◌≡◌, ◌<◌, ◌+◌, ◌↔◌, ◌≢◌, ℕ, true, List, [], ◌∷◌, ◌++◌, length, get_or, Option, Some, None, refl, sym, subst, ap, ◌∙◌, arith, inl, inr}
+use Rattle.std.proofs.Common.{◌≡◌, ◌<◌, ◌+◌, ◌↔◌, ℕ, true, List, [], ◌∷◌, ◌++◌, length, get_or, Option, Some, None, sym, subst, ap, ◌∙◌, arith, inl, inr}
 use Rattle.std.specs.Prelude.{AllPairs, Contains}
 use Rattle.std.specs.List.Sorted.{IsStrictlySortedBy}
 use Rattle.std.specs.Ordering.{is_lt}
@@ -10,10 +10,8 @@ use Rattle.std.proofs.lemmas.List.Quantifiers.{all_pairs_push}
 use Rattle.echo_addr.specs.declared.address.Address.{Address}
 use Rattle.echo_filed.specs.Sets.{address_before}
 use Rattle.echo_nodelist.specs.declared.line.Line.{Line}
-use Rattle.echo_nodelist.specs.Back.{IsFirstAt, address_at}
 use Rattle.echo_net.specs.declared.presence.Absence.{Absence}
-use Rattle.echo_net.specs.declared.presence.Absence.TheVariants.{Missing, Down}
-use Rattle.echo_net.specs.Absent.{IsAbsent, IsReasonOfAbsence, absent_as, is_down_line}
+use Rattle.echo_net.specs.Absent.{IsAbsent, IsReasonOfAbsence, absent_as}
 use Rattle.model_graph.specs.Walk.{IsAt}
 use Rattle.echo_net.proofs.Ascending.{at_place, earlier_less}
 use Rattle.echo_net.proofs.Orders.{address_order, address_total, before_is}
@@ -74,17 +72,3 @@ all_listed lines carriers IsCarrier members all are a why = (
   λ h. (let (k, lt, at, absent) = (are.members a why).0 h in ((members a).0 (k, at.0, at.1), absent)),
   λ (carrier, absent). (let (k, inside, is) = (members a).1 carrier in (are.members a why).1 (k, inside, (inside, is), absent)),
 )
-
-pub is_missing : (lines : List Line) (a : Address) → ((i : ℕ) → address_at lines i ≢ Some a) → IsReasonOfAbsence lines a (Some Missing)
-is_missing lines a none = (none, only)
-  where
-    only : (other : Absence) → IsAbsent lines a other → other ≡ Missing
-    only Missing h = refl
-    only Down h = absurd (none h.0 h.1.here)
-
-pub is_down : (lines : List Line) (a : Address) (i : ℕ) → IsFirstAt lines a i → ((d : Line) → is_down_line (get_or lines i d) ≡ true) → IsReasonOfAbsence lines a (Some Down)
-is_down lines a i first down = ((i, first, down), only)
-  where
-    only : (other : Absence) → IsAbsent lines a other → other ≡ Down
-    only Missing h = absurd (h i first.here)
-    only Down h = refl

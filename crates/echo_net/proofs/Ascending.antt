@@ -69,9 +69,6 @@ module _ {X : Type 0} {R : X → X → Ordering} (o : IsTotalOrder R) (xs : List
         ]
       ]
 
-pub place_of : {X : Type 0} (xs : List X) (x : X) → Contains xs x → (i : ℕ) × IsAt xs i x
-place_of xs x h = (h.0, (h.1, h.2))
-
 pub at_place : {X : Type 0} (xs : List X) (i : ℕ) (d : X) → i < length xs → IsAt xs i (get_or xs i d)
 at_place xs i d inside = (inside, get_or_default xs i (get_or xs i d) d inside)
 

@@ -13,10 +13,11 @@ use Rattle.model_graph.proofs.Members.{Among-append_cases, Among-append_left, Am
 use Rattle.echo_links.specs.Links.{LinkFile, area_of, has_area, is_link, links_of, same_address}
 use Rattle.echo_filed.specs.Sets.{address_before}
 use Rattle.model_run.specs.Tidy.{carries, lists}
-use Rattle.model_run.proofs.Lists.{Among-filter_from, Among-filter_to, Among-map_from, Among-map_to, any-from, any-to}
+use Rattle.model_run.proofs.Lists.{Among-filter_from, Among-filter_to, any-from, any-to}
 use Rattle.echo_net.specs.declared.link.Link.{Link}
 use Rattle.echo_net.specs.Nets.{carrier_count, carrying, link, linked_pairs, links_from_file, listed_links, systems}
 use Rattle.echo_net.proofs.Orders.{same_exact, same_itself}
+use Rattle.model_run.proofs.RulesLists.{Among-map_to, Among-map_from}
 
 pub carries_listed : (files : List LinkFile) (tag : List ℕ) (a : Address) → Contains (systems (carrying files tag)) a ↔ IsTrue (carries files tag a)
 carries_listed files tag a = (

@@ -11,7 +11,7 @@ use Rattle.echo_addr.specs.declared.address.Address.{Address}
 use Rattle.echo_links.specs.Links.{LinkFile, same_address}
 use Rattle.echo_filed.specs.Sets.{address_before}
 use Rattle.model_graph.proofs.Members.{Among-from_Contains, Contains-from_Among}
-use Rattle.model_run.proofs.Lists.{Among-map_from, Among-map_to, any-from, any-to}
+use Rattle.model_run.proofs.Lists.{any-from, any-to}
 use Rattle.model_run.specs.Tidy.{carries, lists}
 use Rattle.echo_net.specs.declared.drawing.Drawing.{Drawing}
 use Rattle.echo_net.specs.declared.drawing.Mark.TheVariants.{Plain, Named, OnLoop}
@@ -20,8 +20,9 @@ use Rattle.echo_net.specs.declared.verdict.Verdict.{Verdict}
 use Rattle.echo_net.specs.Drawn.{AreLinksInOrder, IsDrawing, IsDrawn, IsDrawnPair, back, has_address, has_link, link_drawn, link_from, loop_links, loop_named, same_link, sides_of, steps_from, system_drawn, system_from, systems_named, upward}
 use Rattle.echo_net.specs.Nets.{link}
 use Rattle.echo_net.proofs.Ascending.{at_place, earlier_less}
-use Rattle.echo_net.proofs.Numbers.{in_order_from_sorted}
-use Rattle.echo_net.proofs.Orders.{address_order, before_again, link_order, link_total, not_before_itself, pair_before_is, same_exact, same_itself, same_where_neither}
+use Rattle.echo_net.proofs.Numbers.{in_order_from_sorted, before_back as before_not_after}
+use Rattle.echo_net.proofs.Orders.{address_order, link_order, link_total, pair_before_is, same_exact, same_itself, same_where_neither}
+use Rattle.model_run.proofs.RulesLists.{Among-map_to, Among-map_from}
 
 -- the tests of members pass exactly where they are members
 address_held : (all : List Address) (a : Address) → IsTrue (has_address all a) ↔ Contains all a
@@ -106,13 +107,6 @@ links_held files tag all members l = sym (link_told all l (lists files tag l.fro
 -- which of a link's ends is the smaller one
 upward_where : (l : Link) (b : Bool) → address_before l.to l.from ≡ b → upward l ≡ (if b then back l else l)
 upward_where l b is = ap (λ (x : Bool). if x then back l else l) is
-
-before_not_after : (a b : Address) → address_before a b ≡ true → address_before b a ≡ false
-before_not_after a b h = other (address_before b a) refl
-  where
-    other : (r : Bool) → address_before b a ≡ r → address_before b a ≡ false
-    other false is = is
-    other true is = let again = before_again a b a h is in let itself = not_before_itself a a refl in absurd cc
 
 -- a link with its smaller end first is drawn
 pair_from : (files : List LinkFile) (tag : List ℕ) (m : Link) → IsTrue (lists files tag m.from m.to) → IsDrawnPair files tag (upward m)

@@ -22,10 +22,6 @@ first_here ls up Holds i l at_l holds none = record {
       ];
 }
 
-pub none_there : (ls : List Link) (Holds : Link → Type 0) → ((k : ℕ) (d : Link) → k < length ls → ¬ Holds (get_or ls k d)) →
-    (l : Link) → Contains ls l → ¬ Holds l
-none_there ls Holds none l there wrong = none there.0 l there.1 (subst Holds (sym there.2) wrong)
-
 -- one more item
 pub one_more : {X : Type 0} (ls : List X) (Holds : X → Type 0) (i : ℕ) (e : X) → i < length ls → Holds (get_or ls i e) →
     ((k : ℕ) (d : X) → k < i → Holds (get_or ls k d)) → (k : ℕ) (d : X) → k < i + 1 → Holds (get_or ls k d)

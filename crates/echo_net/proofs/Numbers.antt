@@ -18,11 +18,11 @@ use Rattle.model_graph.specs.Loops.{HasUnlinked}
 use Rattle.model_graph.specs.Renaming.{IsRenaming, KeepsOrder}
 use Rattle.model_graph.proofs.Renaming.{IsRenaming-swap, Polygons-renamed, Reaches-renamed}
 use Rattle.model_run.specs.Tidy.{Carries, lists}
-use Rattle.model_run.proofs.Lists.{any-from, any-to}
 use Rattle.echo_net.specs.Faults.{AllAreAnswered, AllAreKnown, AreInOrder, NoneListsItself, numbered}
 use Rattle.echo_net.specs.Rows.{system_at}
 use Rattle.echo_net.proofs.Ascending.{earlier_less}
 use Rattle.echo_net.proofs.Orders.{address_order, address_total, before_is, before_less, not_before_itself, same_exact, same_itself}
+use Rattle.model_run.proofs.Places.{lister-carries as lister_carries}
 
 -- only a file with the area has links in it
 link_has_area : (file : LinkFile) (tag : List ℕ) (b : Address) → is_link file tag b ≡ true → has_area file tag ≡ true
@@ -32,13 +32,6 @@ link_has_area file tag b h = found (area_of file tag) h
     found : (o : Option Area) → list_any (same_address b) (unwrap_or (option_map (λ area. area.links) o) []) ≡ true → is_some o ≡ true
     found None e = cc
     found (Some area) e = refl
-
-pub lister_carries : (files : List LinkFile) (tag : List ℕ) (a b : Address) → IsTrue (lists files tag a b) → Carries files tag a
-lister_carries files tag a b h =
-    let (file, there, both) = any-from (λ f. same_address f.system a && is_link f tag b) files h in
-    let (same, linked) = and_parts (same_address file.system a) (is_link file tag b) both in
-    any-to (λ f. same_address f.system a && has_area f tag) file files there
-    (and_from (same_address file.system a) (has_area file tag) same (link_has_area file tag b linked))
 
 pub before_back : (a b : Address) → address_before a b ≡ true → address_before b a ≡ false
 before_back a b h = before_is b a ∙ ap is_lt (address_total.antisymm b a ∙ ap ordering_reverse (before_less a b h))

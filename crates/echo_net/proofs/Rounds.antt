@@ -27,8 +27,9 @@ use Rattle.echo_net.specs.Firsts.{pair_before}
 use Rattle.echo_net.specs.Nets.{link}
 use Rattle.echo_net.specs.Rows.{system_at}
 use Rattle.echo_net.proofs.Graphs.{loop_within}
-use Rattle.echo_net.proofs.Numbers.{back, before_back, keeps, keeps_back, lister_carries, name, name_back, parts, renaming, simple, simple_numbers}
+use Rattle.echo_net.proofs.Numbers.{back, before_back, keeps, keeps_back, name, name_back, parts, renaming, simple, simple_numbers}
 use Rattle.echo_net.proofs.Orders.{not_before_itself, same_exact, same_itself}
+use Rattle.model_run.proofs.Places.{lister-carries as lister_carries}
 
 -- an item of a list that has one
 item_of : {X : Type 0} (xs : List X) (i : ℕ) → i < length xs → X

@@ -12,7 +12,6 @@ use Rattle.std.proofs.lemmas.List.Elements.{Contains-append_left, Contains-push,
 use Rattle.echo_addr.specs.declared.address.Address.{Address}
 use Rattle.echo_addr.specs.Address.{net_node_of}
 use Rattle.model_graph.proofs.Members.{Among-from_Contains, Contains-from_Among}
-use Rattle.model_run.proofs.Lists.{Among-map_from, Among-map_to}
 use Rattle.echo_net.specs.declared.link.Link.{Link}
 use Rattle.echo_net.specs.declared.same_net_node.Neighbour.{Neighbour}
 use Rattle.model_graph.specs.Walk.{IsAt}
@@ -22,6 +21,7 @@ use Rattle.echo_net.specs.Pairs.{AreAlike, IsTwin, neighbour_of}
 use Rattle.echo_net.proofs.Ascending.{at_place, earlier_from_less, earlier_less, later_not_before, not_gt, not_lt}
 use Rattle.echo_net.proofs.Neighbours.{key_between, next_alike}
 use Rattle.echo_net.proofs.Orders.{address_order, address_total, before_is, before_less, link_order, link_total, neighbour_order, neighbour_total, net_node_exact, net_node_order, net_node_total, pair_before_is}
+use Rattle.model_run.proofs.RulesLists.{Among-map_to, Among-map_from}
 
 -- which neighbouring items before a place have one key
 abbrev pub AreAlikeBefore : {X K : Type 0} → (X → K) → (X → Address) → List X → ℕ → List Link → Type 0

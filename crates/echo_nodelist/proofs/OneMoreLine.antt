@@ -1,12 +1,11 @@
 -- Reading line after line.
-use Rattle.std.proofs.Common.{◌≡◌, ℕ, ◌+◌, List, [], ◌∷◌, ◌++◌, length, reverse, sym, ap, ◌∙◌, subst, arith, inl, inr, ◌⊎◌, Result, Ok, Err}
+use Rattle.std.proofs.Common.{◌≡◌, ℕ, ◌+◌, List, [], ◌∷◌, ◌++◌, length, reverse, sym, ap, ◌∙◌, subst, arith, inl, inr, Result, Ok}
 use Rattle.std.proofs.lemmas.List.{append_assoc, append-nil, length-reverse, nil_from_length}
 use Rattle.echo_nodelist.specs.declared.line.Line.{Line}
 use Rattle.echo_nodelist.specs.declared.fault.NodeFault.{NodeFault}
-use Rattle.echo_nodelist.specs.declared.fault.NodeFault.TheVariants.{Memory}
 use Rattle.echo_nodelist.specs.Raw.{lines_of}
 use Rattle.echo_nodelist.specs.Line.{line_in}
-use Rattle.echo_nodelist.specs.Nodelist.{AreRead, FaultIn, Gives, line_outcome, placed}
+use Rattle.echo_nodelist.specs.Nodelist.{AreRead, Gives, line_outcome, placed}
 use Rattle.echo_nodelist.proofs.LookingBack.{reverse-push}
 use Rattle.echo_nodelist.proofs.Pieces.{lines_nil}
 
@@ -48,30 +47,3 @@ done_all text rest lines done none =
     sym (append-nil done.front) ∙ ap (λ ls. done.front ++ ls) (sym (ap lines_of (nil_from_length rest none) ∙ lines_nil)) ∙ done.pieces
     in
     subst (λ rs. AreRead (reverse rs) (reverse lines)) all done.read
-
-fault_here : (text rest raw after : List ℕ) (lines : List Line) (fault : NodeFault) → Done text lines rest → lines_of rest ≡ raw ∷ lines_of after
-    → line_outcome (reverse lines) raw ≡ Err fault → FaultIn (lines_of text) fault
-fault_here text rest raw after lines fault done cut faulty = record {
-  front = done.front;
-  raw = raw;
-  later = lines_of after;
-  lines = lines;
-  pieces = sym done.pieces ∙ ap (λ ls. done.front ++ ls) cut;
-  good = done.read;
-  faulty = faulty;
-}
-
--- the line by itself is faulty, or memory ran out
-pub line_fault : (text rest raw after : List ℕ) (lines : List Line) (number : ℕ) (fault : NodeFault) → Done text lines rest → lines_of rest ≡ raw ∷ lines_of after
-    → number ≡ length lines + 1 → Gives (Err fault) (line_in number raw) → FaultIn (lines_of text) fault ⊎ (fault ≡ Memory)
-line_fault text rest raw after lines number fault done cut count (inl memory) = inr cc
-line_fault text rest raw after lines number fault done cut count (inr said) =
-    inl (fault_here text rest raw after lines fault done cut (outcome_is lines raw number (Err fault) count said))
-
--- no Zone line came, or memory ran out
-pub push_fault : (text rest raw after : List ℕ) (lines : List Line) (line : Line) (number : ℕ) (fault : NodeFault) → Done text lines rest
-    → lines_of rest ≡ raw ∷ lines_of after → number ≡ length lines + 1 → Gives (Ok line) (line_in number raw)
-    → (fault ≡ Memory) ⊎ (placed number (reverse lines) (Ok line) ≡ Err fault) → FaultIn (lines_of text) fault ⊎ (fault ≡ Memory)
-push_fault text rest raw after lines line number fault done cut count said (inl memory) = inr memory
-push_fault text rest raw after lines line number fault done cut count said (inr faulty) =
-    inl (fault_here text rest raw after lines fault done cut (outcome_is lines raw number (Ok line) count (said_ok line (line_in number raw) said) ∙ faulty))

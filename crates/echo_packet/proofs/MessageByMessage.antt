@@ -20,7 +20,7 @@ messages_bytes-push [] m = append-nil (message_bytes m)
 messages_bytes-push (x ∷ ms) m =
     ap (λ t. message_bytes x ++ t) (messages_bytes-push ms m) ∙ sym (append_assoc (message_bytes x) (messages_bytes ms) (message_bytes m))
 
-all-push : (P : Message → Type 0) (ms : List Message) (m : Message) → AllByRecursion P ms → P m → AllByRecursion P (ms ++ m ∷ [])
+pub all-push : (P : Message → Type 0) (ms : List Message) (m : Message) → AllByRecursion P ms → P m → AllByRecursion P (ms ++ m ∷ [])
 all-push P [] m all last = (last, tt)
 all-push P (x ∷ ms) m all last = (all.0, all-push P ms m all.1 last)
 
@@ -34,7 +34,7 @@ run-opens limits bs h rest fits bytes = record {
   place = refl;
 }
 
-past : (k n s at : ℕ) → at ≡ place_of (58 + n) → s ≡ n + k → place_of (at + k) ≡ place_of (58 + s)
+pub past : (k n s at : ℕ) → at ≡ place_of (58 + n) → s ≡ n + k → place_of (at + k) ≡ place_of (58 + s)
 past k n s at here size = omega arith
 
 -- one more message was read

@@ -71,7 +71,7 @@ put_all-ends [] r = refl
 put_all-ends (m ∷ ms) r = ap (put m) (put_all-ends ms r)
 
 -- each message has a byte
-length-messages : (ms : List Message) → length ms ≤ length (messages_bytes ms)
+pub length-messages : (ms : List Message) → length ms ≤ length (messages_bytes ms)
 length-messages [] = omega arith
 length-messages (m ∷ ms) = let less = length-messages ms in omega (arith, length-append (message_bytes m) (messages_bytes ms))
 

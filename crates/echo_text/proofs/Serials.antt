@@ -1,17 +1,13 @@
 -- Serials as digits to the base 16.
-use Rattle.std.proofs.Common.{◌≡◌, ℕ, ◌+◌, ◌*◌, ◌/◌, ◌%◌, ◌^◌, ◌<◌, ◌≤◌, false, List, ◌∷◌, length, get_or, take, refl, sym, ap, subst, ◌∙◌, arith, lit<}
+use Rattle.std.proofs.Common.{◌≡◌, ℕ, ◌+◌, ◌*◌, ◌/◌, ◌%◌, ◌^◌, ◌<◌, ◌≤◌, List, ◌∷◌, length, get_or, take, refl, sym, ap, subst, ◌∙◌, arith, lit<}
 use Rattle.std.specs.Char.{digit_value}
-use Rattle.std.specs.List.{list_all}
 use Rattle.std.specs.Int.{to_be_bytes, w32}
 use Rattle.std.specs.Str.Parse.{AllDigits, digits_value}
 use Rattle.std.proofs.Math.Nat.{pow-le-pow_right}
-use Rattle.std.proofs.lemmas.Bool.{le-ltb}
 use Rattle.std.proofs.lemmas.Int.Digits.{digits_more, digits_value-lt, digits_value_more}
 use Rattle.std.proofs.lemmas.List.{length-take-le, take_all}
-use Rattle.std.proofs.lemmas.List.Folds.{list_all_at}
 use Rattle.hex.specs.Hex.{encode_lower, encode_with}
-use Rattle.echo_text.specs.Ids.{hex_digit, is_hex_digit, serial_text}
-use Rattle.echo_text.proofs.Ids.{hex_digit_same}
+use Rattle.echo_text.specs.Ids.{hex_digit, serial_text}
 
 -- the first i bytes are digits, and this is their value
 pub record Valued (ds : List ℕ) (i value : ℕ) : Type 0 where
@@ -34,10 +30,6 @@ valued_room ds i value within short v =
 pub valued_all : (ds : List ℕ) (i value : ℕ) → length ds ≤ i → Valued ds i value → AllDigits 16 ds × (digits_value 16 ds ≡ value)
 valued_all ds i value all v =
     let same = take_all i ds all in (subst (AllDigits 16) same v.each, ap (digits_value 16) (sym same) ∙ v.value_is)
-
-pub no_digit : (ds : List ℕ) (i : ℕ) → i < length ds → 16 ≤ digit_value (get_or ds i 0) → list_all is_hex_digit ds ≡ false
-no_digit ds i within large =
-    list_all_at is_hex_digit ds i 0 within (sym (hex_digit_same (get_or ds i 0)) ∙ le-ltb (digit_value (get_or ds i 0)) 16 large)
 
 -- the text of four bytes as the digits of their number
 both : (h l g m : ℕ) (xs ys : List ℕ) → h ≡ g → l ≡ m → xs ≡ ys → hex_digit h ∷ (hex_digit l ∷ xs) ≡ hex_digit g ∷ (hex_digit m ∷ ys)

@@ -82,7 +82,7 @@ first_and_later [] first later some f l = absurd (omega arith)
 first_and_later (line ∷ more) first later some f l = sym (ap (λ x. x ∷ later) f ∙ ap (λ ls. line ∷ ls) l)
 
 -- some bytes are at least one line
-some_lines : (text : List ℕ) → 0 < length text → 0 < length (lines text)
+pub some_lines : (text : List ℕ) → 0 < length text → 0 < length (lines text)
 unfolding lines
 some_lines text some = some_pieces is_return text some
 

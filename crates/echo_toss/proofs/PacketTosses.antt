@@ -1,6 +1,5 @@
 -- Packets are tossed message by message.
 use Rattle.std.proofs.Common.{◌≡◌, ◌≢◌, ℕ, ◌+◌, ◌<◌, List, [], ◌∷◌, ◌++◌, length, refl, sym, ap, ◌∙◌, subst, arith, length-append, Option, IfSome}
-use Rattle.std.specs.List.{AllByRecursion}
 use Rattle.std.specs.Io.KnownBytes.{Consumes}
 use Rattle.std.proofs.KnownBytes.{Consumes-trans}
 use Rattle.echo_addr.specs.declared.address.Address.{Address}
@@ -9,8 +8,7 @@ use Rattle.echo_packet.specs.declared.fault.PacketFault.{PacketFault}
 use Rattle.echo_packet.specs.declared.fault.PacketFault.TheVariants as fault
 use Rattle.echo_packet.specs.Message.{IsMessage, Message, message_bytes, messages_bytes}
 use Rattle.echo_packet.specs.Fault.{place_of}
-use Rattle.echo_packet.proofs.MessageByMessage.{messages_bytes-push}
-use Rattle.echo_filed.proofs.Plain.{all_append}
+use Rattle.echo_packet.proofs.MessageByMessage.{messages_bytes-push, all-push as all_push, past}
 use Rattle.echo_packet.specs.Next.{FailsInMessage, NextFault}
 use Rattle.echo_packet.specs.Reader.{FailsInFront, FrontFault}
 use Rattle.echo_links.specs.Links.{LinkFile}
@@ -50,9 +48,6 @@ pub all_given : (limits : Limits) (sender : Address) (old new : SystemState) (be
 all_given limits sender old new before left ms given at tally h =
     ap all_counted h.done.counts ∙ all_counted-tally_of (outcomes old.file old.base sender ms) ∙ length-outcomes old.file old.base sender ms ∙ sym h.count
 
-past : (k n s at : ℕ) → at ≡ place_of (58 + n) → s ≡ n + k → place_of (at + k) ≡ place_of (58 + s)
-past k n s at here size = omega arith
-
 -- one more message was tossed
 pub one_more_tossed : (sender : Address) (old mid new : SystemState) (ms : List Message) (m : Message) (tally more : Tally) (answer : Outcome)
     → HasTossed sender ms old tally mid → (answer ≡ toss_outcome mid.file mid.base sender m) × (new ≡ state_with mid (tossing mid.file mid.base sender m))
@@ -67,9 +62,6 @@ one_more_tossed sender old mid new ms m tally more answer h step counts =
           ∙ ap (λ o. tally_of (outcomes old.file old.base sender ms ++ o ∷ [])) did.0
           ∙ ap tally_of (sym (outcomes-push old.file old.base sender ms m));
     }
-
-all_push : (P : Message → Type 0) (ms : List Message) (m : Message) → AllByRecursion P ms → P m → AllByRecursion P (ms ++ m ∷ [])
-all_push P ms m all last = all_append P ms (m ∷ []) all (last, tt)
 
 -- one more message was taken and tossed
 pub one_more_taken : (limits : Limits) (sender : Address) (old mid new : SystemState) (before left after : Option (List ℕ)) (ms : List Message) (m : Message) (given at next : ℕ) (tally more : Tally) (answer : Outcome)

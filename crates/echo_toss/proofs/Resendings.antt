@@ -1,7 +1,7 @@
 -- What is sent again, message by message.
-use Rattle.std.proofs.Common.{◌≡◌, ℕ, zero, suc, ◌+◌, ◌<◌, ◌≤◌, List, [], ◌∷◌, ◌++◌, length, get_or, take, drop, map, refl, sym, ap, ◌∙◌, append_assoc, append-nil, length-take, arith, add-one}
-use Rattle.std.specs.Prelude.{Bool, true, false, cond, filter, min, ◌&&◌}
-use Rattle.std.proofs.lemmas.List.{drop_all, map-append}
+use Rattle.std.proofs.Common.{◌≡◌, ℕ, zero, suc, ◌+◌, ◌<◌, List, [], ◌∷◌, ◌++◌, length, get_or, take, drop, map, refl, sym, ap, ◌∙◌, append_assoc, arith, add-one}
+use Rattle.std.specs.Prelude.{Bool, true, cond, filter, min, ◌&&◌}
+use Rattle.std.proofs.lemmas.List.{map-append}
 use Rattle.std.proofs.lemmas.List.Elements.{filter-append}
 use Rattle.std.proofs.lemmas.Option.{get_or_from_slice_get, slice_get_within}
 use Rattle.echo_addr.specs.declared.address.Address.{Address}
@@ -43,19 +43,6 @@ next_resent file area to messages cursor i end old new all bound within (m, here
     ∙ (ap (λ (l : List Message). old ++ l)
     (one_more (is_resent file area to) (copy_to file to) m rest ∙ ap (λ (l : List Filed). copies_of file area to l) (sym front))
     ∙ so_far)))
-
--- all messages that were scanned were looked at
-pub all_resent : (file : LinkFile) (area : List ℕ) (to : Address) (messages : List Filed) (cursor i end : ℕ) (found all : List Message)
-    → end ≡ min cursor (length messages) → end ≤ i → found ++ copies_of file area to (drop i (take cursor messages)) ≡ all → found ≡ all
-all_resent file area to messages cursor i end found all bound past so_far =
-    let none : drop i (take cursor messages) ≡ [] = drop_all i (take cursor messages) (omega (arith, bound, past, length-take cursor messages)) in
-    sym (append-nil found) ∙ (ap (λ (l : List Filed). found ++ copies_of file area to l) (sym none) ∙ so_far)
-
--- a message of another area, or a purged one
-pub not_whole : (file : LinkFile) (area : List ℕ) (to : Address) (m : Filed) (old : List Message) → is_whole_in area m ≡ false
-    → old ≡ old ++ copies_of file area to (m ∷ [])
-not_whole file area to m old other =
-    sym (append-nil old) ∙ ap (λ (b : Bool). old ++ map (copy_to file to) (cond (b && goes_to file to m) (m ∷ []) [])) (sym other)
 
 -- another one: it is sent again where it goes to the address
 pub whole : (file : LinkFile) (area : List ℕ) (to : Address) (m : Filed) (one : Outgoing) (old new : List Message) → is_whole_in area m ≡ true

@@ -56,7 +56,7 @@ never : (f : PacketFault) → CountsCause (stop.Packet f) 0 0 → (at : ℕ) →
 never f counts at e = Failed-never (subst (λ x. CountsCause (stop.Packet x) 0 0) e counts)
 
 -- a fault of the header, or behind it
-where_failed : (limits : Limits) (old new : SystemState) (before after : Option (List ℕ)) (tally : Tally) (f : PacketFault) → TossesPart limits old before after tally (stop.Packet f) new
+pub where_failed : (limits : Limits) (old new : SystemState) (before after : Option (List ℕ)) (tally : Tally) (f : PacketFault) → TossesPart limits old before after tally (stop.Packet f) new
     → FailsInHeader old before after tally f new ⊎ TossesUpToFault limits old before after tally f new
 where_failed limits old new before after tally fault.Memory h = absurd h
 where_failed limits old new before after tally (fault.Truncated at) h = h

@@ -6,7 +6,6 @@ use Rattle.model_graph.specs.Walk.{Different}
 use Rattle.echo_links.specs.Links.{LinkFile}
 use Rattle.model_run.specs.Event.{Posting, Purging, RunEvent, Scanning}
 use Rattle.model_run.specs.Run.{Run, System, after_events, change, fresh, nth, posting_at, purging_at, scanning, scanning_at, start}
-use Rattle.model_run.proofs.LaterSystems.{after-append}
 use Rattle.model_run.proofs.Lists.{yes_or_no}
 use Rattle.model_run.proofs.WholeRuns.{fresh-empty, fresh-files}
 use Rattle.model_steps.specs.declared.stamp.Stamp.{Stamp}
@@ -23,6 +22,7 @@ use Rattle.law_stations.proofs.OfEvents.{post-agrees, purge-agrees, scan-agrees}
 use Rattle.law_stations.proofs.OfToss.{toss-agrees}
 use Rattle.law_stations.proofs.Places.{addresses-of, addresses-stay}
 use Rattle.law_stations.proofs.Unpurged.{AsFiledAt, change-as_filed, filing-as_filed}
+use Rattle.model_run.proofs.HarmSteps.{after-append}
 
 -- Where a command ends well: its events, and each system has its messages as they were filed if it had, but where it is purged.
 record Led (command : Command) (i : ℕ) (new : Net) (run : Run) : Type 0 where

@@ -13,9 +13,9 @@ use Rattle.echo_toss.specs.PacketSteps.{PacketStep}
 use Rattle.cmd_report.specs.Coming.{Coming, Fails, Holds, Unknown}
 use Rattle.cmd_report.specs.Tossed.{TossesEachBy, TossesFileBy, run_begun}
 use Rattle.cmd_report.specs.TossedPacket.{ReportsPacket, TossRun, TossesPacketBy}
-use Rattle.model_run.proofs.Lists.{none_some}
 use Rattle.law_stations.specs.Commands.{TossesAll, itself}
 use Rattle.law_stations.proofs.Readings.{TossesFront, TossesPacketThere, TossesSo, tosses-so}
+use Rattle.model_run.proofs.Targets.{none_some}
 
 -- the file was tossed whole
 abbrev pub IsWholly : Coming → SystemState → SystemState → Type 0

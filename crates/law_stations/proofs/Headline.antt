@@ -1,5 +1,5 @@
 -- Where an area was checked, a net is in order.
-use Rattle.std.proofs.Common.{◌≡◌, refl, sym, subst, ap, ◌∙◌, ℕ, ◌≤◌, List, [], ◌∷◌, ◌++◌, length, Option, Some, Ok}
+use Rattle.std.proofs.Common.{◌≡◌, refl, sym, subst, ap, ◌∙◌, ℕ, ◌≤◌, List, [], ◌∷◌, length, Option, Some, Ok}
 use Rattle.std.specs.Prelude.{Bool, IsTrue}
 use Rattle.std.proofs.lemmas.List.{append-nil}
 use Rattle.cmd_status.specs.Devices.{Output}
@@ -11,7 +11,6 @@ use Rattle.model_run.specs.Fits.{FilesFit}
 use Rattle.model_run.specs.Orderly.{FiledUnchanged, Orderly, Settled, sent_count}
 use Rattle.model_run.specs.Run.{Run, System, after_events, nth, start}
 use Rattle.model_run.specs.Tidy.{Tidy}
-use Rattle.model_run.proofs.Histories.{among-nth}
 use Rattle.cmd_status.specs.declared.fault.Fault.{Fault}
 use Rattle.cmd_status.specs.declared.status.Status.TheVariants.{Good}
 use Rattle.cmd_check.specs.Checking.{CheckAnswers, RunsAreOrderly}
@@ -25,6 +24,8 @@ use Rattle.law_stations.proofs.Pairs.{paired-back}
 use Rattle.law_stations.proofs.Readings.{one-packet}
 use Rattle.law_stations.proofs.Sound.{files-fit, is-unchanged, reads, sound, stands}
 use Rattle.law_stations.proofs.Systems.{says-so}
+use Rattle.law_stations.proofs.Moving.{nth-middle}
+use Rattle.model_run.proofs.HarmLists.{among-nth}
 
 -- and as no other
 read-once : (bytes : List ℕ) (p q : Packet) → IsPacketFile bytes p → ReadsAs bytes q → q ≡ p
@@ -42,11 +43,6 @@ all-read (bytes ∷ files) (p ∷ ps) (q ∷ qs) is other =
     let first = read-once bytes p q is.0 other.0 in
     let later = all-read files ps qs is.1 other.1 in
     λ i. first i ∷ later i
-
--- the item behind others
-nth-middle : {X : Type 0} (before : List X) (x : X) (after : List X) → nth (length before) (before ++ x ∷ after) ≡ Some x
-nth-middle [] x after = refl
-nth-middle (y ∷ before) x after = nth-middle before x after
 
 module _ (commands : List CommandEvent) (net : Net) (files : List LinkFile) (tag : List ℕ) (fit : FilesFit files) (led : LedAll commands net (start files))
     (orderly : Orderly (after_events (start files) led.events) tag) where

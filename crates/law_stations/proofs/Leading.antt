@@ -7,7 +7,6 @@ use Rattle.disk_io.specs.Runs.{LeavesOnly}
 use Rattle.echo_links.specs.Links.{LinkFile}
 use Rattle.echo_links.specs.LinkLines.{LinksOf}
 use Rattle.model_run.specs.Run.{change, nth}
-use Rattle.model_run.proofs.Lists.{some_same}
 use Rattle.cmd_status.specs.declared.fault.Fault.{Fault}
 use Rattle.cmd_status.specs.Devices.{Output}
 use Rattle.cmd_store.specs.declared.command_error.CommandError.{CommandError}
@@ -16,10 +15,11 @@ use Rattle.station.specs.Place.{KeepsElsewhere, Place, SameElsewhere, StandsOrWa
 use Rattle.station.specs.Running.{IsKept, IsRun, IsRunOn, MadeOrWasLeft, RunsIn, StandsAsBefore, StandsWhereMet}
 use Rattle.law_stations.specs.Commands.{Command}
 use Rattle.law_stations.specs.Nets.{with_base}
-use Rattle.law_stations.proofs.Pairs.{changed-there}
 use Rattle.law_stations.specs.Disks.{Disks}
 use Rattle.law_stations.specs.Stopping.{PartialEffect}
 use Rattle.law_stations.specs.OnDisks.{AreAsMay, RefinesEvent, IsAfter, IsAsBefore, IsLinkedOn, IsStationAt, LeadsFarBy, ReadsLinks, ShowsStation}
+use Rattle.model_run.proofs.HarmLists.{nth-changed as changed-there}
+use Rattle.model_run.proofs.Targets.{some_same}
 
 -- disks to which a command of this kind leads, on which the station has this base
 pub record LeadsTo (IsCommand : Command → Type 0) (i : ℕ) (d : Disks) (next : Base) : Type 0 where

@@ -12,16 +12,18 @@ use Rattle.model_steps.specs.PacketFiles.{PacketFile}
 use Rattle.model_steps.specs.Scanning.{packets_of, recipients, scanned}
 use Rattle.echo_filed.specs.Sets.{address_set}
 use Rattle.model_run.specs.Run.{change, nth}
-use Rattle.model_run.proofs.Lists.{nth-append, some_same}
+use Rattle.model_run.proofs.Lists.{nth-append}
 use Rattle.base_store.specs.Store.{all_scanned}
 use Rattle.cmd_report.specs.Scanned.{file_sent}
 use Rattle.law_stations.specs.Commands.{Scans}
 use Rattle.law_stations.specs.Nets.{Net, Paired, Station, bytes_of, with_base, with_left}
-use Rattle.law_stations.proofs.Pairs.{changed-there, paired-append}
+use Rattle.law_stations.proofs.Pairs.{paired-append}
 use Rattle.law_stations.specs.Disks.{StagingFile, Disks, HasCursor, cursor_of, cursors}
 use Rattle.law_stations.specs.Stopping.{IsOfNext, Moves, Writes, staging_of}
 use Rattle.law_stations.proofs.Counting.{IsItem, below, from, nones, waits-append, waits-from, waits-nones}
 use Rattle.law_stations.proofs.Tracking.{IsTagged, Tracks, cursor-too, has-cursor, paired-so}
+use Rattle.model_run.proofs.HarmLists.{nth-changed as changed-there}
+use Rattle.model_run.proofs.Targets.{some_same}
 
 -- files that a stopped scan wrote have no packet that waits
 unfinished-tagged : (packets : List (List ℕ)) (at : List ℕ) (i c : ℕ) (files : List StagingFile) → nth i at ≡ Some c → AllByRecursion (IsOfNext i c) files
@@ -49,7 +51,7 @@ written i d new net t w = subst (λ (x : Disks). Tracks x net) (sym w.becomes) (
   tossed = t.tossed;
 })
 
-nth-middle : {X : Type 0} (before : List X) (x : X) (after : List X) → nth (length before) (before ++ x ∷ after) ≡ Some x
+pub nth-middle : {X : Type 0} (before : List X) (x : X) (after : List X) → nth (length before) (before ++ x ∷ after) ≡ Some x
 nth-middle [] x after = refl
 nth-middle (y ∷ before) x after = nth-middle before x after
 

@@ -21,13 +21,14 @@ use Rattle.law_stations.specs.Agreement.{Agrees, AreTossesOf, HasSystem, IsPacke
 use Rattle.law_stations.specs.Commands.{IsPacketAt, Tosses, whole_of}
 use Rattle.law_stations.specs.Nets.{Net, Paired, Station, with_base, with_indexes, with_tossed}
 use Rattle.law_stations.proofs.FileRuns.{IsPartly, TossedFiles, tossed-all, wholes}
-use Rattle.law_stations.proofs.Pairs.{change-same, change-twice, changed-there, paired-nth}
+use Rattle.law_stations.proofs.Pairs.{change-same, change-twice, paired-nth}
 use Rattle.law_stations.proofs.Places.{addresses-stay, place-of}
 use Rattle.law_stations.proofs.Putting.{puts-agree}
 use Rattle.law_stations.proofs.Readings.{TossesFront, front-packet, one-packet}
 use Rattle.law_stations.proofs.Systems.{file-fits, one-file}
 use Rattle.law_stations.proofs.Tossed.{Takes, takes-front}
 use Rattle.law_stations.proofs.Unpurged.{AsFiledAt, change-as_filed, tossing-as_filed}
+use Rattle.model_run.proofs.HarmLists.{nth-changed as changed-there}
 
 -- what the base of a state is
 abbrev base_in : SystemState → Base

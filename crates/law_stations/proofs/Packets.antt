@@ -1,9 +1,8 @@
 -- The packet files of a scan are packets.
-use Rattle.std.proofs.Common.{◌≡◌, ◌≢◌, inl, inr, refl, sym, subst, ℕ, zero, suc, arith, length-append, Bool, List, [], ◌∷◌, ◌++◌, length, map, drop}
+use Rattle.std.proofs.Common.{◌≡◌, ◌≢◌, refl, subst, ℕ, arith, List, [], ◌∷◌, ◌++◌, length, map, drop}
 use Rattle.std.specs.Prelude.{filter}
 use Rattle.std.specs.List.{AllByRecursion, flat_map}
 use Rattle.std.proofs.Math.Seq.{take-append_seam}
-use Rattle.std.proofs.lemmas.Bool.{cases_Bool, cond-false, cond-true}
 use Rattle.std.proofs.lemmas.List.{drop_at}
 use Rattle.std.proofs.lemmas.List.Elements.{All-from_recursion}
 use Rattle.echo_addr.specs.declared.address.Address.{Address}
@@ -23,8 +22,8 @@ use Rattle.echo_filed.proofs.Sets.{set_all}
 use Rattle.base_file.specs.Base.{IsBase}
 use Rattle.model_steps.specs.declared.stamp.Stamp.{Stamp}
 use Rattle.model_steps.specs.Scanning.{copy_to, exported, goes_to, header_to, packet_to, packets_of, recipients, scanned, targets}
-use Rattle.model_steps.proofs.Copies.{exported_is_echo, links_are_addresses}
-use Rattle.model_steps.proofs.Encoding.{IsWhole, written_packet}
+use Rattle.model_steps.proofs.Copies.{exported_is_echo, links_are_addresses, all_filter as all-filter, all_later as all-drop}
+use Rattle.model_steps.proofs.Encoding.{IsWhole, written_packet, header_size as header-long}
 use Rattle.model_steps.specs.PacketFiles.{PacketFile}
 use Rattle.cmd_report.specs.Scanned.{file_sent}
 use Rattle.law_stations.specs.Agreement.{IsPacketFile}
@@ -36,26 +35,6 @@ bytes-front xs ys h = subst AreBytes (take-append_seam xs ys) (AreBytes-take (le
 
 bytes-behind : (xs ys : List ℕ) → AreBytes (xs ++ ys) → AreBytes ys
 bytes-behind xs ys h = subst AreBytes (drop_at xs ys (length xs) refl) (AreBytes-drop (length xs) (xs ++ ys) h)
-
--- what holds of each of a list holds of those that pass a test, and of the last and the first ones
-all-filter : {X : Type 0} (P : X → Type 0) (p : X → Bool) (xs : List X) → AllByRecursion P xs → AllByRecursion P (filter p xs)
-all-filter P p [] all = tt
-all-filter {X} P p (x ∷ xs) all =
-    let Q : List X → Type 0 = λ l. AllByRecursion P l in
-    elim (cases_Bool (p x)) [
-      | inl t ↦ subst Q (sym (cond-true (p x) (x ∷ filter p xs) (filter p xs) t)) (all.0, all-filter P p xs all.1)
-      | inr f ↦ subst Q (sym (cond-false (p x) (x ∷ filter p xs) (filter p xs) f)) (all-filter P p xs all.1)
-    ]
-
-all-drop : {X : Type 0} (P : X → Type 0) (n : ℕ) (xs : List X) → AllByRecursion P xs → AllByRecursion P (drop n xs)
-all-drop P zero xs all = all
-all-drop P (suc n) [] all = tt
-all-drop P (suc n) (x ∷ xs) all = all-drop P n xs all.1
-
--- a header of bytes
-header-long : (h : Header) → length h.password ≡ 8 → length h.fill ≡ 20 → length (header_bytes h) ≡ 58
-unfolding header_bytes
-header-long h password fill = omega (arith, length-append h.password (word h.orig_zone ++ (word h.dest_zone ++ h.fill)), password, fill)
 
 header-is : (h : Header) → AreBytes (header_bytes h) → length h.password ≡ 8 → length h.fill ≡ 20 → IsHeader h
 header-is h bytes password fill = IsHeader-from_bytes h (header_bytes h) refl bytes (header-long h password fill) password fill

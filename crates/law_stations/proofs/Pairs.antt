@@ -2,8 +2,8 @@
 use Rattle.std.proofs.Common.{◌≡◌, inl, inr, refl, sym, subst, ap, ◌∙◌, ℕ, zero, suc, List, [], ◌∷◌, ◌++◌, map, Some}
 use Rattle.model_graph.specs.Walk.{Among}
 use Rattle.model_run.specs.Run.{change, nth}
-use Rattle.model_run.proofs.Lists.{none_some, nth-changed, some_same}
 use Rattle.law_stations.specs.Nets.{Paired}
+use Rattle.model_run.proofs.Targets.{some_same, none_some}
 
 -- the other of a pair
 pub paired-nth : {X Y : Type 0} (R : X → Y → Type 0) (i : ℕ) (x : X) (xs : List X) (ys : List Y) → Paired R xs ys → nth i xs ≡ Some x
@@ -47,10 +47,6 @@ change-same {X} zero f x (z ∷ xs) h same =
     let is : x ≡ z = sym (some_same h) in
     ap (λ (y : X). y ∷ xs) (ap f (sym is) ∙ same ∙ is)
 change-same {X} (suc i) f x (z ∷ xs) h same = ap (λ (ys : List X). z ∷ ys) (change-same i f x xs h same)
-
--- what becomes of an item stands in its place
-pub changed-there : {X : Type 0} (i : ℕ) (f : X → X) (x : X) (xs : List X) → nth i xs ≡ Some x → nth i (change i f xs) ≡ Some (f x)
-changed-there i f x xs h = elim (nth-changed i i f x xs h) [ inl other ↦ absurd (other.0 refl) | inr here ↦ here.1 ]
 
 -- a change of one item keeps what is the same of its old and its new value
 pub change-map : {X Y : Type 0} (g : X → Y) (i : ℕ) (f : X → X) (x : X) (xs : List X) → nth i xs ≡ Some x → g (f x) ≡ g x → map g (change i f xs) ≡ map g xs

@@ -8,9 +8,11 @@ use Rattle.echo_links.specs.Links.{same_address}
 use Rattle.echo_links.proofs.Addresses.{same_address_decides}
 use Rattle.model_run.specs.Event.{RunEvent}
 use Rattle.model_run.specs.Run.{Run, System, after_events, nth}
-use Rattle.model_run.proofs.Lists.{Among-map_to, none_some, nth-among, some_same, yes_or_no}
+use Rattle.model_run.proofs.Lists.{nth-among, yes_or_no}
 use Rattle.model_run.proofs.WholeRuns.{along, event-files, files_of}
 use Rattle.law_stations.specs.Agreement.{file_address, own_address}
+use Rattle.model_run.proofs.RulesLists.{Among-map_to}
+use Rattle.model_run.proofs.Targets.{some_same, none_some}
 
 -- the first system of its address is the only one
 pub place-of : (i : ℕ) (s : System) (a : Address) (all : List System) → Different (map own_address all) → nth i all ≡ Some s → own_address s ≡ a

@@ -3,7 +3,6 @@ use Rattle.std.proofs.Common.{◌≡◌, ◌⊎◌, inl, inr, sym, ap, ◌∙◌
 use Rattle.std.specs.List.{AllByRecursion}
 use Rattle.echo_packet.specs.declared.header.Header.{Header}
 use Rattle.echo_packet.specs.declared.limits.Limits.{Limits}
-use Rattle.echo_packet.specs.declared.fault.PacketFault.{PacketFault}
 use Rattle.echo_packet.specs.declared.fault.PacketFault.TheVariants as fault
 use Rattle.echo_packet.specs.Header.{header_bytes, word}
 use Rattle.echo_packet.specs.Message.{AreMessages, IsMessage, Message, messages_bytes}
@@ -14,8 +13,9 @@ use Rattle.echo_toss.specs.declared.fault.TossCause.{TossCause}
 use Rattle.echo_toss.specs.declared.fault.TossCause.TheVariants as stop
 use Rattle.echo_toss.specs.declared.fault.TossFault.{TossFault}
 use Rattle.echo_toss.specs.declared.tally.Tally.{Tally}
-use Rattle.echo_toss.specs.PacketSteps.{BeginsWith, FailsInHeader, IsForUs, PacketStep, TossesAll, TossesPart, TossesSome, TossesUpToFault}
+use Rattle.echo_toss.specs.PacketSteps.{BeginsWith, IsForUs, PacketStep, TossesAll, TossesPart, TossesSome}
 use Rattle.echo_toss.proofs.Parsed.{first_messages, one_header, one_list}
+use Rattle.echo_toss.proofs.WholePackets.{where_failed as where-failed}
 
 -- limits that both are within
 abbrev both : Limits → Limits → Limits
@@ -139,21 +139,6 @@ whole limits bytes (Some left) old new tally step =
 some : (limits : Limits) (bytes : List ℕ) (old new : SystemState) (tally : Tally) → TossesSome limits old (Some bytes) tally new → TossesFront bytes old new
 some limits bytes old new tally step =
     record { limits = limits; header = step.header; messages = step.messages; begins = step.begins; for_us = step.for_us; state = step.done.state }
-
--- a fault of the header, or behind it
-where-failed : (limits : Limits) (old new : SystemState) (before after : Option (List ℕ)) (tally : Tally) (f : PacketFault) → TossesPart limits old before after tally (stop.Packet f) new
-    → FailsInHeader old before after tally f new ⊎ TossesUpToFault limits old before after tally f new
-where-failed limits old new before after tally fault.Memory h = absurd h
-where-failed limits old new before after tally (fault.Truncated at) h = h
-where-failed limits old new before after tally (fault.NotType2 at) h = h
-where-failed limits old new before after tally (fault.NotMessage at) h = h
-where-failed limits old new before after tally (fault.FieldTooLong at) h = h
-where-failed limits old new before after tally (fault.TextTooLong at) h = h
-where-failed limits old new before after tally (fault.Read at) h = h
-where-failed limits old new before after tally fault.Stopped h = h
-where-failed limits old new before after tally (fault.Write n) h = h
-where-failed limits old new before after tally (fault.TooManyMessages at) h = h
-where-failed limits old new before after tally (fault.BadField n) h = h
 
 part : (limits : Limits) (bytes : List ℕ) (rest : Option (List ℕ)) (old new : SystemState) (tally : Tally) (cause : TossCause)
     → TossesPart limits old (Some bytes) rest tally cause new → (new ≡ old) ⊎ TossesFront bytes old new

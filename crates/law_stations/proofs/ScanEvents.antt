@@ -11,7 +11,6 @@ use Rattle.echo_links.specs.LinkLines.{LinksOf}
 use Rattle.disk_atomic.specs.Finishing.{IsOfLeft}
 use Rattle.disk_atomic.specs.declared.finishing.Left.{Left}
 use Rattle.model_run.specs.Run.{nth}
-use Rattle.model_run.proofs.Lists.{none_some, some_same}
 use Rattle.disk_atomic.specs.StagingPaths.{dotted, staging_path}
 use Rattle.cmd_status.specs.declared.fault.Fault.{Fault}
 use Rattle.cmd_status.specs.Devices.{Output}
@@ -33,7 +32,6 @@ use Rattle.station_scan.specs.Stops.{IsOfPlacing, as_scan, most}
 use Rattle.station_scan.specs.declared.scan_error.ScanError.{ScanError}
 use Rattle.station_scan.specs.declared.scan_error.ScanError.TheVariants.{Command}
 use Rattle.law_stations.specs.Nets.{Station, bytes_of, with_base, with_left}
-use Rattle.law_stations.proofs.Pairs.{changed-there}
 use Rattle.law_stations.specs.Disks.{Disks, HasCursor, cursor_of}
 use Rattle.law_stations.specs.Stopping.{EndsSome, HasNoneStaged, Moves, staging_of}
 use Rattle.law_stations.proofs.Elsewhere.{some-stations}
@@ -42,6 +40,8 @@ use Rattle.law_stations.proofs.Parted.{Parted, all-named, parted}
 use Rattle.law_stations.proofs.Whole.{disks_with, with_packets}
 use Rattle.law_stations.specs.OnDisks.{IsLinkedOn, IsStationAt, ReadsLinks, ShowsStation}
 use Rattle.law_stations.specs.Scans.{AreAfterScan, IsAfterScan, IsAtPath, IsStagingPath, ScansAsEvent, ScansAsMay, with_packets_in}
+use Rattle.model_run.proofs.HarmLists.{nth-changed as changed-there}
+use Rattle.model_run.proofs.Targets.{some_same, none_some}
 
 -- what earlier scans left has none of the paths that are away from all that a scan touches
 left-away : (is_true : Type 0) (Own : List ℕ → Type 0) (outbound own : List ℕ) (found : List Left) → All (IsLeftOf is_true Own outbound own) found → (m : List ℕ) → (IsTouched Own outbound m → ⊥) → IsOfLeft found m → ⊥

@@ -9,8 +9,7 @@ use Rattle.echo_filed.specs.Filed.{Filed, key_of}
 use Rattle.model_steps.specs.declared.packet.Packet.{Packet}
 use Rattle.model_run.specs.Orderly.{copies, count, sent_count}
 use Rattle.model_run.specs.Run.{destination, nth}
-use Rattle.model_run.proofs.Histories.{among-nth}
-use Rattle.model_run.proofs.Lists.{nth-among, some_same}
+use Rattle.model_run.proofs.Lists.{nth-among}
 use Rattle.law_stations.specs.Commands.{Command, CommandEvent, Post, Purge, Scan, Toss}
 use Rattle.law_stations.specs.InOrder.{HasUnchanged, InOrder, IsSettled, IsSound, IsUnchanged, ReadsAs, StationHolds, WasPurged}
 use Rattle.law_stations.specs.Nets.{Net, Paired, Station}
@@ -22,7 +21,8 @@ use Rattle.law_stations.specs.Disks.{Disks}
 use Rattle.law_stations.specs.OverCrashes.{HasNet, HasSettled, HeadlineOverCrashes, InOrderOverCrashes, IsLike, IsLikeEvent, SoundOverCrashes}
 use Rattle.law_stations.proofs.Counting.{IsItem, picked-total, total}
 use Rattle.law_stations.proofs.EachCommand.{crashes-are-none}
-use Rattle.law_stations.proofs.Tracking.{nth-map}
+use Rattle.model_run.proofs.HarmLists.{nth-map, among-nth}
+use Rattle.model_run.proofs.Targets.{some_same}
 
 -- a command that is like a purge is one
 like-purge : (command : Command) → IsLike command Purge → command ≡ Purge

@@ -11,7 +11,7 @@ use Rattle.model_run.specs.Run.{Run, System, after_events, fresh, nth, start}
 use Rattle.model_run.specs.Keeping.{Content}
 use Rattle.model_run.proofs.Areas.{key-tag}
 use Rattle.model_run.proofs.EachSystem.{run-kept}
-use Rattle.model_run.proofs.Lists.{Among-map_from, nth-among}
+use Rattle.model_run.proofs.Lists.{nth-among}
 use Rattle.model_run.proofs.Origins.{run-traced}
 use Rattle.model_run.proofs.WholeRuns.{run-ok}
 use Rattle.model_run.proofs.TosserLaws.{the_laws}
@@ -25,6 +25,7 @@ use Rattle.law_stations.proofs.EachEvent.{LedAll, led-from-first}
 use Rattle.law_stations.proofs.Pairs.{paired-among, paired-nth}
 use Rattle.law_stations.proofs.Systems.{file-fits, said-once, says-so}
 use Rattle.law_stations.proofs.Unpurged.{AsFiledAt, IsAsFiled, kept-where}
+use Rattle.model_run.proofs.RulesLists.{Among-map_from}
 
 -- a packet file reads as the packet of the run
 pub reads : (bytes : List ℕ) (p : Packet) → IsPacketFile bytes p → ReadsAs bytes p

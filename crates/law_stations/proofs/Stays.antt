@@ -10,7 +10,7 @@ use Rattle.echo_filed.specs.Stubs.{stub_of}
 use Rattle.model_steps.specs.declared.packet.Packet.{Packet}
 use Rattle.model_steps.specs.Purging.{purged}
 use Rattle.model_run.specs.Run.{nth}
-use Rattle.model_run.proofs.Lists.{none_some, nth-append, some_same}
+use Rattle.model_run.proofs.Lists.{nth-append}
 use Rattle.law_stations.specs.Agreement.{IsPacketFile}
 use Rattle.law_stations.specs.Nets.{Paired}
 use Rattle.law_stations.proofs.Systems.{file-fits}
@@ -23,6 +23,7 @@ use Rattle.law_stations.proofs.Purgings.{purge-among}
 use Rattle.law_stations.proofs.Alone.{IsLone}
 use Rattle.law_stations.proofs.LoneShown.{in-order, stood}
 use Rattle.law_stations.proofs.Steps.{AreOfCommands, commands-lone, run-lone}
+use Rattle.model_run.proofs.Targets.{some_same, none_some}
 
 -- what a purge left at a place
 abbrev IsLeftAt : ℕ → ℕ → Filed → Filed → Type 0

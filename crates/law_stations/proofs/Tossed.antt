@@ -15,11 +15,11 @@ use Rattle.model_steps.specs.Tossing.{sender_of, received, tossed, tossing, zone
 use Rattle.model_steps.proofs.Received.{tossing_received}
 use Rattle.model_steps.proofs.Kept.{tossing_keeps}
 use Rattle.model_run.specs.Run.{System, filing, state_of, tossing_at}
-use Rattle.model_run.proofs.Lists.{none_some}
 use Rattle.model_run.proofs.States.{tossing-state}
 use Rattle.law_stations.specs.Agreement.{HasPosting}
 use Rattle.law_stations.proofs.Readings.{TossesFront}
 use Rattle.law_stations.proofs.Unpurged.{IsAsFiled, tossing-as_filed}
+use Rattle.model_run.proofs.Targets.{none_some}
 
 -- A system from another, of this state: it has the link file and what was filed there, has posted nothing since, and has a base; it has all as it was filed if that did.
 pub record Takes (s now : System) (state : SystemState) : Type 0 where

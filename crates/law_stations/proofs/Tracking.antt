@@ -1,11 +1,11 @@
 -- The disks and a net without crashes that go with each other.
-use Rattle.std.proofs.Common.{◌≡◌, ◌⊎◌, inl, inr, refl, sym, subst, ap, ◌∙◌, ℕ, zero, suc, ◌+◌, ◌≤◌, ◌<◌, true, false, List, [], ◌∷◌, ◌++◌, length, map, Option, Some, None}
+use Rattle.std.proofs.Common.{◌≡◌, ◌⊎◌, inl, inr, refl, sym, subst, ap, ◌∙◌, ℕ, ◌+◌, ◌≤◌, ◌<◌, true, false, List, [], ◌∷◌, ◌++◌, length, map, Option, Some, None}
 use Rattle.model_graph.specs.Walk.{Among}
 use Rattle.model_run.specs.Run.{nth}
-use Rattle.model_run.proofs.Lists.{none_some, some_same}
 use Rattle.law_stations.specs.Nets.{Net, Paired, Station}
 use Rattle.law_stations.specs.Disks.{StagingFile, Disks, HasCursor, cursor_of, cursors}
 use Rattle.law_stations.proofs.Counting.{IsItem, below, times, waits}
+use Rattle.model_run.proofs.HarmLists.{nth-map}
 
 -- A file beside a name, and the index of the packet that waits in it for its name. One that is none of these has its name, or
 -- is of a scan that did not come to move the cursor.
@@ -27,12 +27,6 @@ pub record Tracks (d : Disks) (net : Net) : Type 0 where
   pub staging : Paired (IsTagged net.packets (cursors net)) d.staging tags
   pub each : (k : ℕ) → times k places + waits k tags ≡ below k (length net.packets)
   pub tossed : (j : ℕ) → Among j d.net.delivered → IsTossedAt places net.delivered j
-
--- an item of a list that is mapped
-pub nth-map : {X Y : Type 0} (g : X → Y) (i : ℕ) (x : X) (xs : List X) → nth i xs ≡ Some x → nth i (map g xs) ≡ Some (g x)
-nth-map g i x [] h = absurd (none_some h)
-nth-map {X} {Y} g zero x (z ∷ xs) h = ap (λ (w : X). Some (g w)) (some_same h)
-nth-map g (suc i) x (z ∷ xs) h = nth-map g i x xs h
 
 -- a station of a net has the cursor of its base
 pub has-cursor : (net : Net) (i : ℕ) (station : Station) → nth i net.stations ≡ Some station → HasCursor net i station.base.cursor

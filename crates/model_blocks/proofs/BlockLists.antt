@@ -73,10 +73,6 @@ abbrev pub left_of : Option ℕ → ℕ
 left_of None = 0
 left_of (Some member) = member + 1
 
-pub left_less : (block : ℕ → ℕ) (k before : ℕ) (next : Option ℕ) → IsLastBefore block k before next → left_of next < before + 1
-left_less block k before None h = omega arith
-left_less block k before (Some member) h = omega (arith, h.0)
-
 -- all, from the first on
 pub Walked-turned : (block : ℕ → ℕ) (k members : ℕ) (found : List ℕ) → Walked block k members found None →
     IsAscending (reverse found) × ((v : ℕ) → Contains (reverse found) v ↔ ((v < members) × (block v ≡ k)))

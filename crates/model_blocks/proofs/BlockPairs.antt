@@ -83,15 +83,3 @@ first_here links at one other found upto inside none = record {
             ]
       ];
 }
-
--- a link that begins earlier in the block, and the first pinch of the block
-pub none_earlier : (links : ℕ → ℕ → Bool) (at one c upto : ℕ) → FirstInBlock links at one c → ¬ HasEarlier links at one upto
-none_earlier links at one c upto first (e, lt, (d, link, (before, (f, pinch), together))) =
-    elim (first.first e d f pinch together) [
-      | inl less ↦ elim before [ inl low ↦ omega arith | inr h ↦ omega (arith, h.0) ]
-      | inr here ↦
-          elim before [
-            | inl low ↦ omega (arith, here.0)
-            | inr h ↦ elim here.1 [ inl less ↦ omega (arith, h.1) | inr tie ↦ omega (arith, h.1, tie.0) ]
-          ]
-    ]

@@ -7,8 +7,8 @@ use Rattle.model_graph.specs.Loops.{FirstWalkBy, HasUnlinked, IsWrittenBy, Named
 use Rattle.model_graph.specs.Pinches.{FirstPinchBy, IsPinchBy, NotAfter}
 use Rattle.model_graph.specs.Renaming.{IsRenaming, KeepsOrder}
 use Rattle.model_graph.proofs.Renaming.{Among-from_map, Among-map, Cycle-renamed, Different-map, IsRenaming-swap, Walk-renamed}
-use Rattle.model_graph.proofs.Rings.{reverse_cons}
 use Rattle.model_graph.proofs.Walks.{link_from, link_to, walk_links}
+use Rattle.model_graph.proofs.Turns.{reverse-cons as reverse_cons}
 
 map-reverse : {A B : Type 0} (name : A → B) (xs : List A) → map name (reverse xs) ≡ reverse (map name xs)
 map-reverse name [] = refl

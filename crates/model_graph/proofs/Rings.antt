@@ -8,7 +8,7 @@ use Rattle.model_graph.specs.Pinches.{IsPinch, FirstPinch}
 use Rattle.model_graph.specs.Loops.{FirstWalk, HasUnlinked, turned, IsWritten, NamedLoop}
 use Rattle.model_graph.proofs.Members.{Among-index, Among-get_or, Among-append_left, Among-append_right, Among-append_cases, Different-push}
 use Rattle.model_graph.proofs.Walks.{walk_ends}
-use Rattle.model_graph.proofs.Turns.{IsCycle-rotated, IsCycle-turned, Cycle-reversed}
+use Rattle.model_graph.proofs.Turns.{IsCycle-rotated, IsCycle-turned, Cycle-reversed, reverse-cons as reverse_cons}
 
 -- the pinch and the walk around it make a cycle
 pub Cycle-from_pinch : (links : ℕ → ℕ → Bool) → Simple links → (b a c : ℕ) (rest : List ℕ) → IsPinch links b a c → FirstWalk links b a c rest → Cycle links b (a ∷ rest)
@@ -32,9 +32,6 @@ turned_past ring k past = ap (λ (xs : List ℕ). xs ++ take k ring) (drop_all k
 pub IsCycle-begun_at : (links : ℕ → ℕ → Bool) (ring : List ℕ) → IsCycle links ring → (k : ℕ) → IsCycle links (turned k ring)
 IsCycle-begun_at links ring cycle k =
     IsCycle-rotated links (take k ring) (drop k ring) (subst (IsCycle links) (sym (take-append-drop k ring)) cycle)
-
-pub reverse_cons : {A : Type 0} (x : A) (xs : List A) → reverse (x ∷ xs) ≡ reverse xs ++ x ∷ []
-reverse_cons x xs = reverse-append (x ∷ []) xs
 
 pub Among-reverse : (x : ℕ) (xs : List ℕ) → Among x xs → Among x (reverse xs)
 Among-reverse x [] among = absurd among

@@ -8,7 +8,7 @@ use Rattle.model_graph.proofs.Walks.{link_to, walk_append}
 use Rattle.model_graph.proofs.Cycles.{cycle_turned}
 
 -- the first member of a list reversed stands last
-reverse-cons : {A : Type 0} (x : A) (xs : List A) → reverse (x ∷ xs) ≡ reverse xs ++ x ∷ []
+pub reverse-cons : {A : Type 0} (x : A) (xs : List A) → reverse (x ∷ xs) ≡ reverse xs ++ x ∷ []
 reverse-cons x xs = reverse-append (x ∷ []) xs
 
 length-reversed : {A : Type 0} (xs : List A) → length (reverse xs) ≡ length xs

@@ -1,16 +1,14 @@
 -- The packets of a world and those of the run.
-use Rattle.std.proofs.Common.{◌≡◌, ◌≢◌, ℕ, zero, suc, ◌+◌, ◌<◌, ◌≤◌, ◌==◌, ◌||◌, not, Bool, true, false, cond, List, [], ◌∷◌, ◌++◌, length, get_or, take, map, append_assoc, below_more, subst, refl, sym, ap, ◌∙◌, Some, None, arith, inl, inr, ◌⊎◌}
+use Rattle.std.proofs.Common.{◌≡◌, ◌≢◌, ℕ, zero, suc, ◌+◌, ◌<◌, ◌≤◌, ◌==◌, ◌||◌, not, Bool, true, false, cond, List, [], ◌∷◌, ◌++◌, length, map, subst, refl, sym, ap, ◌∙◌, Some, None, arith, inl, inr, ◌⊎◌}
 use Rattle.std.specs.Prelude.{slice_get, option_map, count_by}
 use Rattle.std.specs.List.{list_any}
 use Rattle.std.proofs.lemmas.Bool.{cases_Bool, cond-false, cond-true, eq-eqb, ne_eqb, or_from}
-use Rattle.std.proofs.lemmas.Option.{get_or_from_slice_get, slice_get_read}
 use Rattle.std.proofs.lemmas.List.Sums.{sum_by-cons}
-use Rattle.std.proofs.lemmas.List.{map-append, take_more}
 use Rattle.model_graph.specs.Walk.{Among}
 use Rattle.model_steps.specs.declared.packet.Packet.{Packet}
 use Rattle.model_run.specs.Run.{change, destination, nth, with_index}
 use Rattle.model_run.specs.World.{missing}
-use Rattle.model_replay.specs.Worlds.{Exported, Fits, arrived, encoded, exported_packet, exported_from, made}
+use Rattle.model_replay.specs.Worlds.{Exported, arrived, encoded, exported_packet, exported_from, made}
 
 -- the item of an index, by either name
 pub nth-slice_get : {X : Type 0} (i : ℕ) (xs : List X) → slice_get xs i ≡ nth i xs
@@ -136,12 +134,6 @@ exported-nth delivered k zero (p ∷ ps) = let e : k ≡ k + zero = omega arith 
 exported-nth delivered k (suc i) (p ∷ ps) =
     let e : (k + 1) + i ≡ k + suc i = omega arith in
     exported-nth delivered (k + 1) i ps ∙ λ j. option_map (exported_packet delivered (e j)) (nth i ps)
-
--- an index within a list has an item, and one past its end has none
-pub nth-within : {X : Type 0} (i : ℕ) (xs : List X) → i < length xs → (x : X) × (nth i xs ≡ Some x)
-nth-within i [] h = absurd (omega arith)
-nth-within zero (x ∷ xs) h = (x, refl)
-nth-within (suc i) (x ∷ xs) h = nth-within i xs (omega arith)
 
 pub nth-past : {X : Type 0} (i : ℕ) (xs : List X) → length xs ≤ i → nth i xs ≡ None
 nth-past i [] h = refl

@@ -1,5 +1,5 @@
 -- What is read off a world is what is read off its run.
-use Rattle.std.proofs.Common.{◌≡◌, ℕ, zero, suc, cond, arith, ◌+◌, ◌<◌, ◌==◌, ◌&&◌, not, Bool, false, List, [], ◌∷◌, length, drop, map, sym, ap, ◌∙◌, Option, Some, None}
+use Rattle.std.proofs.Common.{◌≡◌, ℕ, zero, suc, cond, arith, ◌+◌, ◌<◌, ◌==◌, ◌&&◌, not, Bool, false, List, [], ◌∷◌, length, drop, sym, ap, ◌∙◌}
 use Rattle.std.proofs.lemmas.List.{length-map}
 use Rattle.std.proofs.lemmas.List.Sums.{sum_by-cons}
 use Rattle.echo_filed.specs.Filed.{Filed}
@@ -7,10 +7,10 @@ use Rattle.std.specs.Prelude.{bytes_eq, count_by, nat_le, option_map, slice_get,
 use Rattle.std.specs.List.{list_all}
 use Rattle.std.proofs.lemmas.List.Folds.{list_all-map}
 use Rattle.model_steps.specs.SystemState.{SystemState}
-use Rattle.model_run.specs.Run.{Run, System, destination, nth}
-use Rattle.model_run.specs.World.{area_count, filed_at, is_settled, undelivered}
+use Rattle.model_run.specs.Run.{Run, destination, nth}
+use Rattle.model_run.specs.World.{area_count, is_settled, undelivered}
 use Rattle.model_replay.specs.Worlds.{Exported, IsWorldOf, WorldState, encoded, exported_from, state_of}
-use Rattle.model_replay.proofs.Exports.{exported-bytes, exported-length, exported-missing, exported-to, nth-map, nth-slice_get}
+use Rattle.model_replay.proofs.Exports.{exported-bytes, exported-length, exported-missing, exported-to, nth-slice_get}
 
 -- how many packets did not come
 pub missing-is : (world : WorldState) (run : Run) → IsWorldOf world run → count_by (λ e. not e.came) world.packets ≡ undelivered run
@@ -29,10 +29,6 @@ settled-is world run is =
     let a = scanned-is world run is in
     let b = missing-is world run is in
     λ i. a i && (b i == 0)
-
--- the system of an index
-pub system-is : (world : WorldState) (run : Run) → IsWorldOf world run → (i : ℕ) → slice_get world.systems i ≡ option_map state_of (nth i run.systems)
-system-is world run is i = ap (λ (ss : List SystemState). slice_get ss i) is.systems ∙ nth-slice_get i (map state_of run.systems) ∙ nth-map state_of i run.systems
 
 -- the bytes of the packet of an index
 pub bytes-are : (world : WorldState) (run : Run) → IsWorldOf world run → (k : ℕ) → option_map (λ e. e.bytes) (slice_get world.packets k) ≡ option_map encoded (nth k run.packets)
@@ -55,14 +51,6 @@ system_count world run is = ap (λ (ss : List SystemState). length ss) is.system
 -- how many packets there are
 pub packet_count : (world : WorldState) (run : Run) → IsWorldOf world run → length world.packets ≡ length run.packets
 packet_count world run is = ap (λ (es : List Exported). length es) is.packets ∙ exported-length run.delivered 0 run.packets
-
-pub filed-is : (world : WorldState) (run : Run) → IsWorldOf world run → (i : ℕ) (tag : List ℕ) (s : SystemState) → slice_get world.systems i ≡ Some s
-    → area_count tag s.base ≡ filed_at run i tag
-filed-is world run is i tag s h = of (nth i run.systems) (sym (system-is world run is i) ∙ h)
-  where
-    of : (o : Option System) → option_map state_of o ≡ Some s → area_count tag s.base ≡ unwrap_or (option_map (λ x. area_count tag x.base) o) 0
-    of None e = absurd (cc)
-    of (Some x) e = let same : state_of x ≡ s = cc in ap (λ (y : SystemState). area_count tag y.base) (sym same)
 
 -- whether the message of an index is of the area; it is counted, and those after it are left
 abbrev pub is_of : List ℕ → List Filed → ℕ → Bool

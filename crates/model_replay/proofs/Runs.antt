@@ -22,12 +22,15 @@ use Rattle.model_steps.specs.Stamps.{is_stamp}
 use Rattle.model_steps.specs.Tossing.{sender_of}
 use Rattle.model_run.specs.Event.{run_event}
 use Rattle.model_run.specs.declared.event.Event.{Event}
-use Rattle.model_run.proofs.LaterSystems.{after-append}
 use Rattle.model_run.proofs.States.{tossing-state}
 use Rattle.model_run.specs.Run.{Run, System, after_event, change, changing, coming, delivery, destination, filing, fresh, nth, posting_at, purging_at, receiver, run_of, scanning, scanning_at, start, taking, tossing_at}
 use Rattle.model_replay.specs.Worlds.{Exported, Fits, IsWorldOf, ScanFits, WorldState, own_addresses, after_posting, after_purge, after_scan, after_toss, arrived, exported_from, first_at, made, made_by, scanned_world, state_of, with_change, world_after}
 use Rattle.model_replay.proofs.Changes.{read-nth}
-use Rattle.model_replay.proofs.Exports.{below-with, exported-append, exported-came, exported-made, nth-map, nth-past, nth-within, within-nth}
+use Rattle.model_replay.proofs.Exports.{below-with, exported-append, exported-came, exported-made, nth-map, nth-past, within-nth}
+use Rattle.model_run.proofs.StandingTosses.{change-nothing as stays}
+use Rattle.model_replay.proofs.Readings.{system_count as count-is}
+use Rattle.model_run.proofs.HarmLists.{nth-below as nth-within}
+use Rattle.model_run.proofs.HarmSteps.{after-append}
 
 -- filing leaves the history aside
 state-filing : (s : System) (o : Option Filed) → state_of (filing s o) ≡ state_with (state_of s) o
@@ -66,12 +69,6 @@ state-taking p s =
   where
     whole : length p.messages ≤ length p.messages
     whole = omega arith
-
--- a scan in the world is one in the run
-stays : {X : Type 0} (i : ℕ) (xs : List X) → change i (λ x. x) xs ≡ xs
-stays i [] = refl
-stays zero (x ∷ xs) = refl
-stays (suc i) (x ∷ xs) = ap (λ (ys : List _). x ∷ ys) (stays i xs)
 
 scan-taken : (world : WorldState) (run : Run) (i : ℕ) (stamp : Stamp) (s : System) → is_stamp stamp ≡ true → IsWorldOf world run → All Fits (made_by stamp (state_of s))
     → IsWorldOf (scanned_world world i stamp (Some (state_of s))) (scanning run i stamp (Some s))
@@ -139,9 +136,6 @@ first-is : (world : WorldState) (run : Run) (p : Packet) → IsWorldOf world run
 first-is world run p is =
     ap (λ (ss : List SystemState). position_or_len (λ s. same_address s.file.system (destination p)) ss) is.systems
     ∙ first-map (λ (s : SystemState). same_address s.file.system (destination p)) state_of run.systems
-
-count-is : (world : WorldState) (run : Run) → IsWorldOf world run → length world.systems ≡ length run.systems
-count-is world run is = ap (λ (ss : List SystemState). length ss) is.systems ∙ length-map run.systems state_of
 
 arrived-run : (world : WorldState) (run : Run) (k : ℕ) (p : Packet) (s : System) → IsWorldOf world run → k < length run.packets
     → IsWorldOf (record { systems = change (receiver run p) (after_toss p) world.systems; packets = change k arrived world.packets }) (coming run k p (Some s))

@@ -1,5 +1,5 @@
 -- Reading a script line by line.
-use Rattle.std.proofs.Common.{◌≡◌, ◌⊎◌, ℕ, ◌+◌, not, true, false, cond, List, [], ◌∷◌, ◌++◌, refl, sym, ap, ◌∙◌, Option, Some, None, Result, Ok, Err, inl, inr}
+use Rattle.std.proofs.Common.{◌≡◌, ◌⊎◌, ℕ, ◌+◌, not, true, false, cond, List, [], ◌∷◌, ◌++◌, sym, ap, ◌∙◌, Option, Some, None, Result, Ok, Err, inl, inr}
 use Rattle.std.specs.Prelude.{MatchResult, filter, is_some}
 use Rattle.std.specs.List.{cons_option, filter_map}
 use Rattle.std.specs.Option.{option_or}
@@ -40,9 +40,6 @@ module _ (number : ℕ) (line : List ℕ) where
 pub record LinesTaken (bytes : List ℕ) (number : ℕ) (rest : List ℕ) (events : List Event) : Type 0 where
   pub faults : first_script_fault 1 (file_lines bytes) ≡ first_script_fault (number + 1) (file_lines rest)
   pub whole : events_in (file_lines bytes) ≡ events ++ events_in (file_lines rest)
-
-pub lines_begun : (bytes : List ℕ) → LinesTaken bytes 0 bytes []
-lines_begun bytes = record { faults = refl; whole = refl }
 
 events_next : (line : List ℕ) (later : List (List ℕ)) → events_in (line ∷ later) ≡ events_in (line ∷ []) ++ events_in later
 events_next line later =

@@ -3,23 +3,7 @@ use Rattle.std.proofs.Common.{◌≡◌, ℕ, ◌+◌, ◌<◌, ◌≤◌, List,
 use Rattle.std.specs.List.{AllByRecursion}
 use Rattle.echo_packet.specs.Message.{IsMessage, Message}
 use Rattle.echo_filed.proofs.Plain.{all_append}
-use Rattle.model_steps.proofs.Encoding.{IsWhole, one_more_message}
-
-longer : (most : ℕ) (m : Message) → IsWhole m → length m.text ≤ most → IsMessage most m
-longer most m is room = record {
-  orig_node = is.orig_node;
-  dest_node = is.dest_node;
-  orig_net = is.orig_net;
-  dest_net = is.dest_net;
-  attribute = is.attribute;
-  cost = is.cost;
-  date_len = is.date_len;
-  date = is.date;
-  to_name = is.to_name;
-  from_name = is.from_name;
-  subject = is.subject;
-  text = record { bytes = is.text.bytes; no_zero = is.text.no_zero; room = room };
-}
+use Rattle.model_steps.proofs.Encoding.{IsWhole, one_more_message, longer}
 
 -- one message more
 pub one_more_kept : (most : ℕ) (ms : List Message) (i : ℕ) (m : Message) → i < length ms → m ≡ get_or ms i m → AllByRecursion (IsMessage most) (take i ms)

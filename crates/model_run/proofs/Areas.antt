@@ -19,7 +19,8 @@ use Rattle.model_run.specs.Tidy as files_are
 use Rattle.model_run.specs.Tidy.{lists, Carries}
 use Rattle.model_run.specs.AreaNets.{net_of}
 use Rattle.model_run.proofs.TosserPremises.{Laws}
-use Rattle.model_run.proofs.Lists.{not_both, and-parts, and-from, any-to, any-from, Among-map_to, Among-map_from}
+use Rattle.model_run.proofs.Lists.{not_both, and-parts, and-from, any-to, any-from}
+use Rattle.model_run.proofs.RulesLists.{Among-map_to, Among-map_from}
 
 -- the area of a key is that of its message
 pub key-tag : (m : Filed) → tag_of (key_of m) ≡ m.echo.tag

@@ -17,7 +17,8 @@ use Rattle.model_run.specs.Orderly.{count}
 use Rattle.echo_links.specs.Links.{IsFile}
 use Rattle.model_run.proofs.Counts as counts
 use Rattle.model_run.proofs.TosserPremises.{Laws}
-use Rattle.model_run.proofs.Lists.{any-to, any-from, and-parts, some_same}
+use Rattle.model_run.proofs.Lists.{any-to, any-from, and-parts}
+use Rattle.model_run.proofs.Targets.{some_same}
 
 -- a message of the base is the one that was filed, or what a purge leaves of it
 pub record IsKept (b h : Filed) : Type 0 where

@@ -22,15 +22,16 @@ use Rattle.model_run.specs.Epochs.{Epoch, PostedBetween, SameArea, addresses, af
 use Rattle.model_run.specs.AreaNets.{net_of}
 use Rattle.model_run.specs.Keeping.{IsFiledIn, IsHistory, filed_as}
 use Rattle.model_run.proofs.TosserPremises.{Laws}
-use Rattle.model_run.proofs.Lists.{nth-split}
+use Rattle.model_run.proofs.Lists.{nth-split, same_list as Among-in}
 use Rattle.model_run.proofs.Bases.{Kept-waiting}
 use Rattle.model_run.proofs.Areas.{Wrote, address_of, map-map, one-system, one-writer, tidy-net}
-use Rattle.model_run.proofs.Histories.{Among-in, RCopy, REvent, RFiled, among-nth}
+use Rattle.model_run.proofs.Histories.{RCopy, REvent, RFiled}
 use Rattle.model_run.proofs.Renewal.{Renewed, SameSystems, renewed-back, renewed-files, renewed-ok, renewed-to}
 use Rattle.model_run.proofs.Standing.{Equal, Standing, can, can_keys, equal-compares, filed-event, wrote-event}
 use Rattle.model_run.proofs.StandingRuns.{events-stand}
 use Rattle.model_run.proofs.OverChanges.{Outlives, change-outlives, events-outlive}
 use Rattle.model_run.proofs.Unchanged.{one-message}
+use Rattle.model_run.proofs.HarmLists.{among-nth}
 
 -- systems that get other files filed the same
 module _ (tag : List ℕ) (part : System → List Filed) (keeps : (s z : System) → Renewed s z → part z ≡ part s) (systems : List System) (files : List LinkFile)

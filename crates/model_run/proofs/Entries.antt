@@ -13,7 +13,8 @@ use Rattle.echo_filed.specs.Filed.{Filed}
 use Rattle.echo_filed.specs.Sets.{entry_set, same_entry}
 use Rattle.echo_filed.proofs.Orders.{entry_set_is_set, same_entry_decides}
 use Rattle.model_steps.specs.Scanning.{exported, is_seen_by, is_sender, targets}
-use Rattle.model_run.proofs.Lists.{Among-filter_from, Among-filter_to, Among-map_from, Among-map_to, and-from, and-parts, any-from, any-to, not_both, yes_or_no}
+use Rattle.model_run.proofs.Lists.{Among-filter_from, Among-filter_to, and-from, and-parts, any-from, any-to, not_both, yes_or_no}
+use Rattle.model_run.proofs.RulesLists.{Among-map_to, Among-map_from}
 
 not-true : (b : Bool) → not b ≡ true → b ≡ false
 not-true true e = absurd (not_both false e refl)
@@ -54,10 +55,6 @@ target-to file m a h other unseen =
           | inr f ↦ f
           | inl t ↦ absurd (other (ap (λ (x : Address). Some x) (sym ((same_address_decides a b).0 t))))
         ]
-
--- the copy lists what the message lists, the own net and node, and those of the links
-pub entries : (file : LinkFile) (e : EchoText) → List NetNode
-entries file e = e.seen ++ map net_node_of (file.system ∷ links_of file e.tag)
 
 pub listed-from : (file : LinkFile) (e : EchoText) (n : NetNode) → Among n (exported file e).seen →
     Among n e.seen ⊎ ((n ≡ net_node_of file.system) ⊎ ((z : Address) × Among z (links_of file e.tag) × (n ≡ net_node_of z)))

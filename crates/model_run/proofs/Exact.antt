@@ -14,7 +14,7 @@ use Rattle.echo_filed.specs.Filed.{Filed}
 use Rattle.model_run.specs.Event.{RunEvent}
 use Rattle.model_run.specs.Run.{nth, run_of}
 use Rattle.model_run.specs.Tidy.{Carries, lists}
-use Rattle.model_run.proofs.Lists.{none_some, not_both, nth-cases, some_same, yes_or_no}
+use Rattle.model_run.proofs.Lists.{not_both, nth-cases, yes_or_no}
 use Rattle.model_run.specs.Grave.{AllAreCarriers, AreTakenForOne, AreTwins, HaveOwnAddresses}
 use Rattle.model_run.specs.Harms.{Harm}
 use Rattle.model_run.proofs.Branches.{Touches, closed-by, no_way_around}
@@ -24,6 +24,7 @@ use Rattle.model_run.proofs.HarmLists.{among-nth, nth-index}
 use Rattle.model_run.specs.Postings.{ComesToRest, trial_posting}
 use Rattle.model_run.proofs.Places.{carrier-file, lister-carries}
 use Rattle.model_run.proofs.Spreads.{IsNear, Spread, answered, from_poster, no_kite, not_hidden, one_or_two, reached}
+use Rattle.model_run.proofs.Targets.{some_same, none_some}
 
 module _ (files : List LinkFile) (known : LawsOfRuns files) (tag : List ℕ) (one_file : HaveOwnAddresses files) (all_known : AllAreCarriers files tag)
     (moves : ℕ → List RunEvent) (rests : (i : ℕ) → ComesToRest files tag i (moves i)) where

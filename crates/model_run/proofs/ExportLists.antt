@@ -15,7 +15,8 @@ use Rattle.model_run.specs.Event.{RunEvent, Posting, Scanning, Delivery, PartDel
 use Rattle.model_run.specs.Run.{System, Run, after_event, after_events, change, coming, delivery, nth, part_delivery, receiver, scanning, scanning_at}
 use Rattle.model_run.specs.Orderly.{count, sent_count}
 use Rattle.model_run.specs.Exports.{Export, event_exports, export_of, exports_after, scan_exports, sent_by}
-use Rattle.model_run.proofs.Lists.{yes_or_no, filter-all, filter-no, filter-none, filter-yes, Among-map_from}
+use Rattle.model_run.proofs.Lists.{yes_or_no, filter-all, filter-no, filter-none, filter-yes}
+use Rattle.model_run.proofs.RulesLists.{Among-map_from}
 
 -- counts of lists put together
 pub count-append : (k : Key) (ms ns : List Filed) → count k (ms ++ ns) ≡ count k ms + count k ns

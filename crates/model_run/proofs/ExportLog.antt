@@ -19,12 +19,13 @@ use Rattle.model_run.specs.Orderly.{copies, origin}
 use Rattle.model_run.specs.Exports.{Export, IsSentCopy, event_exports, export_of, exports, exports_after, scan_exports, sent_by}
 use Rattle.model_run.specs.Fits.{FilesFit}
 use Rattle.model_run.proofs.TosserPremises.{Laws}
-use Rattle.model_run.proofs.Lists.{nth-among, nth-change, nth-changed, Among-filter_to, Among-map_from, Among-map_to}
+use Rattle.model_run.proofs.Lists.{nth-among, nth-change, nth-changed, Among-filter_to}
 use Rattle.model_run.proofs.Bases.{SystemOk}
 use Rattle.model_run.proofs.WellFormed.{RunOk, event-ok, start-ok}
 use Rattle.model_run.proofs.ScanPackets.{scanned-copy}
 use Rattle.model_run.proofs.ExportLists.{sent_by-append, sent_by-own, sent_by-other}
 use Rattle.model_run.proofs.Stations.{Made, SameDone, Within, apart, made-nothing, made-same, made-scan, posting-done, purging-done, tossing-done, within}
+use Rattle.model_run.proofs.RulesLists.{Among-map_to, Among-map_from}
 
 -- an export is among those of its system
 sent-by_own : (e : Export) (all : List Export) → Among e all → Among e.packet (sent_by e.system all)

@@ -1,13 +1,12 @@
 -- What is filed came from somewhere, and what is due is filed.
 use Rattle.std.proofs.Common.{◌≡◌, ◌⊎◌, inl, inr, refl, sym, subst, ap, ◌∙◌, ℕ, arith, List, [], ◌∷◌, ◌++◌, Option, Some, None}
-use Rattle.std.specs.Prelude.{Bool, true, false, if◌then◌else◌, is_none, is_some, ◌||◌, option_map, unwrap_or}
-use Rattle.std.specs.List.{list_any}
+use Rattle.std.specs.Prelude.{Bool, true, false, if◌then◌else◌, is_none, ◌||◌}
 use Rattle.std.proofs.lemmas.Bool.{cond-true, cond-false}
 use Rattle.echo_addr.specs.declared.address.Address.{Address}
 use Rattle.model_graph.specs.Walk.{Among}
 use Rattle.model_graph.proofs.Members.{Among-append_cases, Among-append_right}
 use Rattle.echo_packet.specs.Message.{Message}
-use Rattle.echo_links.specs.Links.{Area, LinkFile, area_of, has_area, is_link, links_of, same_address}
+use Rattle.echo_links.specs.Links.{LinkFile}
 use Rattle.echo_filed.specs.declared.key.Key.{Key}
 use Rattle.echo_filed.specs.Filed.{Filed, key_of, same_key}
 use Rattle.echo_filed.specs.Written.{echo_of}
@@ -28,9 +27,10 @@ use Rattle.model_run.specs.Lone.{LoneEvent, LoneSystem, PostHere, PurgeHere, Sca
 use Rattle.model_run.specs.Owed.{IsFiledBy, IsFromLink}
 use Rattle.model_run.proofs.Stubs.{IsLoneLeft, event-left, first-left, run-left}
 use Rattle.model_run.proofs.Growing.{events-last, filing-grows, filed-later, grown-later, run-append, run-file, tossing-append, tossing-grows}
+use Rattle.model_run.proofs.Areas.{link-has_area as area-has}
 
 -- where the one that may be filed is this one, what was filed is old or it is
-filing-from : (s : System) (o : Option Filed) (m : Filed) → Among m (filing s o).history → Among m s.history ⊎ (o ≡ Some m)
+pub filing-from : (s : System) (o : Option Filed) (m : Filed) → Among m (filing s o).history → Among m s.history ⊎ (o ≡ Some m)
 filing-from s None m h = inl h
 filing-from s (Some n) m h =
     elim (Among-append_cases m s.history (n ∷ []) h) [
@@ -160,15 +160,6 @@ unknown key (m ∷ base) h =
     any-rest : (a b : Bool) → a ≡ false → b ≡ false → a || b ≡ false
     any-rest true b f e = absurd (not_both true refl f)
     any-rest false b f e = e
-
--- a tag with a link is that of an area
-area-has : (file : LinkFile) (tag : List ℕ) (a : Address) → is_link file tag a ≡ true → has_area file tag ≡ true
-unfolding links_of
-area-has file tag a h = of_area (area_of file tag) h
-  where
-    of_area : (o : Option Area) → list_any (same_address a) (unwrap_or (option_map (λ (area : Area). area.links) o) []) ≡ true → is_some o ≡ true
-    of_area None h = absurd (not_both false h refl)
-    of_area (Some area) h = refl
 
 -- what comes from a link with a new key is filed
 pub new-filed : (s : System) (sender : Address) (q : Message) → IsFromLink s.file sender q → is_known s.base (key_of (received sender q)) ≡ false →

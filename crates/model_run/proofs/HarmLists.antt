@@ -5,7 +5,8 @@ use Rattle.std.specs.List.{position_or_len}
 use Rattle.std.proofs.lemmas.Bool.{cond-true, cond-false}
 use Rattle.model_graph.specs.Walk.{Among}
 use Rattle.model_run.specs.Run.{nth, change}
-use Rattle.model_run.proofs.Lists.{none_some, some_same, yes_or_no}
+use Rattle.model_run.proofs.Lists.{yes_or_no}
+use Rattle.model_run.proofs.Targets.{some_same, none_some}
 
 -- an item stands at each index below the length, and at no other
 pub nth-below : {X : Type 0} (i : ℕ) (xs : List X) → i < length xs → (x : X) × (nth i xs ≡ Some x)
@@ -59,6 +60,3 @@ none_passes {X} p (y ∷ xs) h x i =
           omega (arith, first)) in
           elim i [ inl e ↦ ap p e ∙ f | inr t ↦ none_passes p xs (subst P there h) x t ])
     ]
-
-same_list : {X : Type 0} (x : X) (xs ys : List X) → xs ≡ ys → Among x xs → Among x ys
-same_list {X} x xs ys e h = let P : List X → Type 0 = λ zs. Among x zs in subst P e h

@@ -1,21 +1,20 @@
 -- Runs event by event: what all events keep, the files that stay, and what a toss may file.
-use Rattle.std.proofs.Common.{◌≡◌, ◌⊎◌, inl, inr, refl, sym, subst, ap, ◌∙◌, ℕ, List, [], ◌∷◌, ◌++◌, take, map, Option, Some, None}
+use Rattle.std.proofs.Common.{◌≡◌, ◌⊎◌, inl, inr, refl, sym, subst, ◌∙◌, List, [], ◌∷◌, ◌++◌, map, Some}
 use Rattle.std.specs.List.{AllByRecursion}
 use Rattle.std.proofs.lemmas.List.{append_assoc, append-nil}
 use Rattle.echo_addr.specs.declared.address.Address.{Address}
 use Rattle.model_graph.specs.Walk.{Among}
-use Rattle.model_graph.proofs.Members.{Among-append_cases}
 use Rattle.echo_packet.specs.Message.{Message}
 use Rattle.model_steps.specs.declared.outcome.Outcome.{Outcome}
 use Rattle.model_steps.specs.declared.outcome.Outcome.TheVariants as outcome
-use Rattle.model_steps.specs.declared.packet.Packet.{Packet}
 use Rattle.echo_links.specs.Links.{LinkFile}
 use Rattle.echo_filed.specs.Filed.{Filed}
-use Rattle.model_steps.specs.Tossing.{received, sender_of, toss_outcome, tossing, where_filed}
+use Rattle.model_steps.specs.Tossing.{received, toss_outcome, tossing, where_filed}
 use Rattle.model_run.specs.Event.{RunEvent}
-use Rattle.model_run.specs.Run.{System, Run, after_event, after_events, filing, run_of, start, taking, tossing_at}
-use Rattle.model_run.proofs.Lists.{none_some, some_same}
+use Rattle.model_run.specs.Run.{System, Run, after_event, after_events, filing, run_of, start, tossing_at}
 use Rattle.model_run.proofs.WholeRuns.{event-files, files_of, filing-file, fresh-files}
+use Rattle.model_run.proofs.Filings.{filing-from as filing-new}
+use Rattle.model_run.proofs.Targets.{some_same, none_some}
 
 -- events one after another
 pub after-append : (events later : List RunEvent) (run : Run) → after_events run (events ++ later) ≡ after_events (after_events run events) later
@@ -40,30 +39,12 @@ pub all-append : (Allowed : RunEvent → Type 0) (xs ys : List RunEvent) → All
 all-append Allowed [] ys h k = k
 all-append Allowed (x ∷ xs) ys h k = (h.0, all-append Allowed xs ys h.1 k)
 
--- the files stay
-pub tossing-file : (sender : Address) (ms : List Message) (s : System) → (tossing_at sender ms s).file ≡ s.file
-tossing-file sender [] s = refl
-tossing-file sender (q ∷ ms) s =
-    tossing-file sender ms (filing s (tossing s.file s.base sender q)) ∙ filing-file s (tossing s.file s.base sender q)
-
-pub taking-file : (p : Packet) (n : ℕ) (s : System) → (taking p n s).file ≡ s.file
-taking-file p n s = tossing-file (sender_of s.file p.header) (take n p.messages) s
-
 pub run-files : (files : List LinkFile) (events : List RunEvent) → map (λ (s : System). s.file) (run_of files events).systems ≡ files
 run-files files events = stay events (start files) ∙ fresh-files files
   where
     stay : (events : List RunEvent) (run : Run) → files_of (after_events run events) ≡ files_of run
     stay [] run = refl
     stay (event ∷ later) run = stay later (after_event run event) ∙ event-files run event
-
--- what a posting or a toss files, if it files something
-pub filing-new : (s : System) (o : Option Filed) (m : Filed) → Among m (filing s o).history → Among m s.history ⊎ (o ≡ Some m)
-filing-new s None m h = inl h
-filing-new s (Some n) m h =
-    elim (Among-append_cases m s.history (n ∷ []) h) [
-      | inl old ↦ inl old
-      | inr new ↦ elim new [ inl e ↦ inr (ap (λ (x : Filed). Some x) (sym e)) | inr t ↦ absurd t ]
-    ]
 
 where_filed-is : (o : Outcome) (m n : Filed) → where_filed o m ≡ Some n → n ≡ m
 where_filed-is outcome.Filed m n h = sym (some_same h)

@@ -1,5 +1,5 @@
 -- The history of an area, as one system changes or scans.
-use Rattle.std.proofs.Common.{◌≡◌, ◌⊎◌, inl, inr, refl, sym, subst, ap, ◌∙◌, ℕ, suc, List, [], ◌∷◌, take, Some}
+use Rattle.std.proofs.Common.{◌≡◌, ◌⊎◌, inl, inr, refl, sym, subst, ap, ◌∙◌, ℕ, List, [], take, Some}
 use Rattle.echo_addr.specs.declared.address.Address.{Address}
 use Rattle.echo_addr.specs.declared.address.NetNode.{NetNode}
 use Rattle.model_graph.specs.Walk.{Among}
@@ -10,18 +10,9 @@ use Rattle.model_run.specs.Events as rules
 use Rattle.model_run.specs.Run.{System, Run, change, changing, nth}
 use Rattle.model_run.specs.Keeping.{Content, IsFiledIn, IsHistory, copy_count, filed_as, sent_as}
 use Rattle.model_run.proofs.Areas.{address_of}
-use Rattle.model_run.proofs.Lists.{nth-among, nth-change, nth-changed, some_same}
-
-pub among-nth : {X : Type 0} (x : X) (xs : List X) → Among x xs → (i : ℕ) × (nth i xs ≡ Some x)
-among-nth {X} x [] h = absurd h
-among-nth {X} x (y ∷ xs) h =
-    elim h [
-      | inl e ↦ (0, ap (λ (z : X). Some z) (sym e))
-      | inr t ↦ (let (i, e) = among-nth x xs t in (suc i, e))
-    ]
-
-pub Among-in : {X : Type 0} (x : X) (xs ys : List X) → xs ≡ ys → Among x xs → Among x ys
-Among-in {X} x xs ys e h = let P : List X → Type 0 = λ zs. Among x zs in subst P e h
+use Rattle.model_run.proofs.Lists.{nth-among, nth-change, nth-changed, same_list as Among-in}
+use Rattle.model_run.proofs.HarmLists.{among-nth}
+use Rattle.model_run.proofs.Targets.{some_same}
 
 abbrev pub RFiled : Type 0
 RFiled = rules.Filed Address NetNode Key Content

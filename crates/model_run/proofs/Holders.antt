@@ -20,7 +20,7 @@ use Rattle.model_run.specs.Run.{Run, System, destination, nth, run_of}
 use Rattle.model_run.specs.Orderly.{IsPosting, Settled, copies, count, origin, sent_count, tag_of}
 use Rattle.model_run.specs.Exports.{Export, IsSentCopy, exports, sent_by}
 use Rattle.model_run.specs.Tidy.{Carries, lists}
-use Rattle.model_run.proofs.Lists.{Among-take, not_both, nth-among, some_same}
+use Rattle.model_run.proofs.Lists.{Among-take, not_both, nth-among}
 use Rattle.model_run.specs.Grave.{AllAreCarriers}
 use Rattle.model_run.specs.Harms.{Harm, SentItsOwn}
 use Rattle.model_run.specs.Postings.{IsMove}
@@ -35,6 +35,7 @@ use Rattle.model_run.proofs.Resting.{export-of, file-there, system-there}
 use Rattle.model_run.proofs.Spreads.{Came, Spread}
 use Rattle.model_run.proofs.HarmSteps.{run-files}
 use Rattle.model_run.proofs.Tags.{link-area}
+use Rattle.model_run.proofs.Targets.{some_same}
 
 -- some item is such, or all are others
 some-or_all : {X : Type 0} (P Q : X → Type 0) → ((x : X) → P x ⊎ Q x) → (xs : List X) → ((x : X) × Among x xs × P x) ⊎ ((x : X) → Among x xs → Q x)

@@ -34,7 +34,7 @@ known-more base m key h =
     let (n, i, e) = any-from (λ n. same_key (key_of n) key) base h in
     any-to (λ n. same_key (key_of n) key) n (base ++ m ∷ []) (Among-append_left n base (m ∷ []) i) e
 
-known-new : (base : List Filed) (m : Filed) → is_known (base ++ m ∷ []) (key_of m) ≡ true
+pub known-new : (base : List Filed) (m : Filed) → is_known (base ++ m ∷ []) (key_of m) ≡ true
 known-new base m =
     any-to (λ n. same_key (key_of n) (key_of m)) m (base ++ m ∷ []) (Among-append_right m base (m ∷ []) (inl refl))
     ((same_key_decides (key_of m) (key_of m)).1 refl)

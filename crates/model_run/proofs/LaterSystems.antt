@@ -18,6 +18,7 @@ use Rattle.model_run.proofs.TosserPremises.{Laws}
 use Rattle.model_run.proofs.Lists.{nth-among, nth-changed}
 use Rattle.model_run.proofs.Bases.{Kept, Kept-cursor, Kept-length}
 use Rattle.model_run.proofs.EachSystem.{AllKept, event-kept, run-kept}
+use Rattle.model_run.proofs.HarmSteps.{after-append}
 
 pub later-itself : (s : System) → IsLater s s
 later-itself s = record { file = refl; cursor = omega arith; filed = ([], sym (append-nil s.history)) }
@@ -112,11 +113,6 @@ events-last laws (event ∷ events) run kept = λ i s e.
     let (t, at, first) = event-last run kept event i s e in
     let (z, there, rest) = events-last laws events next (event-kept laws run event kept) i t at in
     (z, there, later-still s t z first rest)
-
--- events one after another
-pub after-append : (events later : List RunEvent) (run : Run) → after_events run (events ++ later) ≡ after_events (after_events run events) later
-after-append [] later run = refl
-after-append (event ∷ events) later run = after-append events later (after_event run event)
 
 pub run-last : Laws → (files : List LinkFile) (events later : List RunEvent) → Lasts (run_of files events).systems (run_of files (events ++ later)).systems
 run-last laws files events later =

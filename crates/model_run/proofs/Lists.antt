@@ -1,10 +1,11 @@
 -- Items of lists by their index, and members of lists that were made of others.
-use Rattle.std.proofs.Common.{◌≡◌, ◌≢◌, ◌⊎◌, inl, inr, refl, sym, subst, ap, ◌∙◌, ℕ, zero, suc, ◌+◌, arith, List, [], ◌∷◌, ◌++◌, length, take, drop, map, Option, Some, None}
+use Rattle.std.proofs.Common.{◌≡◌, ◌≢◌, ◌⊎◌, inl, inr, refl, sym, subst, ap, ◌∙◌, ℕ, zero, suc, ◌+◌, arith, List, [], ◌∷◌, ◌++◌, length, take, drop, map, Some, None}
 use Rattle.std.specs.Prelude.{Bool, true, false, filter, not, ◌&&◌, ◌||◌, ◌==◌, if◌then◌else◌}
 use Rattle.std.specs.List.{list_any, position_or_len}
 use Rattle.std.proofs.lemmas.Bool.{cond-true, cond-false, eq-eqb}
 use Rattle.model_graph.specs.Walk.{Among, Different}
 use Rattle.model_run.specs.Run.{nth, change, with_index}
+use Rattle.model_run.proofs.Targets.{none_some}
 
 -- a test says yes or no
 pub yes_or_no : (b : Bool) → (b ≡ true) ⊎ (b ≡ false)
@@ -16,13 +17,6 @@ not_both b t f = absurd (bad (sym t ∙ f))
   where
     bad : (let yea : Bool = true in yea ≡ false) → ⊥
     bad e = cc
-
--- of an option that is there, and of one that is not
-pub some_same : {X : Type 0} {x y : X} → Some x ≡ Some y → x ≡ y
-some_same e = cc
-
-pub none_some : {X : Type 0} {x : X} → (let none : Option X = None in none ≡ Some x) → ⊥
-none_some e = cc
 
 -- a list around one of its items
 pub record Split {X : Type 0} (i : ℕ) (x : X) (xs : List X) : Type 0 where
@@ -114,18 +108,6 @@ first_passes {X} p x (y ∷ xs) h =
     negated-false : {b : Bool} → b ≡ false → not b ≡ true
     negated-false e = ap not e
 
-pub Among-map_to : {X Y : Type 0} (g : X → Y) (x : X) (xs : List X) → Among x xs → Among (g x) (map g xs)
-Among-map_to g x [] h = h
-Among-map_to g x (y ∷ xs) h = elim h [ inl e ↦ inl (ap g e) | inr t ↦ inr (Among-map_to g x xs t) ]
-
-pub Among-map_from : {X Y : Type 0} (g : X → Y) (y : Y) (xs : List X) → Among y (map g xs) → (x : X) × Among x xs × (y ≡ g x)
-Among-map_from g y [] h = absurd h
-Among-map_from g y (x ∷ xs) h =
-    elim h [
-      | inl e ↦ (x, inl refl, e)
-      | inr t ↦ (let (z, i, e) = Among-map_from g y xs t in (z, inr i, e))
-    ]
-
 pub filter-yes : {X : Type 0} (p : X → Bool) (x : X) (xs : List X) → p x ≡ true → filter p (x ∷ xs) ≡ x ∷ filter p xs
 filter-yes p x xs t = cond-true (p x) (x ∷ filter p xs) (filter p xs) t
 
@@ -142,7 +124,7 @@ filter-all p [] h = refl
 filter-all p (x ∷ xs) h =
     filter-yes p x xs (h x (inl refl)) ∙ ap (λ (ys : List _). x ∷ ys) (filter-all p xs (λ y i. h y (inr i)))
 
-same_list : {X : Type 0} (x : X) (xs ys : List X) → xs ≡ ys → Among x xs → Among x ys
+pub same_list : {X : Type 0} (x : X) (xs ys : List X) → xs ≡ ys → Among x xs → Among x ys
 same_list {X} x xs ys e h = let P : List X → Type 0 = λ zs. Among x zs in subst P e h
 
 pub Among-filter_from : {X : Type 0} (p : X → Bool) (x : X) (xs : List X) → Among x (filter p xs) → Among x xs × (p x ≡ true)

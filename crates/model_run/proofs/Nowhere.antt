@@ -1,5 +1,5 @@
 -- What goes to an address that no file has never comes.
-use Rattle.std.proofs.Common.{◌≡◌, ◌≢◌, ◌⊎◌, inl, inr, refl, sym, subst, ap, ◌∙◌, ℕ, zero, suc, ◌==◌, IsTrue, List, [], ◌∷◌, ◌++◌, length, Option, Some, None}
+use Rattle.std.proofs.Common.{◌≡◌, ◌≢◌, inl, inr, refl, sym, subst, ap, ◌∙◌, ℕ, IsTrue, List, [], ◌∷◌, ◌++◌, length, Option, Some, None}
 use Rattle.std.specs.Prelude.{Bool, true, false, if◌then◌else◌}
 use Rattle.std.specs.List.{AllByRecursion, list_any}
 use Rattle.model_graph.specs.Walk.{Among}
@@ -12,9 +12,9 @@ use Rattle.echo_filed.specs.Filed.{Filed, key_of}
 use Rattle.model_steps.specs.Scanning.{scanned}
 use Rattle.model_steps.specs.Stamps.{is_stamp}
 use Rattle.model_run.specs.Event.{RunEvent, Posting, Scanning, Delivery, PartDelivery, Purging}
-use Rattle.model_run.specs.Run.{Run, System, after_event, change, changing, coming, delivery, destination, nth, part_delivery, posting_at, purging_at, receiver, run_of, scanning, scanning_at, taking, with_index}
+use Rattle.model_run.specs.Run.{Run, System, after_event, change, changing, coming, delivery, destination, nth, part_delivery, posting_at, purging_at, receiver, run_of, scanning, scanning_at, taking}
 use Rattle.model_run.specs.Orderly.{Orderly, Settled, copies, tag_of}
-use Rattle.model_run.proofs.Lists.{Among-map_to, any-to, first_passes, none_some, nth-among, some_same}
+use Rattle.model_run.proofs.Lists.{any-to, first_passes, nth-among, with_index-from, nth-append as nth-more}
 use Rattle.model_run.specs.Grave.{ListsNobody}
 use Rattle.model_run.specs.Harms.{NeverSettles}
 use Rattle.model_run.specs.LawsOfRuns.{LawsOfRuns}
@@ -29,6 +29,8 @@ use Rattle.model_run.proofs.Tags.{link-area}
 use Rattle.model_run.proofs.HarmLists.{among-nth, nth-middle}
 use Rattle.model_run.proofs.Resting.{file-there}
 use Rattle.model_run.proofs.HarmSteps.{after_one_more, along, run-files}
+use Rattle.model_run.proofs.RulesLists.{Among-map_to}
+use Rattle.model_run.proofs.Targets.{some_same}
 
 -- where no file has the area, there is nothing that could go wrong
 pub nobody-orderly : (files : List LinkFile) (tag : List ℕ) → ¬ IsTrue (list_any (λ (file : LinkFile). has_area file tag) files) →
@@ -45,19 +47,6 @@ nobody-orderly files tag none events = record {
         let P : List LinkFile → Type 0 = λ fs. Among s.file fs in
         none (any-to (λ (file : LinkFile). has_area file tag) s.file files
         (subst P (run-files files events) (Among-map_to (λ (z : System). z.file) s (run_of files events).systems h)) has)
-
--- a packet stays under its index
-nth-more : {X : Type 0} (i : ℕ) (x : X) (xs ys : List X) → nth i xs ≡ Some x → nth i (xs ++ ys) ≡ Some x
-nth-more {X} i x [] ys h = absurd (none_some h)
-nth-more zero x (z ∷ xs) ys h = h
-nth-more (suc i) x (z ∷ xs) ys h = nth-more i x xs ys h
-
-with_index-from : (k j : ℕ) (ks : List ℕ) → Among j (with_index k ks) → (j ≡ k) ⊎ Among j ks
-with_index-from k j ks h = cases (list_any (λ d. d == k) ks) h
-  where
-    cases : (b : Bool) → Among j (if b then ks else k ∷ ks) → (j ≡ k) ⊎ Among j ks
-    cases true h = inr h
-    cases false h = h
 
 -- a packet that is for the address of a file
 record ToFile (files : List LinkFile) (run : Run) (k : ℕ) : Type 0 where

@@ -21,13 +21,15 @@ use Rattle.model_steps.specs.Stamps.{is_stamp}
 use Rattle.model_run.specs.Event.{RunEvent, Posting, Scanning, Delivery, PartDelivery, Purging}
 use Rattle.model_run.specs.Run.{System, Run, after_event, change, coming, delivery, destination, filing, fresh, nth, posting_at, receiver, run_of, scanning, scanning_at, taking, tossing_at}
 use Rattle.model_run.specs.Orderly.{copies, origin}
-use Rattle.model_run.proofs.Lists.{Among-take, first_passes, nth-among, nth-change, some_same, yes_or_no}
+use Rattle.model_run.proofs.Lists.{Among-take, first_passes, nth-among, nth-change, yes_or_no}
 use Rattle.model_run.specs.Postings.{IsMove, trial_moment, trial_posting, trial_draft}
 use Rattle.model_run.proofs.HarmLists.{nth-changed, nth-map, nth-map_from}
 use Rattle.model_run.specs.LawsOfRuns.{LawsOfRuns}
 use Rattle.model_run.proofs.Resting.{copy-there, export-of, file-there}
-use Rattle.model_run.proofs.HarmSteps.{along, after_one_more, taking-file, tossing-is, tossing-new}
+use Rattle.model_run.proofs.HarmSteps.{along, after_one_more, tossing-is, tossing-new}
 use Rattle.model_run.proofs.Tags.{upper-same}
+use Rattle.model_run.proofs.WholeRuns.{taking-file}
+use Rattle.model_run.proofs.Targets.{some_same}
 
 -- the message that it files
 abbrev pub post_of : LinkFile → List ℕ → Filed

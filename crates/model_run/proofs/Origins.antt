@@ -20,7 +20,7 @@ use Rattle.model_run.specs.Fits.{FilesFit}
 use Rattle.model_steps.specs.Stamps.{is_stamp}
 use Rattle.model_run.specs.Orderly.{copies, origin}
 use Rattle.model_run.proofs.TosserPremises.{Laws}
-use Rattle.model_run.proofs.Lists.{Among-change, Among-map_from, Among-map_to, Among-filter_from, Among-filter_to, Among-drop, Among-take, nth-among}
+use Rattle.model_run.proofs.Lists.{Among-change, Among-filter_from, Among-filter_to, Among-drop, Among-take, nth-among}
 use Rattle.model_steps.proofs.Posted.{posted_own}
 use Rattle.model_steps.proofs.Received.{tossing_received}
 use Rattle.model_run.proofs.Bases.{Kept-waiting, SystemOk}
@@ -28,6 +28,8 @@ use Rattle.model_run.proofs.WellFormed.{RunOk, event-ok, start-ok, scanned-from,
 use Rattle.model_run.specs.Keeping.{content_of}
 use Rattle.model_run.proofs.Copies.{copied, copied-content, copied-key, copies-are}
 use Rattle.model_run.proofs.StandingTosses.{origin-is}
+use Rattle.model_run.proofs.Filings.{filing-from as filing-new}
+use Rattle.model_run.proofs.RulesLists.{Among-map_to, Among-map_from}
 
 -- a posting of some system has the key and the content of the message
 abbrev pub Origin : List System → Filed → Type 0
@@ -69,14 +71,6 @@ Origin-kept i f keeps ss m from =
 filing-kept : (s : System) (o : Option Filed) (m : Filed) → Among m s.history → Among m (filing s o).history
 filing-kept s None m h = h
 filing-kept s (Some n) m h = Among-append_left m s.history (n ∷ []) h
-
-filing-new : (s : System) (o : Option Filed) (m : Filed) → Among m (filing s o).history → Among m s.history ⊎ (o ≡ Some m)
-filing-new s None m h = inl h
-filing-new s (Some n) m h =
-    elim (Among-append_cases m s.history (n ∷ []) h) [
-      | inl old ↦ inl old
-      | inr new ↦ elim new [ inl e ↦ inr (ap (λ (x : Filed). Some x) (sym e)) | inr t ↦ absurd t ]
-    ]
 
 pub tossing-kept : (sender : Address) (ms : List Message) → Keeps (tossing_at sender ms)
 tossing-kept sender [] s m h = h

@@ -11,9 +11,9 @@ use Rattle.model_run.proofs.TosserPremises.{Laws}
 use Rattle.model_run.proofs.Lists.{nth-among}
 use Rattle.model_run.proofs.WellFormed.{RunOk, event-ok}
 use Rattle.model_run.proofs.WholeRuns.{along}
-use Rattle.model_run.proofs.Histories.{among-nth}
 use Rattle.model_run.proofs.LaterSystems.{events-last}
 use Rattle.model_run.proofs.Renewal.{SameSystems, renewed-ok, renewed-to}
+use Rattle.model_run.proofs.HarmLists.{among-nth}
 
 -- each system of the one run is in the other one, where it has filed no less
 pub record Outlives (run after : Run) : Type 0 where

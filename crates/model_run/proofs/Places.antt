@@ -1,5 +1,5 @@
 -- In a net where each address has one file: which system has an address, and which links it lists.
-use Rattle.std.proofs.Common.{◌≡◌, inl, inr, refl, sym, subst, ap, ◌∙◌, ℕ, zero, suc, IsTrue, List, [], ◌∷◌, map, Some}
+use Rattle.std.proofs.Common.{◌≡◌, refl, sym, subst, ap, ◌∙◌, ℕ, zero, suc, IsTrue, List, [], ◌∷◌, map, Some}
 use Rattle.std.specs.Prelude.{true, ◌&&◌}
 use Rattle.echo_addr.specs.declared.address.Address.{Address}
 use Rattle.model_graph.specs.Walk.{Among, Different}
@@ -8,13 +8,16 @@ use Rattle.echo_links.proofs.Addresses.{same_address_decides}
 use Rattle.model_run.specs.Event.{RunEvent}
 use Rattle.model_run.specs.Run.{System, nth, run_of}
 use Rattle.model_run.specs.Tidy.{Carries, lists}
-use Rattle.model_run.proofs.Lists.{Among-map_to, and-from, and-parts, any-from, any-to, none_some, nth-among, some_same}
+use Rattle.model_run.proofs.Lists.{and-from, and-parts, any-from, any-to, nth-among}
 use Rattle.model_run.proofs.Entries.{link-among}
 use Rattle.model_run.specs.LawsOfRuns.{LawsOfRuns}
 use Rattle.model_run.proofs.HarmLists.{nth-map}
 use Rattle.model_run.proofs.Resting.{file-there}
 use Rattle.model_run.proofs.Tags.{link-area}
 use Rattle.model_run.proofs.HarmSteps.{run-files}
+use Rattle.model_run.proofs.RulesLists.{Among-map_to}
+use Rattle.model_run.proofs.Targets.{some_same, none_some}
+use Rattle.model_run.proofs.Areas.{one_name as different-same}
 
 -- in a list of different images an image stands at one index
 different-index : {X Y : Type 0} (g : X → Y) (xs : List X) → Different (map g xs) → (i j : ℕ) (x y : X) → nth i xs ≡ Some x → nth j xs ≡ Some y → g x ≡ g y → i ≡ j
@@ -27,22 +30,6 @@ different-index {X} {Y} g (z ∷ xs) d (suc i) zero x y at_i at_j e =
     let P : Y → Type 0 = λ w. Among w (map g xs) in
     absurd (d.0 (subst P (e ∙ ap g (sym (some_same at_j))) (Among-map_to g x xs (nth-among i x xs at_i))))
 different-index g (z ∷ xs) d (suc i) (suc j) x y at_i at_j e = ap suc (different-index g xs d.1 i j x y at_i at_j e)
-
--- and is of one of them
-different-same : {X Y : Type 0} (g : X → Y) (xs : List X) → Different (map g xs) → (x y : X) → Among x xs → Among y xs → g x ≡ g y → x ≡ y
-different-same g [] d x y h i e = absurd h
-different-same {X} {Y} g (z ∷ xs) d x y h i e =
-    let P : Y → Type 0 = λ w. Among w (map g xs) in
-    elim h [
-      | inl x_first ↦ elim i [
-        | inl y_first ↦ x_first ∙ sym y_first
-        | inr y_later ↦ absurd (d.0 (subst P (sym e ∙ ap g x_first) (Among-map_to g y xs y_later)))
-      ]
-      | inr x_later ↦ elim i [
-        | inl y_first ↦ absurd (d.0 (subst P (e ∙ ap g y_first) (Among-map_to g x xs x_later)))
-        | inr y_later ↦ different-same g xs d.1 x y x_later y_later e
-      ]
-    ]
 
 -- a file that has the area carries it, and lists its links
 pub file-carries : (files : List LinkFile) (tag : List ℕ) (file : LinkFile) → Among file files → has_area file tag ≡ true → Carries files tag file.system

@@ -11,7 +11,7 @@ use Rattle.model_run.specs.Run.{Run, System, filing, fresh, nth, run_of, scannin
 use Rattle.model_run.specs.Orderly.{sent_count}
 use Rattle.model_run.specs.Exports.{exports}
 use Rattle.model_run.specs.Tidy.{lists}
-use Rattle.model_run.proofs.Lists.{none_some, nth-among}
+use Rattle.model_run.proofs.Lists.{nth-among}
 use Rattle.model_run.specs.LawsOfRuns.{LawsOfRuns}
 use Rattle.model_run.specs.Harms.{SentItsOwn}
 use Rattle.model_run.specs.Postings.{post_and_scan, trial_moment, trial_posting}
@@ -23,6 +23,7 @@ use Rattle.model_run.proofs.OneMessage.{post_of, post_of-tag, posted-at}
 use Rattle.model_run.proofs.Places.{lists-file}
 use Rattle.model_run.proofs.HarmSteps.{after_one_more}
 use Rattle.model_run.proofs.Tags.{link-area}
+use Rattle.model_run.proofs.Targets.{none_some}
 
 module _ (files : List LinkFile) (known : LawsOfRuns files) (tag : List ℕ) (i : ℕ) (file : LinkFile) (is : nth i files ≡ Some file) (area : has_area file tag ≡ true) where
   abbrev pub scanned-poster : System

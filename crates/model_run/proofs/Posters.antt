@@ -6,7 +6,7 @@ use Rattle.model_graph.specs.Walk.{Among, Reaches, Simple}
 use Rattle.echo_links.specs.Links.{LinkFile}
 use Rattle.echo_filed.specs.Filed.{Filed}
 use Rattle.model_run.specs.Tidy.{Carries, Joined, lists}
-use Rattle.model_run.proofs.Lists.{none_some, nth-among}
+use Rattle.model_run.proofs.Lists.{nth-among}
 use Rattle.model_run.specs.Grave.{AllAreCarriers, AreTwins, HaveOwnAddresses, IsListedAlone}
 use Rattle.model_run.specs.LawsOfRuns.{LawsOfRuns}
 use Rattle.model_run.specs.Shown.{IsPinched, ShowsHarm, Trial}
@@ -14,6 +14,7 @@ use Rattle.model_run.proofs.Branches.{Touches, closed-by, no_way_around}
 use Rattle.model_run.proofs.Holders.{Holds, harm-or_none, spread}
 use Rattle.model_run.proofs.Places.{carrier-area, lister-carries}
 use Rattle.model_run.proofs.Spreads.{IsNear, Spread, answered, from_poster, no_kite, not_hidden, reached}
+use Rattle.model_run.proofs.Targets.{none_some}
 
 module _ (files : List LinkFile) (known : LawsOfRuns files) (tag : List ℕ) (one_file : HaveOwnAddresses files) (all_known : AllAreCarriers files tag) where
   abbrev linked : Address → Address → Bool

@@ -24,7 +24,7 @@ use Rattle.model_run.specs.Run.{System, Run, change, coming, delivery, destinati
 use Rattle.model_run.specs.Orderly.{Settled, copies, origin}
 use Rattle.model_run.specs.Exports.{Export, exports}
 use Rattle.model_run.specs.Tidy.{lists}
-use Rattle.model_run.proofs.Lists.{Among-change, Among-filter_to, Among-map_from, Among-map_to, Among-take, and-from, and-parts, any-from, any-to, none_some, not_both, nth-among, nth-change, some_same}
+use Rattle.model_run.proofs.Lists.{Among-change, Among-filter_to, Among-take, and-from, and-parts, any-from, any-to, not_both, nth-among, nth-change}
 use Rattle.model_run.specs.Grave.{AllAreCarriers}
 use Rattle.model_run.specs.Postings.{IsMove, trial_moment}
 use Rattle.model_run.proofs.Entries.{among-link, exported-tag, target-link}
@@ -32,6 +32,8 @@ use Rattle.model_run.proofs.HarmLists.{none_passes, among-nth, nth-index, nth-mi
 use Rattle.model_run.specs.LawsOfRuns.{LawsOfRuns}
 use Rattle.model_run.proofs.Lacking.{all_lacking, change-fewer, change-same, lacking, tossing-fewer}
 use Rattle.model_run.proofs.HarmSteps.{after_one_more, all-append, run-files, tossing-is, tossing-new}
+use Rattle.model_run.proofs.RulesLists.{Among-map_to, Among-map_from}
+use Rattle.model_run.proofs.Targets.{some_same, none_some}
 
 -- the key of a received message does not hang on its sender
 key-same : (a b : Address) (q : Message) (o : Option (List ℕ)) → key_with (received a q) o ≡ key_with (received b q) o

@@ -20,7 +20,7 @@ use Rattle.model_run.specs.Run.{Run, System, change, coming, delivery, destinati
 use Rattle.model_run.specs.Orderly.{tag_of}
 use Rattle.model_run.specs.World.{is_settled, missing, undelivered}
 use Rattle.model_run.proofs.Copies.{packet-destination}
-use Rattle.model_run.proofs.Lists.{Among-drop, Among-take, any-to, none_some, not_both, nth-among}
+use Rattle.model_run.proofs.Lists.{Among-drop, Among-take, any-to, not_both, nth-among}
 use Rattle.model_run.proofs.TosserLaws.{the_laws}
 use Rattle.model_run.proofs.WellFormed.{scanned-from}
 use Rattle.model_run.specs.Grave.{AllAreCarriers}
@@ -36,6 +36,7 @@ use Rattle.model_run.proofs.OneMessage.{only-posted, post_of, post_of-tag}
 use Rattle.model_run.proofs.Places.{carrier-file, file-lists}
 use Rattle.model_run.proofs.Resting.{Scanned, Within, file-there, new-key, packed-within, scanned-more, system-there, taken-within, with_index-new, with_index-old}
 use Rattle.model_run.proofs.HarmSteps.{after_one_more, run-files}
+use Rattle.model_run.proofs.Targets.{none_some}
 
 among-flat : {X Y : Type 0} (g : X → List Y) (y : Y) (xs : List X) → Among y (flat_map g xs) → (x : X) × Among x xs × Among y (g x)
 among-flat g y [] h = absurd h

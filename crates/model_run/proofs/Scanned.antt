@@ -21,14 +21,16 @@ use Rattle.model_run.specs.Orderly.{count, origin, sent_count, tag_of}
 use Rattle.model_run.specs.Keeping.{Content, IsFiledIn, IsHistory, IsSent, copy_count, filed_as, said, sent_as}
 use Rattle.model_run.proofs.Counts.{one_if}
 use Rattle.model_run.proofs.TosserPremises.{Laws}
-use Rattle.model_run.proofs.Lists.{yes_or_no, not_both, and-parts, filter-yes, filter-no, nth-append, some_same, Among-drop, Among-filter_from, Among-filter_to, Among-map_from, Among-map_to}
+use Rattle.model_run.proofs.Lists.{yes_or_no, not_both, and-parts, filter-yes, filter-no, nth-append, Among-drop, Among-filter_from, Among-filter_to, same_list as Among-in}
 use Rattle.model_run.proofs.Bases.{Kept-length, SystemOk}
 use Rattle.model_run.proofs.Areas.{address_of, bytes-equal, bytes-same, key-tag}
 use Rattle.model_run.proofs.Copies.{copied, copied-key, copied-tag, goes-from, goes-to, targets-from, targets-to}
 use Rattle.model_run.proofs.DeliveredOnce.{IsDeliveredOnce}
 use Rattle.model_run.proofs.ScanPackets.{scanned-copied, scanned-count, scanned-origin, target-packet}
 use Rattle.model_run.proofs.ExportLists.{sent-append}
-use Rattle.model_run.proofs.Histories.{Among-in, RCopy, REvent, RFiled, filed-after, filed-before, filed-new}
+use Rattle.model_run.proofs.Histories.{RCopy, REvent, RFiled, filed-after, filed-before, filed-new}
+use Rattle.model_run.proofs.RulesLists.{Among-map_to, Among-map_from}
+use Rattle.model_run.proofs.Targets.{some_same}
 
 -- how many copies went to an address, of lists put together, and of one message
 copy_count-append : (x : Address) (k : Key) (cs ds : List RCopy) → copy_count x k (cs ++ ds) ≡ copy_count x k cs + copy_count x k ds

@@ -13,7 +13,7 @@ use Rattle.model_steps.specs.Stamps.{is_stamp}
 use Rattle.model_run.specs.Event.{RunEvent, Posting, Scanning, Delivery, PartDelivery, Purging}
 use Rattle.model_run.specs.Run.{Run, System, after_event, change, coming, delivery, destination, fresh, nth, posting_at, receiver, run_of, scanning, scanning_at, taking}
 use Rattle.model_run.specs.Orderly.{count}
-use Rattle.model_run.proofs.Lists.{first_passes, none_some, not_both, nth-among, nth-change, some_same, yes_or_no}
+use Rattle.model_run.proofs.Lists.{first_passes, not_both, nth-among, nth-change, yes_or_no}
 use Rattle.model_run.specs.Grave.{AllAreCarriers}
 use Rattle.model_run.specs.Harms.{IsHarmed}
 use Rattle.model_run.specs.LawsOfRuns.{LawsOfRuns}
@@ -23,6 +23,7 @@ use Rattle.model_run.proofs.HarmLists.{nth-map_from}
 use Rattle.model_run.proofs.OneMessage.{post_of, post_of-tag, poster}
 use Rattle.model_run.proofs.Resting.{runs-settle}
 use Rattle.model_run.proofs.HarmSteps.{after_one_more, along, run-files}
+use Rattle.model_run.proofs.Targets.{some_same, none_some}
 
 -- no item that passes stands before the first
 first_is_least : {X : Type 0} (p : X → Bool) (xs : List X) (i : ℕ) (x : X) → nth i xs ≡ Some x → p x ≡ true → position_or_len p xs ≤ i

@@ -10,7 +10,8 @@ use Rattle.echo_links.proofs.Addresses.{same_address_decides}
 use Rattle.echo_links.specs.Links.{same_address}
 use Rattle.echo_filed.specs.Filed.{Filed}
 use Rattle.model_steps.specs.Scanning.{is_seen_by}
-use Rattle.model_run.proofs.Lists.{none_some, not_both, some_same, yes_or_no}
+use Rattle.model_run.proofs.Lists.{not_both, yes_or_no}
+use Rattle.model_run.proofs.Targets.{some_same, none_some}
 
 -- y has the net and node of u or of a link of u
 abbrev pub IsNear : (Address → Address → Bool) → Address → Address → Type 0

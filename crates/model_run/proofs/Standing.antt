@@ -23,12 +23,13 @@ use Rattle.model_run.specs.AreaNets.{net_of}
 use Rattle.model_run.specs.Keeping.{Content, IsHistory, filed_as, said}
 use Rattle.model_run.proofs.Counts.{Tells-can}
 use Rattle.model_run.proofs.TosserPremises.{Laws}
-use Rattle.model_run.proofs.Lists.{map-change, not_both, nth-among, none_some}
+use Rattle.model_run.proofs.Lists.{map-change, not_both, nth-among, same_list as Among-in}
 use Rattle.model_run.proofs.Bases.{HasKey, Kept-cursor, SystemOk}
 use Rattle.model_run.proofs.WellFormed.{RunOk}
 use Rattle.model_run.proofs.Areas.{Wrote, address_of, one-system, one-writer, tidy-net}
 use Rattle.model_run.proofs.DeliveredOnce.{IsDeliveredOnce}
-use Rattle.model_run.proofs.Histories.{Among-in, RCopy, REvent, RFiled, before-then, history-changes}
+use Rattle.model_run.proofs.Histories.{RCopy, REvent, RFiled, before-then, history-changes}
+use Rattle.model_run.proofs.Targets.{none_some}
 
 -- contents are compared by equality
 abbrev pub Equal : Content → Content → Type 0

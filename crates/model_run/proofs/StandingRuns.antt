@@ -26,11 +26,11 @@ use Rattle.model_run.specs.Tidy.{Tidy}
 use Rattle.model_run.specs.Fits.{FilesFit}
 use Rattle.model_run.specs.AreaNets.{net_of}
 use Rattle.model_run.proofs.TosserPremises.{Laws}
-use Rattle.model_run.proofs.Lists.{change-none, first_passes, not_both, nth-among, nth-cases, some_same, yes_or_no, with_index-from, Among-filter_from, Among-map_from, Among-take}
+use Rattle.model_run.proofs.Lists.{change-none, first_passes, not_both, nth-among, nth-cases, yes_or_no, with_index-from, Among-filter_from, Among-take, same_list as Among-in}
 use Rattle.model_run.proofs.Bases.{HasKey, SystemOk}
 use Rattle.model_run.proofs.WellFormed.{RunOk, changing-ok, event-ok, posted-fresh, posting-ok, purging-ok, start-ok}
 use Rattle.model_run.proofs.Areas.{address_of, area-carries, bytes-equal, bytes-same}
-use Rattle.model_run.proofs.Histories.{Among-in, REvent}
+use Rattle.model_run.proofs.Histories.{REvent}
 use Rattle.model_run.proofs.WholeRuns.{along, filing-file, fresh-empty, fresh-files}
 use Rattle.model_run.proofs.DeliveredOnce.{IsDeliveredOnce, event-once}
 use Rattle.model_run.specs.Keeping.{sent_as}
@@ -38,6 +38,8 @@ use Rattle.model_run.specs.Events as rules
 use Rattle.model_run.proofs.Standing.{Equal, Standing, stands-idle, stands-other, stands-posted, stands-still}
 use Rattle.model_run.proofs.StandingScans.{stands-scanned}
 use Rattle.model_run.proofs.StandingTosses.{Tossed, none_or_some, origin-is, toss-all}
+use Rattle.model_run.proofs.RulesLists.{Among-map_from}
+use Rattle.model_run.proofs.Targets.{some_same}
 
 posted-tag : (file : LinkFile) (tag : List ℕ) (draft : Draft) (serial : ℕ) (stamp : Stamp) → (posted file tag draft serial stamp).echo.tag ≡ upper tag
 unfolding posted

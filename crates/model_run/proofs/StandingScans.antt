@@ -26,16 +26,17 @@ use Rattle.model_run.specs.AreaNets.{net_of}
 use Rattle.model_run.specs.Keeping.{IsHistory, filed_as}
 use Rattle.model_run.proofs.Counts.{count-has}
 use Rattle.model_run.proofs.TosserPremises.{Laws}
-use Rattle.model_run.proofs.Lists.{any-from, any-to, map-change, nth-among, Among-drop, Among-map_from, Among-map_to}
+use Rattle.model_run.proofs.Lists.{any-from, any-to, map-change, nth-among, Among-drop, same_list as Among-in}
 use Rattle.model_run.proofs.Bases.{SystemOk, count-is}
 use Rattle.model_run.proofs.WellFormed.{RunOk}
 use Rattle.model_run.proofs.Areas.{Wrote, address_of, link-lists, lists-link, one-system, tidy-net}
 use Rattle.model_run.proofs.Copies.{copied, copied-content, copied-key, copied-seen, seen-copied, targets-from, targets-to}
 use Rattle.model_run.proofs.DeliveredOnce.{IsDeliveredOnce}
-use Rattle.model_run.proofs.Histories.{Among-in, REvent, RFiled, before-then}
+use Rattle.model_run.proofs.Histories.{REvent, RFiled, before-then}
 use Rattle.model_run.proofs.ExportLists.{count-append, count-filter}
 use Rattle.model_run.proofs.Scanned.{export, exported-are, exports, exports-append, filed-are, history-scans, waits, waits-from}
 use Rattle.model_run.proofs.Standing.{Equal, Standing, filed-event}
+use Rattle.model_run.proofs.RulesLists.{Among-map_to, Among-map_from}
 
 module _ (laws : Laws) (files : List LinkFile) (tag : List ℕ) (tidy : Tidy files tag) (past : List REvent) (run : Run) (st : Standing files tag past run)
     (i : ℕ) (s : System) (at_s : nth i run.systems ≡ Some s) (stamp : Stamp) where

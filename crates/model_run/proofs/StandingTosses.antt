@@ -22,13 +22,15 @@ use Rattle.model_run.specs.Tidy.{Tidy, lists}
 use Rattle.model_run.specs.AreaNets.{net_of}
 use Rattle.model_run.specs.Keeping.{sent_as}
 use Rattle.model_run.proofs.TosserPremises.{Laws}
-use Rattle.model_run.proofs.Lists.{nth-among, nth-changed, none_some, yes_or_no, not_both, Among-map_to, Among-filter_to}
+use Rattle.model_run.proofs.Lists.{nth-among, nth-changed, yes_or_no, not_both, Among-filter_to, same_list as Among-in}
 use Rattle.model_run.proofs.Bases.{HasKey, SystemOk, known-in_history}
 use Rattle.model_run.proofs.WellFormed.{PacketOk, RunOk, changing-ok, received-echo, tossed-fresh, tossing_one-ok}
 use Rattle.model_run.proofs.Areas.{address_of, bytes-equal, bytes-same, key-tag, link-has_area, lists-link, tidy-net}
 use Rattle.model_run.proofs.WholeRuns.{filing-file}
-use Rattle.model_run.proofs.Histories.{Among-in, REvent, RCopy}
+use Rattle.model_run.proofs.Histories.{REvent, RCopy}
 use Rattle.model_run.proofs.Standing.{Equal, Standing, can, can_keys, equal-compares, filed-here, stands-idle, stands-known, stands-other, stands-tossed}
+use Rattle.model_run.proofs.RulesLists.{Among-map_to}
+use Rattle.model_run.proofs.Targets.{none_some}
 
 pub none_or_some : {X : Type 0} (o : Option X) → (o ≡ None) ⊎ ((x : X) × (o ≡ Some x))
 none_or_some None = inl refl

@@ -20,18 +20,19 @@ use Rattle.model_run.specs.Epochs.{Epoch, IsOf, OrderlyThroughout, PostedBetween
 use Rattle.model_run.proofs.Counts as counts
 use Rattle.model_run.proofs.Counts.{Tells}
 use Rattle.model_run.proofs.TosserPremises.{Laws}
-use Rattle.model_run.proofs.Lists.{and-from, and-parts, Among-map_to}
+use Rattle.model_run.proofs.Lists.{and-from, and-parts, same_list as Among-in}
 use Rattle.model_run.proofs.Bases.{HasKey, Kept-back, Kept-count, count-is}
 use Rattle.model_run.proofs.WellFormed.{RunOk, filed-once}
 use Rattle.model_run.proofs.Areas.{address_of, key-tag, tidy-net}
 use Rattle.model_run.proofs.WholeRuns.{fresh-empty}
-use Rattle.model_run.proofs.Histories.{Among-in, REvent, RCopy}
+use Rattle.model_run.proofs.Histories.{REvent, RCopy}
 use Rattle.model_run.proofs.Renewal.{renewed-back}
 use Rattle.model_run.proofs.Standing.{Equal, can, can_keys, equal-compares, filed-event, filed-here}
 use Rattle.model_run.proofs.StandingRuns.{events-stand, start-stands}
 use Rattle.model_run.proofs.OverChanges.{epochs-ok, events-outlive}
 use Rattle.model_run.proofs.Changes.{Change, Owed, Stands, entered, filed-p, owed-begins, owed-epoch, paid, same-systems, spared, stands-epoch}
 use Rattle.model_run.proofs.Unchanged.{filed-unchanged, same-parts}
+use Rattle.model_run.proofs.RulesLists.{Among-map_to}
 
 -- epochs one after another
 pub epochs-append : (earlier later : List Epoch) (run : Run) → after_epochs run (earlier ++ later) ≡ after_epochs (after_epochs run earlier) later

@@ -5,13 +5,14 @@ use Rattle.std.specs.List.{AllByRecursion}
 use Rattle.echo_links.specs.Links.{LinkFile, has_area}
 use Rattle.model_run.specs.Event.{RunEvent}
 use Rattle.model_run.specs.Run.{nth}
-use Rattle.model_run.proofs.Lists.{none_some, not_both, nth-cases, some_same, yes_or_no}
+use Rattle.model_run.proofs.Lists.{not_both, nth-cases, yes_or_no}
 use Rattle.model_run.specs.Grave.{AllAreCarriers, GraveFault, HaveOwnAddresses}
 use Rattle.model_run.specs.LawsOfRuns.{LawsOfRuns}
 use Rattle.model_run.specs.Postings.{ComesToRest, IsMove, trial_posting}
 use Rattle.model_run.proofs.Faults.{not_grave}
 use Rattle.model_run.proofs.Holders.{Unharmed}
 use Rattle.model_run.proofs.Resting.{runs-settle}
+use Rattle.model_run.proofs.Targets.{some_same, none_some}
 
 module _ (files : List LinkFile) (known : LawsOfRuns files) (tag : List ℕ) (one_file : HaveOwnAddresses files) (all_known : AllAreCarriers files tag) where
   -- these moves after the posting do no harm

@@ -29,10 +29,11 @@ use Rattle.echo_links.specs.Links.{IsFile}
 use Rattle.model_run.specs.Fits.{FilesFit}
 use Rattle.model_run.specs.Orderly.{count}
 use Rattle.model_run.proofs.TosserPremises.{Laws}
-use Rattle.model_run.proofs.Lists.{not_both, Among-map_from, Among-filter_from, Among-take, Among-drop, change-all, nth-among}
+use Rattle.model_run.proofs.Lists.{not_both, Among-filter_from, Among-take, Among-drop, change-all, nth-among}
 use Rattle.model_steps.proofs.Posted.{posting_posted}
 use Rattle.model_steps.proofs.Received.{tossing_received}
 use Rattle.model_run.proofs.Bases.{Kept-count, Kept-scanned, Kept-purged, Kept-waiting, SystemOk, HasKey, known-from_history, id-from_history, filing-ok}
+use Rattle.model_run.proofs.RulesLists.{Among-map_from}
 
 -- of a packet at any time
 pub record PacketOk (p : Packet) : Type 0 where

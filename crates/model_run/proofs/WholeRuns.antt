@@ -17,14 +17,15 @@ use Rattle.model_run.specs.Event.{RunEvent, Posting, Scanning, Delivery, PartDel
 use Rattle.model_run.specs.Run.{System, Run, filing, fresh, posting_at, tossing_at, scanning_at, purging_at, nth, change, receiver, scanning, taking, coming, delivery, part_delivery, after_event, after_events, run_of, start}
 use Rattle.model_run.specs.Fits.{FilesFit}
 use Rattle.model_run.proofs.TosserPremises.{Laws}
-use Rattle.model_run.proofs.Lists.{map-change, Among-map_from}
+use Rattle.model_run.proofs.Lists.{map-change}
 use Rattle.model_run.proofs.WellFormed.{RunOk, event-ok, start-ok}
+use Rattle.model_run.proofs.RulesLists.{Among-map_from}
 
 pub filing-file : (s : System) (o : Option Filed) → (filing s o).file ≡ s.file
 filing-file s None = refl
 filing-file s (Some m) = refl
 
-tossing-file : (sender : Address) (ms : List Message) (s : System) → (tossing_at sender ms s).file ≡ s.file
+pub tossing-file : (sender : Address) (ms : List Message) (s : System) → (tossing_at sender ms s).file ≡ s.file
 tossing-file sender [] s = refl
 tossing-file sender (q ∷ ms) s =
     tossing-file sender ms (filing s (tossing s.file s.base sender q)) ∙ filing-file s (tossing s.file s.base sender q)
@@ -48,7 +49,7 @@ scanning-files run i stamp (Some s) = scans (is_stamp stamp)
     scans true = map-change (λ (t : System). t.file) i scanning_at (λ t. refl) run.systems
     scans false = refl
 
-taking-file : (p : Packet) (n : ℕ) (s : System) → (taking p n s).file ≡ s.file
+pub taking-file : (p : Packet) (n : ℕ) (s : System) → (taking p n s).file ≡ s.file
 taking-file p n s = tossing-file (sender_of s.file p.header) (take n p.messages) s
 
 coming-files : (run : Run) (k : ℕ) (p : Packet) (found : Option System) → files_of (coming run k p found) ≡ files_of run

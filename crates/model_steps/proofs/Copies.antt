@@ -96,7 +96,7 @@ pub copy_keeps_key : (file : LinkFile) (from to : Address) (m : Filed) → IsFil
 copy_keeps_key file from to m h is = ap key_of (copy_read_back file from to m h is) ∙ exported_key file m (Some from)
 
 -- what holds of each of a list holds of those that pass a test, and of the last ones
-all_filter : {X : Type 0} (P : X → Type 0) (p : X → Bool) (xs : List X) → AllByRecursion P xs → AllByRecursion P (filter p xs)
+pub all_filter : {X : Type 0} (P : X → Type 0) (p : X → Bool) (xs : List X) → AllByRecursion P xs → AllByRecursion P (filter p xs)
 all_filter P p [] all = tt
 all_filter {X} P p (x ∷ xs) all =
     let Q : List X → Type 0 = λ l. AllByRecursion P l in
@@ -105,7 +105,7 @@ all_filter {X} P p (x ∷ xs) all =
       | inr fails ↦ subst Q (sym (cond-false (p x) (x ∷ filter p xs) (filter p xs) fails)) (all_filter P p xs all.1)
     ]
 
-all_later : {X : Type 0} (P : X → Type 0) (n : ℕ) (xs : List X) → AllByRecursion P xs → AllByRecursion P (drop n xs)
+pub all_later : {X : Type 0} (P : X → Type 0) (n : ℕ) (xs : List X) → AllByRecursion P xs → AllByRecursion P (drop n xs)
 all_later P zero xs all = all
 all_later P (suc n) [] all = tt
 all_later P (suc n) (x ∷ xs) all = all_later P n xs all.1

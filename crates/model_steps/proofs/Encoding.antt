@@ -8,6 +8,7 @@ use Rattle.echo_packet.specs.Message.{FromName, IsMessage, Message, Subject, Tex
 use Rattle.echo_packet.specs.Packet.{PacketOf, packet_bytes}
 use Rattle.echo_packet.proofs.MessageByMessage.{messages_bytes-push}
 use Rattle.echo_filed.proofs.Plain.{all_append}
+use Rattle.echo_packet.proofs.Outcome.{length-messages as counted}
 
 -- a message of a text of its own length
 abbrev pub IsWhole : Message → Type 0
@@ -33,7 +34,7 @@ text_within : (m : Message) → length m.text < length (message_bytes m)
 text_within m = omega (arith, length-append (before Text m) (zero_ended m.text), length-append m.text (0 ∷ []))
 
 -- whole messages of few bytes keep a great limit
-longer : (most : ℕ) (m : Message) → IsWhole m → length m.text ≤ most → IsMessage most m
+pub longer : (most : ℕ) (m : Message) → IsWhole m → length m.text ≤ most → IsMessage most m
 longer most m is room = record {
   orig_node = is.orig_node;
   dest_node = is.dest_node;
@@ -55,10 +56,6 @@ each_longer most (m ∷ ms) all room =
     let sum = length-append (message_bytes m) (messages_bytes ms) in
     let text = text_within m in
     (longer most m all.0 (omega (arith, sum, text)), each_longer most ms all.1 (omega (arith, sum)))
-
-counted : (ms : List Message) → length ms ≤ length (messages_bytes ms)
-counted [] = omega arith
-counted (m ∷ ms) = omega (arith, length-append (message_bytes m) (messages_bytes ms), text_within m, counted ms)
 
 -- how many bytes a message has
 pub length-message_bytes : (m : Message) → length m.date ≡ 20

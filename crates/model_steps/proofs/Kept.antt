@@ -1,8 +1,7 @@
 -- What is filed keeps what holds of each base.
-use Rattle.std.proofs.Common.{◌≡◌, ℕ, ◌-◌, ◌*◌, ◌≤◌, nat_lt, nat_le, true, false, List, [], ◌∷◌, ◌++◌, length, drop, codes, sym, ap, subst, ◌∙◌, Some, None, arith}
-use Rattle.std.specs.Int.{is_in_range}
+use Rattle.std.proofs.Common.{◌≡◌, ℕ, ◌-◌, ◌*◌, ◌≤◌, nat_lt, true, false, List, [], ◌∷◌, ◌++◌, length, drop, codes, sym, ap, subst, ◌∙◌, Some, None, arith}
 use Rattle.std.specs.List.{list_any}
-use Rattle.std.proofs.lemmas.Bool.{and_parts, leb-true, ltb-false, or_parts}
+use Rattle.std.proofs.lemmas.Bool.{ltb-false, or_parts}
 use Rattle.std.proofs.lemmas.List.{length-append, length-drop, length-take}
 use Rattle.echo_addr.specs.declared.address.Address.{Address}
 use Rattle.echo_packet.specs.Message.{IsMessage, Message, max_name, max_subject}
@@ -24,6 +23,7 @@ use Rattle.echo_filed.proofs.Texts.{says_read}
 use Rattle.echo_filed.proofs.Plain.{some_bytes}
 use Rattle.base_file.proofs.Entries.{none_known, one_more}
 use Rattle.model_steps.proofs.Posted.{posted_id, posted_is_echo, posting_posted}
+use Rattle.model_steps.proofs.Dates.{month_within as month_right}
 
 -- DateTime has 20 bytes
 month_long : (month : ℕ) → 1 ≤ month → month ≤ 12 → length (month_name month) ≡ 3
@@ -33,12 +33,6 @@ month_long month low high =
       length-take 3 (drop (3 * (month - 1)) (codes "JanFebMarAprMayJunJulAugSepOctNovDec")),
       length-drop (3 * (month - 1)) (codes "JanFebMarAprMayJunJulAugSepOctNovDec"),
     )
-
-month_right : (s : Stamp) → is_stamp s ≡ true → (1 ≤ s.month) × (s.month ≤ 12)
-month_right s h =
-    let rest = (and_parts (is_in_range 1980 2079 s.year) _ h).1 in
-    let range = and_parts (nat_le 1 s.month) (nat_le s.month 12) (and_parts (is_in_range 1 12 s.month) _ rest).0 in
-    (leb-true 1 s.month range.0, leb-true s.month 12 range.1)
 
 abbrev after_month : Stamp → List ℕ
 after_month s =

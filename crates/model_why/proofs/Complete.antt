@@ -1,5 +1,5 @@
 -- What is not found in a run is not there.
-use Rattle.std.proofs.Common.{◌≡◌, ◌∙◌, refl, sym, subst, ap, ℕ, zero, suc, ◌<◌, ◌≤◌, arith, List, [], ◌∷◌, length, Option, Some, None}
+use Rattle.std.proofs.Common.{◌≡◌, ◌∙◌, refl, sym, subst, ap, ℕ, ◌<◌, ◌≤◌, arith, List, Option, Some, None}
 use Rattle.std.specs.Prelude.{Bool, true, false, ◌&&◌, MatchOption, bytes_eq, option_map, unwrap_or}
 use Rattle.echo_addr.specs.declared.address.Address.{Address}
 use Rattle.echo_text.specs.Echo.{msgid_of}
@@ -27,11 +27,6 @@ none_left (Some x) other = absurd (other x refl)
 pub at_none : {X : Type 0} (P : Type 0) (Q : X → Type 0) (o : Option X) → ((x : X) → o ≡ Some x → ⊥) → MatchOption o P Q → P
 at_none P Q None other h = h
 at_none P Q (Some x) other h = absurd (other x refl)
-
-pub nth-within : {X : Type 0} (i : ℕ) (x : X) (xs : List X) → nth i xs ≡ Some x → i < length xs
-nth-within i x [] h = absurd (cc)
-nth-within zero x (y ∷ xs) h = omega arith
-nth-within (suc i) x (y ∷ xs) h = omega (arith, nth-within i x xs h)
 
 -- the message that is read off is the posting
 pub no_message : {m : Filed} → (let none : Option Filed = None in none ≡ Some m) → ⊥

@@ -38,12 +38,6 @@ sent-more to key k n p ps e h =
     let next : n ≡ suc k = omega (arith, e) in
     ap (λ (i : ℕ). sent_count to key (take i ps)) next ∙ sent-step to key k p ps h
 
--- the packet of an index
-pub nth-there : {X : Type 0} (i : ℕ) (xs : List X) → i < length xs → (x : X) × (nth i xs ≡ Some x)
-nth-there i [] h = absurd (omega arith)
-nth-there zero (x ∷ xs) h = (x, refl)
-nth-there (suc i) (x ∷ xs) h = nth-there i xs (omega arith)
-
 -- whether a message is a copy
 abbrev pub is_one : Address → Key → Message → Bool
 is_one sender key q = is_none (text_refusal q.text) && same_key (key_of (received sender q)) key

@@ -13,8 +13,8 @@ use Rattle.model_run.specs.Harms.{Harm}
 use Rattle.model_why.specs.declared.shown.Harm.{Harm as Told}
 use Rattle.model_why.specs.declared.shown.Harm.TheVariants.{NeverGets, NeverSettles, SentAgain, SentOwn}
 use Rattle.model_why.specs.Found.{BreaksIt, HasHarm, HasPosted}
-use Rattle.model_why.proofs.Counting.{nth-there}
 use Rattle.model_why.proofs.Judged.{in-nth, nth-in}
+use Rattle.model_run.proofs.HarmLists.{nth-below as nth-there}
 
 -- a purge leaves sender and tag
 stub-sender : (m : Filed) (o : Option (List ℕ)) → (stub_with m o).sender ≡ m.sender

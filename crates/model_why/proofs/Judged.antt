@@ -18,10 +18,7 @@ use Rattle.model_run.specs.World.{area_count, filed_at}
 use Rattle.model_replay.specs.Worlds.{message_at}
 use Rattle.model_why.specs.Found.{CarriesAt, GoesToNobody, HasPosted, IsCarrierAt, IsNeverGot, IsSentAgain, IsSentOwn, PostedAt}
 use Rattle.model_why.proofs.Counting.{has_key}
-
-and-both : (a b : Bool) → a && b ≡ true → (a ≡ true) × (b ≡ true)
-and-both true b h = (refl, h)
-and-both false b h = absurd (cc)
+use Rattle.model_run.proofs.Lists.{and-parts as and-both}
 
 -- a posting of this tag and id
 pub is_posted : (m : Filed) (tag id of : List ℕ) (found : Option (List ℕ)) → m.sender ≡ None → of ≡ m.echo.tag → found ≡ msgid_of m.echo.kept →

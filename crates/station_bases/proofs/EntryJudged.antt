@@ -27,7 +27,7 @@ use Rattle.station_bases.specs.Entries.{AreEntriesOf, HoldEntries, KeepForms, en
 use Rattle.station_bases.specs.EntryOpening.{AreJudged, IsPartOf, IsSoundIn}
 use Rattle.station_bases.specs.declared.entry_opening.Piece.{Piece}
 use Rattle.station_bases.specs.declared.entries.Entries.{Entries}
-use Rattle.station_bases.proofs.EntryMore.{keep_more}
+use Rattle.station_bases.proofs.EntryMore.{keep_more, head_long as head_size}
 
 true_of_not : (b : Bool) → not b ≡ false → b ≡ true
 true_of_not true h = refl
@@ -61,10 +61,6 @@ one_alone s cursor earlier h =
 all_alone : (cursor : ℕ) (earlier : List Filed) (all : List Stored) → AreSound Second cursor earlier all → AllByRecursion MayStandAlone all
 all_alone cursor earlier [] sound = tt
 all_alone cursor earlier (s ∷ later) sound = (one_alone s cursor earlier sound.0, all_alone cursor (earlier ++ message_in Second s ∷ []) later sound.1)
-
-head_size : (cursor number : ℕ) → length (head_bytes Second cursor number) ≡ 16
-unfolding head_bytes
-head_size cursor number = refl
 
 head_front : (cursor number : ℕ) (rest : List ℕ) → take 8 (head_bytes Second cursor number ++ rest) ≡ magic Second
 unfolding head_bytes

@@ -192,9 +192,6 @@ pub saved_held : (file : List ℕ) (e : Entries) (base : Base) → HoldEntries f
 saved_held file e base was =
     (λ i. head_bytes Second (was.cursor i) (many_held file e base was i) ++ was.saved i) ∙ saved_parts base.cursor base.messages
 
-pub held_is_base : (file : List ℕ) (e : Entries) (base : Base) → HoldEntries file e base → IsBase base.messages base.cursor
-held_is_base file e base was = was.files.holds
-
 -- and are loaded as the base
 pub held_loads : (file bytes : List ℕ) (e : Entries) (base : Base) → bytes ≡ file_bytes file e → HoldEntries file e base → LoadOf bytes (Ok (base.messages, base.cursor, length (saved_bytes base.messages base.cursor)))
 held_loads file bytes e base is was =
@@ -202,7 +199,7 @@ held_loads file bytes e base is was =
     (saved_loads base.messages base.cursor [] was.files.holds was.countable)
 
 -- the bytes of a base file behind its head
-head_long : (cursor number : ℕ) → length (head_bytes Second cursor number) ≡ 16
+pub head_long : (cursor number : ℕ) → length (head_bytes Second cursor number) ≡ 16
 unfolding head_bytes
 head_long cursor number = refl
 

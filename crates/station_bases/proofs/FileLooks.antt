@@ -20,14 +20,7 @@ use Rattle.station_bases.specs.declared.held.Held.TheVariants.{Apart}
 use Rattle.station_bases.proofs.EntryMore.{few_held, held_loads, many_held}
 use Rattle.station_bases.proofs.Written.{may_commit, put_now, put_run}
 use Rattle.station_bases.specs.declared.held.Held.{Held}
-
--- where a base is held, an answer is not that a message is damaged
-not_damaged : {T : Type 0} (P : T → Type 0) (r : Result T StoreError) → Answers P r → IsErrOf r error.Damaged → ⊥
-not_damaged P (Ok value) was is = absurd (cc)
-not_damaged P (Err error.Damaged) was is = was
-not_damaged P (Err error.Memory) was is = absurd (cc)
-not_damaged P (Err error.Device) was is = absurd (cc)
-not_damaged P (Err error.TooMany) was is = absurd (cc)
+use Rattle.base_folder_store.proofs.Stated.{not_damaged}
 
 module _ {S T : Type 0} (path own : List ℕ) (held later : Held S T) (d0 d1 : DiskState) (p0 p1 : ℕ) where
   pub file_cause : {A : Type 0} (P : Base → A → Type 0) (before now : ℕ) (r : Result A StoreError) → HasReadCause before now r → Honestly d1 ((b : Base) → IsHeld d0 path held b → Answers (P b) r)

@@ -14,10 +14,7 @@ use Rattle.base_folder.specs.declared.open_error.OpenError.TheVariants as unread
 use Rattle.station_bases.specs.Opening.{IsNotOpened}
 use Rattle.cmd_status.specs.declared.fault.Fault.{Fault}
 use Rattle.base_folder_store.specs.Held.{StandsForBase}
-
--- the same is seen
-pub seen_same : (d e : DiskState) → ChangesNothing d e → e.seen ≡ d.seen
-seen_same d e quiet = λ i m. quiet.seen m i
+use Rattle.base_log.proofs.Quiet.{seen_quiet as seen_same}
 
 pub quiet_stands : (keyed : ℕ → ℕ → List ℕ → ℕ) (path : List ℕ) (base : Base) (d e : DiskState) → ChangesNothing d e → StandsForBase keyed path base d.seen → StandsForBase keyed path base e.seen
 quiet_stands keyed path base d e quiet stands = subst (λ (f : Files). StandsForBase keyed path base f) (sym (seen_same d e quiet)) stands

@@ -1,12 +1,11 @@
 -- The disk of a base file that was used beneath it, and the paths beside it.
-use Rattle.std.proofs.Common.{◌≡◌, ◌≢◌, ◌↔◌, ◌++◌, ℕ, Bool, true, false, IsTrue, List, [], length, drop, inl, inr, ⊎_elim, sym, ◌∙◌, ap, refl, subst}
+use Rattle.std.proofs.Common.{◌≡◌, ◌≢◌, ◌↔◌, ◌++◌, ℕ, Bool, true, false, IsTrue, List, length, drop, inr, sym, ◌∙◌, ap, refl, subst}
 use Rattle.std.proofs.lemmas.List.{drop_at}
 use Rattle.base_file.specs.Base.{Base}
 use Rattle.disk_io.specs.Disk.{DiskState}
 use Rattle.disk_io.specs.Runs.{OneStepOn}
 use Rattle.disk_io.proofs.Moments.{left_now}
 use Rattle.disk_atomic.specs.Changes.{ChangesOnly, DifferAt}
-use Rattle.disk_atomic.specs.StagingPaths.{staging_path}
 use Rattle.cmd_status.specs.Inputs.{IsBaseGiven}
 use Rattle.station.specs.Beneath.{IsGivenBack}
 use Rattle.station_bases.specs.InFile.{IsInFile, IsOfFile, file_state}
@@ -57,10 +56,3 @@ suffix_by b name own parts = (λ is. (own, parts), λ from. refl)
 
 pub suffix_none : (b name : List ℕ) → ((front : List ℕ) → name ≢ front ++ b) → IsTrue false ↔ ((own : List ℕ) × (name ≡ own ++ b))
 suffix_none b name other = (λ (is : false ≡ true). absurd cc, λ from. absurd (other from.0 from.1))
-
--- the path of the file, or one beside it
-pub of_staging : (base path : List ℕ) → ((own : List ℕ) × (path ≡ staging_path base own)) → IsTrue true ↔ ((own : List ℕ) × IsOfFile base own path)
-of_staging base path from = (λ is. (from.0, inl from.1), λ of. refl)
-
-pub of_same : (base path : List ℕ) (same : Bool) → (((own : List ℕ) × (path ≡ staging_path base own)) → ⊥) → IsTrue same ↔ (path ≡ base) → IsTrue same ↔ ((own : List ℕ) × IsOfFile base own path)
-of_same base path same off iff = (λ is. ([], inr (iff.0 is)), λ of. ⊎_elim (λ staging. absurd (off (of.0, staging))) (λ is. iff.1 is) of.1)

@@ -1,26 +1,13 @@
 -- What loading answers of the bytes of a base.
-use Rattle.std.proofs.Common.{◌≡◌, ◌≢◌, ◌-◌, ◌^◌, ◌<◌, ◌≤◌, ℕ, [], refl, ap, Result, Ok, Err, arith, ⊎_elim}
+use Rattle.std.proofs.Common.{◌≡◌, ◌-◌, ◌^◌, ◌<◌, ◌≤◌, ℕ, [], ap, Result, Ok, Err, arith, ⊎_elim}
 use Rattle.disk_io.specs.Device.{Failed}
 use Rattle.base_file.specs.Base.{Base}
 use Rattle.base_file.specs.BaseFile.{Loaded}
-use Rattle.base_file.specs.Loading.{AnswersLoad, CountsLoad}
+use Rattle.base_file.specs.Loading.{AnswersLoad}
 use Rattle.base_file.specs.declared.fault.BaseFault.{BaseFault}
-use Rattle.base_file.specs.declared.fault.BaseFault.TheVariants as fault
-
-ok_no_err : (x : Loaded) (f : BaseFault) → Ok x ≡ Err f → ⊥
-ok_no_err x f h = cc
 
 never_failed : Failed 0 0 → ⊥
 never_failed failed = ⊎_elim (λ (more : 0 < 0). omega (arith, more)) (λ (at : (2 ^ 64 - 1 ≤ 0) × (0 ≡ 0)). omega (arith, at.0)) failed
-
-pub refused_not : (x : Loaded) (f : BaseFault) → AnswersLoad (Err f) (Ok x) → CountsLoad {A = Base} (Err f) 0 0 → f ≢ fault.Memory → ⊥
-refused_not x fault.NotBase answers counts other = ok_no_err x fault.NotBase answers
-refused_not x (fault.Truncated n) answers counts other = ok_no_err x (fault.Truncated n) answers
-refused_not x (fault.Damaged n) answers counts other = ok_no_err x (fault.Damaged n) answers
-refused_not x fault.Read answers counts other = never_failed counts
-refused_not x (fault.Write n) answers counts other = ok_no_err x (fault.Write n) answers
-refused_not x fault.TooMany answers counts other = ok_no_err x fault.TooMany answers
-refused_not x fault.Memory answers counts other = other refl
 
 abbrev base_in : Result Loaded BaseFault → Base
 base_in (Ok loaded) = record { messages = loaded.0; cursor = loaded.1 }

@@ -1,5 +1,5 @@
 -- A base file opened as a store.
-use Rattle.std.proofs.Common.{◌≡◌, ◌≤◌, inl, inr, ⊎_elim, ℕ, List, [], Option, None, Some, Result, Ok, Err, ap, refl, sym, subst, ◌∙◌}
+use Rattle.std.proofs.Common.{◌≡◌, ◌≤◌, inr, ℕ, List, [], Option, None, Some, Result, Ok, Err, ap, sym, subst}
 use Rattle.std.specs.Prelude.{All, ◌≢◌, IfOk, IsSome}
 use Rattle.base_file.specs.Base.{Base}
 use Rattle.base_file.specs.BaseFile.{LoadOf, Loaded}
@@ -10,15 +10,14 @@ use Rattle.disk_io.specs.Disk.{DiskState, Honestly, bytes_in}
 use Rattle.disk_io.specs.Runs.{ChangesNothing}
 use Rattle.disk_io.proofs.Moments.{weaker_run}
 use Rattle.echo_links.specs.Links.{LinkFile}
-use Rattle.cmd_status.specs.Inputs.{IsBaseFault, IsBaseGiven}
+use Rattle.cmd_status.specs.Inputs.{IsBaseGiven}
 use Rattle.cmd_status.specs.declared.fault.Fault.{Fault}
-use Rattle.station.specs.Faults.{FailsAt}
-use Rattle.station.specs.Links.{AreLinks, NoLinks}
+use Rattle.station.specs.Links.{AreLinks}
 use Rattle.station.specs.Opening.{IsNotOpened, IsOpenFor, IsOpened}
 use Rattle.station.specs.Place.{IsOfPlace, KeepsElsewhere, StandsOrWasLeft}
 use Rattle.station_bases.specs.InFile.{IsHeld, IsWithinReach, StandsInFile, file_state}
 use Rattle.station_bases.specs.declared.held.Held.{Held}
-use Rattle.station_bases.specs.Reading.{IsFileShut, IsSettled, IsShutFor, IsUnreadFor, file_place}
+use Rattle.station_bases.specs.Reading.{IsFileShut, IsSettled, IsShutFor, file_place}
 
 abbrev base_in : Result Loaded BaseFault → Base
 base_in (Ok loaded) = record { messages = loaded.0; cursor = loaded.1 }
@@ -27,11 +26,6 @@ base_in (Err why) = record { messages = []; cursor = 0 }
 pub same_loaded : (result : Result Base BaseFault) (base : Base) (size : ℕ) → AnswersLoad result (Ok (base.messages, base.cursor, size)) → IfOk result (λ b. base ≡ b)
 same_loaded (Ok b) base size answers = ap (λ r. base_in r) answers.1
 same_loaded (Err why) base size answers = tt
-
--- without a file the base is empty
-pub empty_held : (f : Option (List ℕ)) (b base : Base) → (IsSome f → ⊥) → IsBaseGiven f b.messages b.cursor → base.messages ≡ [] → base.cursor ≡ 0 → b ≡ base
-empty_held None b base none given messages cursor = λ i. record { messages = (given.0 ∙ sym messages) i; cursor = (given.1 ∙ sym cursor) i }
-empty_held (Some bytes) b base none given messages cursor = absurd (none refl)
 
 -- and with one it is loaded from its bytes
 pub given_loads : (f : Option (List ℕ)) (messages : List Filed) (cursor : ℕ) → IsSome f → IsBaseGiven f messages cursor → (size : ℕ) × LoadOf (bytes_in f) (Ok (messages, cursor, size))
@@ -46,10 +40,6 @@ quiet_elsewhere path d0 d1 quiet = record {
   alone = λ m out. quiet.alone m (λ h. h);
   honest = quiet.honest;
 }
-
--- a name that is settled stays so
-pub settled_still : (d0 d1 : DiskState) (path : List ℕ) → ChangesNothing d0 d1 → IsSettled d0 path → IsSettled d1 path
-settled_still d0 d1 path quiet was = record { named = quiet.named path (λ h. h) was.named; flushed = quiet.flushed path (λ h. h) was.flushed }
 
 module _ {S T : Type 0} (d0 d1 : DiskState) (path own : List ℕ) (held : Held S T) (place : ℕ) (quiet : ChangesNothing d0 d1) where
   opened_file : IsSettled d1 path → ((b : Base) → StandsInFile path b d0.seen → IsHeld d1 path held b) → IsOpenFor (file_place path) d0 (file_state d1 path own held place)
@@ -78,20 +68,6 @@ module _ {S T : Type 0} (d0 d1 : DiskState) (path own : List ℕ) (held : Held S
     of_place = of_file;
     later = later;
   }
-
-fails_wider : (path : List ℕ) (F G : Type 0) (fault : Fault) → (F → G) → FailsAt path F fault → FailsAt path G fault
-fails_wider path F G fault wider fails = ⊎_elim (λ memory. inl memory) (λ cannot. inr (cannot.0, wider cannot.1)) fails
-
--- what failed in a part failed in the whole
-pub links_wider : (links : List ℕ) (F G : Type 0) (old : DiskState) (fault : Fault) → (F → G) → NoLinks old links F fault → NoLinks old links G fault
-links_wider links F G old fault wider none =
-    ⊎_elim (λ unread. inl (⊎_elim (λ memory. inl memory)
-    (λ rest. inr (⊎_elim (λ cannot. inl (cannot.0, ⊎_elim (λ gone. inl gone) (λ failed. inr (wider failed)) cannot.1)) (λ large. inr large) rest)) unread)) (λ rest. inr rest) none
-
-pub unread_wider : (path : List ℕ) (F G : Type 0) (d0 d1 : DiskState) (fault : Fault) → (F → G) → ChangesNothing d0 d1 → IsUnreadFor path F d1 fault → IsUnreadFor path G d0 fault
-unread_wider path F G d0 d1 fault wider quiet unread =
-    ⊎_elim (λ fails. inl (fails_wider path F G fault wider fails))
-    (λ rest. inr (⊎_elim (λ memory. inl memory) (λ base. inr (subst (λ f. IsBaseFault f fault) (quiet.seen path) base)) rest)) unread
 
 pub is_not_opened : (links path : List ℕ) (F : Type 0) (d0 d1 : DiskState) (fault : Fault) → ChangesNothing d0 d1 → Honestly d1 (IsFileShut links path F d0 fault)
     → IsNotOpened (file_place path) (IsShutFor links path F d0 d1) d0 d1 fault

@@ -1,10 +1,10 @@
 -- A base that was put in the place of its file.
-use Rattle.std.proofs.Common.{◌≡◌, inl, inr, ⊎_elim, ◌∙◌, ℕ, List, Some, subst, sym, refl}
+use Rattle.std.proofs.Common.{◌≡◌, inl, inr, ⊎_elim, ◌∙◌, ℕ, List, Some, subst, sym}
 use Rattle.base_file.specs.Base.{Base}
 use Rattle.std.specs.Prelude.{All, ◌≢◌}
 use Rattle.disk_io.specs.Disk.{DiskState, Files, Honestly}
 use Rattle.disk_io.specs.Runs.{ChangesNothing, LeavesOnly, OneStepOn}
-use Rattle.disk_io.proofs.Moments.{no_call, weaker_run}
+use Rattle.disk_io.proofs.Moments.{weaker_run}
 use Rattle.disk_atomic.specs.Changes.{ChangesOnly, HasOnDisk}
 use Rattle.disk_atomic.specs.Replacing.{Replaces}
 use Rattle.disk_atomic.specs.StagingPaths.{staging_path}
@@ -12,13 +12,6 @@ use Rattle.cmd_status.specs.Inputs.{IsBaseGiven}
 use Rattle.base_store.specs.Store.{CommitsNothing, GoesOn, IsSameStore, KeepsBeside, LeavesCommitted, LeavesEither, LooksOn, MayCommit, StoreState}
 use Rattle.station_bases.specs.InFile.{IsHeld, IsInFile, IsOfFile, IsWithinReach, PutsBase, StandsInFile, file_state}
 use Rattle.station_bases.specs.declared.held.Held.{Held}
-
--- no step yet
-pub puts_none : (path own : List ℕ) (base : Base) (c : Files) → PutsBase path own base c c
-puts_none path own base c = record { others = λ m other. refl; either = inl refl }
-
-pub no_write : (path own : List ℕ) (base : Base) (d : DiskState) → LeavesOnly d d (OneStepOn (PutsBase path own base) d)
-no_write path own base d = no_call d (OneStepOn (PutsBase path own base) d) (λ c left. (c, left, puts_none path own base c))
 
 pub stands_now : (path bytes : List ℕ) (base : Base) (c : Files) → IsBaseGiven (Some bytes) base.messages base.cursor → c path ≡ Some bytes → StandsInFile path base c
 stands_now path bytes base c says is = subst (λ f. IsBaseGiven f base.messages base.cursor) (sym is) says

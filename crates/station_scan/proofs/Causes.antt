@@ -1,6 +1,6 @@
 -- Why packets were not written.
-use Rattle.std.proofs.Common.{◌≤◌, ℕ, List, arith}
-use Rattle.std.specs.Prelude.{Bool, Err, IsErrOf, Ok, Result}
+use Rattle.std.proofs.Common.{◌≤◌, ℕ, arith}
+use Rattle.std.specs.Prelude.{Bool, Err, IsErrOf, Ok}
 use Rattle.disk_io.specs.Runs.{HasCause}
 use Rattle.disk_io.specs.declared.disk_error.DiskError.{DiskError}
 use Rattle.disk_io.specs.declared.disk_error.DiskError.TheVariants as disk
@@ -10,7 +10,7 @@ use Rattle.base_store.specs.declared.store_error.StoreError.TheVariants as store
 use Rattle.echo_toss.specs.Bounds.{IsFullWhenRead}
 use Rattle.station.proofs.Failures.{failed_wider}
 use Rattle.station.specs.Beneath.{HoldsAsBefore}
-use Rattle.station_scan.specs.Beneath.{IsFullOnWay, IsUsedAt}
+use Rattle.station_scan.specs.Beneath.{IsFullOnWay}
 use Rattle.station_scan.specs.Publishing.{HasStageCause}
 use Rattle.station_scan.specs.Writing.{HasStopCause, stop_stays, stop_told}
 use Rattle.station_scan.specs.declared.writing.StageStop.{StageStop}
@@ -28,10 +28,6 @@ full_later state s0 s1 holds way = record {
 pub full_read : {S : Type 0} (state : S → StoreState) (s0 : StoreState) → IsFullWhenRead state s0 → IsFullOnWay state s0
 full_read state s0 past = record { store = past.store; holds = record { ready = past.looks.ready; keeps = past.looks.keeps; committed = past.looks.committed }; full = past.full }
 
--- and one that is full now
-pub full_here : {S : Type 0} (state : S → StoreState) (s : S) → (state s).is_ready → (state s).is_full → IsFullOnWay state (state s)
-full_here state s ready full = record { store = s; holds = record { ready = ready; keeps = λ base h. h; committed = λ base h. h }; full = full }
-
 module _ {S : Type 0} (state : S → StoreState) (s0 s1 : StoreState) (f0 f1 : ℕ) where
   pub none_stops : {T : Type 0} (value : T) → f0 ≤ f1 → HasStopCause state s0 s1 f0 f1 (Ok value)
   none_stops value later = record { later = later; of_disk = λ e. absurd (cc e); of_store = λ e. absurd (cc e); damaged = λ honest e. absurd (cc e); many = λ e. absurd (cc e) }
@@ -47,16 +43,6 @@ module _ {S : Type 0} (state : S → StoreState) (s0 s1 : StoreState) (f0 f1 : �
     damaged = λ honest e. was.damaged honest (cc e);
     many = λ e. full_read state s0 (many (cc e));
   }
-
--- after a use of the disk
-pub later_stops : {S T : Type 0} (state : S → StoreState) (paths : List ℕ → Type 0) (s0 s1 s2 : StoreState) (f0 f1 f2 : ℕ) (result : Result T StageStop) → IsUsedAt paths s0 s1 → f0 ≤ f1 → HasStopCause state s1 s2 f1 f2 result → HasStopCause state s0 s2 f0 f2 result
-later_stops state paths s0 s1 s2 f0 f1 f2 result used first was = record {
-  later = omega (arith, first, was.later);
-  of_disk = λ e. failed_wider f0 f1 f2 f2 first (omega arith) (was.of_disk e);
-  of_store = λ e. failed_wider f0 f1 f2 f2 first (omega arith) (was.of_store e);
-  damaged = λ honest e base kept. was.damaged honest e base (used.holds.keeps base kept);
-  many = λ e. full_later state s0 s1 used.holds (was.many e);
-}
 
 -- and then the staging files were removed, or were not
 module _ {S : Type 0} (state : S → StoreState) (s0 s1 s2 : StoreState) (f0 f1 f2 : ℕ) (run : s2.disk.is_honest → s1.disk.is_honest) where

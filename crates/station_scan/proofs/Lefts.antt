@@ -21,6 +21,7 @@ use Rattle.station_scan.specs.declared.finding.LeftPaths.{LeftPaths}
 use Rattle.station_scan.specs.declared.sending.TwoPaths.{TwoPaths}
 use Rattle.station_scan.specs.Left.{AreAllLeft, AreFound, AreFreeLeft, AreLent, EndsLeft, EndsThese, IsStagingThere, IsFound, IsFreeFound, IsFoundWhere, IsEndedAt, IsLeftOf, IsLent, IsOfNameOff, IsOfPaths, IsToFind}
 use Rattle.station_scan.proofs.Names.{four_apart, name_staging_in, name_in}
+use Rattle.disk_atomic.proofs.Whole.{on_ok_any as on_ok_so}
 
 -- the packet with these paths
 as_left : LeftPaths → Left
@@ -234,10 +235,6 @@ over_before cursor d0 d1 d2 l same is = record {
 pub on_ok_over : {T E : Type 0} (cursor : ℕ) (found : List Left) (d0 d1 d2 : DiskState) (result : Result T E) → ((m : List ℕ) → d1.seen m ≡ d0.seen m) → OnOk result (All (IsOver cursor d1 d2) found) → OnOk result (All (IsOver cursor d0 d2) found)
 on_ok_over cursor found d0 d1 d2 (Ok value) same all = λ k z lt. over_before cursor d0 d1 d2 (get_or found k z) same (all k z lt)
 on_ok_over cursor found d0 d1 d2 (Err cause) same all = tt
-
-on_ok_so : {T E P : Type 0} (result : Result T E) → P → OnOk result P
-on_ok_so (Ok value) is = is
-on_ok_so (Err cause) is = tt
 
 -- a run of no call
 pub quiet_start : (d : DiskState) → ChangesNothing d d

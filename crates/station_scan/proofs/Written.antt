@@ -1,5 +1,5 @@
 -- Packets that are written group by group, while their store is read.
-use Rattle.std.proofs.Common.{◌≡◌, ◌≤◌, ◌∙◌, inl, inr, ℕ, List, [], ◌++◌, ap, append_assoc, arith, drop, get_or, length, refl, subst, sym}
+use Rattle.std.proofs.Common.{◌≡◌, ◌∙◌, inl, inr, ℕ, List, [], ◌++◌, ap, append_assoc, arith, drop, get_or, length, refl, subst, sym}
 use Rattle.std.specs.Prelude.{All, Bool, Err, IfOk, None, Ok, OnOk, Result, true}
 use Rattle.std.proofs.lemmas.List.{append-nil, drop_all}
 use Rattle.base_file.specs.Base.{Base}
@@ -62,14 +62,6 @@ module _ (paths : List ℕ → Type 0) where
   used_settled s0 s1 used base before after same stands =
       (used.same.stands base after).1 (used.settled base before after (λ m own. same m ((used.same.own m).1 own)) ((used.same.stands base before).0 stands))
 
-pub looked_only : (paths : List ℕ → Type 0) (s0 s1 : StoreState) → AreSettledByOwn s0 → LooksOn s0 s1 → IsUsedAt paths s0 s1
-looked_only paths s0 s1 settled looks = record {
-  settled = settled;
-  same = looks.same;
-  holds = record { ready = looks.ready; keeps = looks.keeps; committed = looks.committed };
-  changes = only_nothing paths s0.disk s1.disk looks.quiet;
-}
-
 -- the packets still go to paths that it does not own
 pub off_still : (s0 s1 : StoreState) (batch : Batch) → IsSameStore s0 s1 → IsBatchOff s0 batch → IsBatchOff s1 batch
 off_still s0 s1 batch same going = record {
@@ -125,23 +117,6 @@ copies_more file messages from at next packets d0 d1 d2 one two =
           ap messages_bytes (copies_append p.to one.sent two.sent) ∙ messages_append (copies_out p.to one.sent) (copies_out p.to two.sent) in
           two.longer k z lt ∙ ap (λ (l : List ℕ). l ++ second) (one.longer k z lt) ∙ append_assoc (staged_in d0.seen p) first second ∙ ap (λ (l : List ℕ). staged_in d0.seen p ++ l) (sym both);
     }
-
--- of all
-pub copies_end : (file : LinkFile) (messages : List Filed) (from at : ℕ) (packets : List Outgoing) (d0 d1 : DiskState) → length messages ≤ at → HasCopies file messages from at packets d0 d1 → HasCopies file messages from (length messages) packets d0 d1
-copies_end file messages from at packets d0 d1 past copies =
-    let nothing : drop (length messages) messages ≡ drop at messages = drop_all (length messages) messages (omega arith) ∙ sym (drop_all at messages past) in
-    record { sent = copies.sent; are = ap (λ (l : List Filed). copies.sent ++ sent_of file l) nothing ∙ copies.are; longer = copies.longer }
-
--- of a group, which was read before
-pub copies_group : (file : LinkFile) (messages : List Filed) (at next : ℕ) (sent : List Sent) (packets : List Outgoing) (d0 d1 d2 : DiskState) → ((m : List ℕ) → d1.seen m ≡ d0.seen m)
-    → sent ++ sent_of file (drop next messages) ≡ sent_of file (drop at messages) → All (IsLonger (λ to. messages_bytes (copies_out to sent)) d1 d2) packets → HasCopies file messages at next packets d0 d2
-copies_group file messages at next sent packets d0 d1 d2 same are longer = record {
-  sent = sent;
-  are = are;
-  longer = λ k z lt.
-      let p = get_or packets k z in
-      longer k z lt ∙ ap (λ f. bytes_in f ++ messages_bytes (copies_out p.to sent)) (same p.staging.now);
-}
 
 -- the header, the copies of all messages, and the end
 pub all_written : (source : Source) (base : Base) (packets : List Outgoing) (d0 d1 d2 d3 : DiskState) → All (IsWritten (λ p. []) d0.seen) packets

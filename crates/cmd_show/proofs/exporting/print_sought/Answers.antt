@@ -7,8 +7,8 @@ use Rattle.cmd_show.specs.Exporting.{sought_lost, sought_texts}
 use Rattle.cmd_show.specs.Fetching.{StopsReading}
 use Rattle.cmd_show.proofs.Exportings.{begun_before, none_counted, printed_none, sought_begun, sought_counted, sought_printed}
 use Rattle.cmd_show.proofs.Fetchings.{stops_reading}
-use Rattle.cmd_show.proofs.Pushed.{at_error}
 use Rattle.cmd_show.proofs.exporting.print_sought.Goals as goal
+use Rattle.base_folder_store.proofs.Causes.{at_error}
 
 pub messages-init : goal.messages-init
 messages-init g c =

@@ -1,4 +1,4 @@
-use Rattle.std.proofs.Common.{◌≡◌, ◌∙◌, ◌≤◌, ◌<◌, ◌+◌, ◌++◌, ℕ, length, option_copied, refl, sym, subst, arith, inl}
+use Rattle.std.proofs.Common.{◌≡◌, ◌∙◌, ◌≤◌, ◌+◌, ◌++◌, ℕ, length, option_copied, refl, sym, subst, arith, inl}
 use Rattle.base_folder.proofs.Lookings.{err_is}
 use Rattle.base_folder.proofs.Readings.{not_behind, not_past}
 use Rattle.cmd_print.specs.BaseListed.{asked_text, messages_text}
@@ -7,8 +7,8 @@ use Rattle.cmd_status.specs.Lines.{PassesOn, WritesFront}
 use Rattle.cmd_show.specs.Fetching.{StopsReading}
 use Rattle.cmd_show.proofs.Fetchings.{stops_reading}
 use Rattle.cmd_show.proofs.Listings.{begun_before, message_begun, message_printed, printed_none}
-use Rattle.cmd_show.proofs.Pushed.{at_error}
 use Rattle.cmd_show.proofs.listing.print_messages.Goals as goal
+use Rattle.base_folder_store.proofs.Causes.{at_error}
 
 pub messages-init : goal.messages-init
 messages-init g c =

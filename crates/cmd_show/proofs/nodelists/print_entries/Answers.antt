@@ -3,8 +3,8 @@ use Rattle.cmd_status.specs.Lines.{PassesOn}
 use Rattle.cmd_status.proofs.Lines.{none_added}
 use Rattle.cmd_print.specs.Listed.{listed_entries}
 use Rattle.cmd_show.proofs.Entries.{entry_begun, printed_more, rest_begun, total_added}
-use Rattle.cmd_show.proofs.Pushed.{at_error}
 use Rattle.cmd_show.proofs.nodelists.print_entries.Goals as goal
+use Rattle.base_folder_store.proofs.Causes.{at_error}
 
 pub entries-init : goal.entries-init
 entries-init g c = record { printed = none_added _ _; failed = refl }

@@ -1,7 +1,8 @@
 use Rattle.std.proofs.Common.{◌+◌, refl, arith}
 use Rattle.echo_filed.specs.declared.key.Key.TheVariants.{ById}
-use Rattle.model_why.proofs.Counting.{nth-there, sent-more}
+use Rattle.model_why.proofs.Counting.{sent-more}
 use Rattle.model_why.proofs.copies.sent_times.Goals as goal
+use Rattle.model_run.proofs.HarmLists.{nth-below as nth-there}
 
 pub packets-preserved : goal.packets-preserved
 packets-preserved c = λ run is.

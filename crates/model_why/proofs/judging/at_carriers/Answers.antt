@@ -1,6 +1,7 @@
 use Rattle.std.proofs.Common.{arith, below_more}
-use Rattle.model_why.proofs.Complete.{none_left, nth-within}
+use Rattle.model_why.proofs.Complete.{none_left}
 use Rattle.model_why.proofs.judging.at_carriers.Goals as goal
+use Rattle.model_run.proofs.HarmLists.{nth-index as nth-within}
 
 pub systems-preserved : goal.systems-preserved
 systems-preserved c = λ run is first settled.

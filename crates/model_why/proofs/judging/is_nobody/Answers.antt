@@ -1,8 +1,8 @@
 use Rattle.std.proofs.Common.{◌∙◌, ◌+◌, refl, sym, arith}
 use Rattle.echo_links.proofs.Addresses.{same_address_decides}
-use Rattle.model_why.proofs.Counting.{nth-there}
 use Rattle.model_why.proofs.Judged.{none-all, none-more, nth-in}
 use Rattle.model_why.proofs.judging.is_nobody.Goals as goal
+use Rattle.model_run.proofs.HarmLists.{nth-below as nth-there}
 
 pub systems-preserved : goal.systems-preserved
 systems-preserved c = λ run is.

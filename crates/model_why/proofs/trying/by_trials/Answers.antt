@@ -5,9 +5,10 @@ use Rattle.echo_links.specs.LinkLines.{file_of}
 use Rattle.model_why.specs.declared.shown.Shown.{Shown}
 use Rattle.model_why.specs.Found.{BreaksIt}
 use Rattle.model_why.specs.Sources.{files_of}
-use Rattle.model_why.proofs.Complete.{none_left, nth-within}
+use Rattle.model_why.proofs.Complete.{none_left}
 use Rattle.model_why.proofs.Harmless.{no_grave_fault}
 use Rattle.model_why.proofs.trying.by_trials.Goals as goal
+use Rattle.model_run.proofs.HarmLists.{nth-index as nth-within}
 
 pub posters-preserved : goal.posters-preserved
 posters-preserved c =

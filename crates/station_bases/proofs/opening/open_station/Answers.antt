@@ -7,8 +7,9 @@ use Rattle.disk_io.specs.Device.{Failed}
 use Rattle.disk_io.specs.Disk.{Files}
 use Rattle.station.specs.Opening.{HaveFailed}
 use Rattle.station.proofs.Failures.{failed_wider}
-use Rattle.station_bases.proofs.FolderOpened.{not_opened, opens_since, quiet_stands, seen_same}
+use Rattle.station_bases.proofs.FolderOpened.{not_opened, opens_since, quiet_stands}
 use Rattle.station_bases.proofs.opening.open_station.Goals as goal
+use Rattle.base_log.proofs.Quiet.{seen_quiet as seen_same}
 
 pub returns-in_err-folder-clause-run : goal.returns-in_err-folder-clause-run
 returns-in_err-folder-clause-run g c =
