@@ -6,9 +6,13 @@ use Rattle.std.specs.Result.{result_unwrap_or}
 use Rattle.std.specs.Str.Parse.{ParsesUnsigned, digits_value, without_leading_plus}
 use Rattle.std.proofs.Math.Nat.{min-eq_left, min-eq_right}
 use Rattle.std.proofs.lemmas.Bool.{and_parts, cases_lt, ltb-true}
-use Rattle.std.proofs.lemmas.Str.Parse.{parse_gives, without_leading_plus_none}
+use Rattle.std.proofs.lemmas.Str.Parse.{digits_value_short, parse_gives, without_leading_plus_none}
 use Rattle.echo_addr.specs.Digits.{is_number}
 use Rattle.echo_addr.proofs.Decimals.{own}
+
+-- four digits write a number below ten thousand
+pub short_number : (ds : List ℕ) → is_number ds ≡ true → length ds ≤ 4 → digits_value 10 ds < 10000
+short_number ds is few = digits_value_short own ds 4 (and_parts (nat_lt 0 (length ds)) (all_ascii_digits ds) is).1 few
 
 -- digits have no sign
 no_plus : (ds : List ℕ) → all_ascii_digits ds ≡ true → get_or ds 0 0 ≢ 43

@@ -1,5 +1,6 @@
 -- Reading tokens with the net of the nearest pair carried forward is reading them by looking back.
-use Rattle.std.proofs.Common.{◌≡◌, ℕ, ◌+◌, List, [], ◌++◌, refl, Option, None, zero-add}
+use Rattle.std.proofs.Common.{◌≡◌, ℕ, ◌+◌, List, [], ◌++◌, refl, ap, ◌∙◌, arith, Option, None, length, take, ◌≤◌, zero-add}
+use Rattle.std.proofs.lemmas.List.{length-take, take-append-le}
 use Rattle.std.specs.Option.{is_none}
 use Rattle.std.specs.List.{filter_map, count_by}
 use Rattle.echo_addr.specs.declared.address.NetNode.{NetNode}
@@ -11,6 +12,12 @@ pub record Read (base : List NetNode) (s : List ℕ) (left : List (List ℕ)) (n
   pub nearest : nearest_net earlier ≡ net
   pub list : found ++ filter_map (λ e. e) (judged earlier left) ≡ base ++ entries s
   pub count : lost + count_by is_none (judged earlier left) ≡ dropped s
+
+-- what was there before still stands in front
+pub kept_behind : (base found more : List NetNode) → take (length base) found ≡ base → take (length base) (found ++ more) ≡ base
+kept_behind base found more kept =
+    let within : length base ≤ length found = omega (arith, ap length kept, length-take (length base) found) in
+    take-append-le (length base) found more within ∙ kept
 
 pub Read-none : (base : List NetNode) (s : List ℕ) → Read base s (tokens s) None base 0
 unfolding entries dropped
