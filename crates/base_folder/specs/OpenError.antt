@@ -5,11 +5,18 @@ use Rattle.base_store.specs.declared.store_error.StoreError.{StoreError}
 use Rattle.base_store.specs.declared.store_error.StoreError.TheVariants as store
 use Rattle.disk_io.specs.Device.{Failed}
 use Rattle.disk_io.specs.Disk.{Files}
+use Rattle.disk_io.specs.declared.disk_error.DiskError.{DiskError}
+use Rattle.disk_io.specs.declared.disk_error.DiskError.TheVariants as disk
 use Rattle.cmd_status.specs.declared.fault.Fault.{Fault}
 use Rattle.cmd_status.specs.declared.fault.Fault.TheVariants as fault
 use Rattle.base_folder.specs.Wrong.{IsCutShort, IsNoFolder}
 use Rattle.base_folder.specs.declared.open_error.OpenError.{OpenError}
 use Rattle.base_folder.specs.declared.open_error.OpenError.TheVariants as unread
+
+-- A disk's fault.
+abbrev pub unread_cause : DiskError → OpenError
+unread_cause disk.Memory = unread.Memory
+unread_cause disk.Device = unread.Device
 
 -- The error of the message of this number, which was not read.
 abbrev pub unread_message : StoreError → ℕ → OpenError

@@ -1,10 +1,12 @@
 -- Messages that are read one by one, wherever they are kept.
-use Rattle.std.specs.Prelude.{◌≡◌, ◌/◌, ℕ, List, length, Option}
+use Rattle.std.specs.Prelude.{◌≡◌, ◌≤◌, ◌/◌, ℕ, List, length, Option}
 use Rattle.disk_io.specs.Disk.{DiskState}
 use Rattle.base_file.specs.Base.{Base}
 use Rattle.echo_filed.specs.Filed.{Filed}
 use Rattle.base_folder_store.specs.Held.{HoldsBase}
 use Rattle.base_folder_store.specs.Opened.{held_by}
+use Rattle.base_folder_store.specs.State.{only_message}
+use Rattle.base_folder_store.specs.Vouched.{IsLookedAt}
 use Rattle.base_folder_store.specs.declared.folder.Folder.{Folder}
 
 -- Whether every answer so far showed the messages as they are, whether one may be read, how many there are, the base that they are,
@@ -28,3 +30,14 @@ pub record LooksAt (old new : SourceState) : Type 0 where
 pub record SeesBase (keyed : ℕ → ℕ → List ℕ → ℕ) (disk : DiskState) (folder : Folder) (base : Base) : Type 0 where
   pub holds : HoldsBase keyed (held_by disk folder) base
   pub count : folder.keys / 16 ≡ length base.messages
+
+-- A base folder as such a source.
+abbrev pub folder_source : DiskState → ℕ → (ℕ → ℕ → List ℕ → ℕ) → Folder → Option Base → SourceState
+folder_source disk failures keyed folder alone = record {
+  is_honest = disk.is_honest;
+  is_ready = IsLookedAt disk folder;
+  count = folder.keys / 16;
+  holds = λ base. SeesBase keyed disk folder base;
+  at_hand = only_message alone;
+  failures = failures;
+}

@@ -2,6 +2,7 @@
 use Rattle.std.specs.Prelude.{◌≡◌, ◌≢◌, ◌≤◌, ◌<◌, ◌⊎◌, ℕ, List, length, None, Result, IsErrOf, IsSome}
 use Rattle.disk_io.specs.Device.{Failed}
 use Rattle.disk_io.specs.Disk.{DiskState, Files, IsIn, bytes_in}
+use Rattle.disk_io.specs.declared.disk_error.DiskError.{DiskError}
 use Rattle.disk_io.specs.declared.disk_error.DiskError.TheVariants as disk
 use Rattle.base_log.specs.declared.log.CommitRecord.{CommitRecord}
 use Rattle.base_log.specs.declared.folder_error.FolderError.{FolderError}
@@ -9,6 +10,11 @@ use Rattle.base_log.specs.declared.folder_error.FolderError.TheVariants as folde
 use Rattle.base_log.specs.Names.{log_of, messages_of, keys_of}
 use Rattle.base_log.specs.Standing.{BaseBytes}
 use Rattle.base_log.specs.Moments.{StandsAlone}
+
+-- A disk's fault, as a fault of a folder.
+abbrev pub folder_cause : DiskError → FolderError
+folder_cause disk.Memory = folder.Memory
+folder_cause disk.Device = folder.Device
 
 -- Each path in the folder leads on the disk to what it leads to now.
 abbrev pub AreNamed : List ℕ → DiskState → Type 0

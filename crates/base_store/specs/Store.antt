@@ -8,6 +8,13 @@ use Rattle.echo_filed.specs.Filed.{Filed}
 use Rattle.echo_filed.specs.Stubs.{stub_of}
 use Rattle.base_store.specs.declared.store_error.StoreError.{StoreError}
 use Rattle.base_store.specs.declared.store_error.StoreError.TheVariants as error
+use Rattle.disk_io.specs.declared.disk_error.DiskError.{DiskError}
+use Rattle.disk_io.specs.declared.disk_error.DiskError.TheVariants as disk_error
+
+-- a disk's fault, as a fault of a store
+abbrev pub store_cause : DiskError → StoreError
+store_cause disk_error.Memory = error.Memory
+store_cause disk_error.Device = error.Device
 
 -- a store between two calls
 pub record StoreState : Type 1 where

@@ -3,7 +3,12 @@ use Rattle.std.specs.Prelude.{ℕ, ◌-◌, ◌^◌, ◌&&◌, ◌==◌, Bool, L
 use Rattle.std.specs.List.{list_all}
 use Rattle.std.specs.Str.Parse.{digits_value}
 use Rattle.echo_addr.specs.Digits.{is_number}
+use Rattle.model_steps.specs.declared.stamp.Stamp.{Stamp}
 use Rattle.echo_text.specs.Ids.{is_hex_digit}
+
+-- the number that the bytes from one index up to another write
+abbrev pub number_between : List ℕ → ℕ → ℕ → ℕ
+number_between word from to = digits_value 10 (slice_range word from to)
 
 -- whether a word is a serial: eight digits to the base 16, of either case
 abbrev pub is_serial : List ℕ → Bool
@@ -27,6 +32,17 @@ has_numbers word =
 -- whether a word is laid out as a stamp
 abbrev pub is_stamp_word : List ℕ → Bool
 is_stamp_word word = (length word == 19) && (has_marks word && has_numbers word)
+
+-- the stamp that it writes; parts may be out of their ranges
+abbrev pub stamp_in : List ℕ → Stamp
+stamp_in word = record {
+  year = number_between word 0 4;
+  month = number_between word 5 7;
+  day = number_between word 8 10;
+  hour = number_between word 11 13;
+  minute = number_between word 14 16;
+  second = number_between word 17 19;
+}
 
 -- the number that decimal digits write, of any number of digits; a greater one is the greatest u64
 abbrev pub index_of_word : List ℕ → ℕ

@@ -1,6 +1,7 @@
 -- The statuses with which the program exits, and which fault has which.
+use Rattle.std.specs.Prelude.{ℕ}
 use Rattle.cmd_status.specs.declared.status.Status.{Status}
-use Rattle.cmd_status.specs.declared.status.Status.TheVariants.{Refused, Device}
+use Rattle.cmd_status.specs.declared.status.Status.TheVariants.{Good, Differs, Refused, Device, CommandLine}
 use Rattle.cmd_status.specs.declared.fault.Fault.{Fault}
 use Rattle.cmd_status.specs.declared.fault.Fault.TheVariants as fault
 use Rattle.echo_links.specs.declared.fault.LinkFault.{LinkFault}
@@ -17,6 +18,14 @@ use Rattle.model_steps.specs.declared.fault.ScanFault.{ScanFault}
 use Rattle.model_steps.specs.declared.fault.ScanFault.TheVariants as scan
 use Rattle.echo_text.specs.declared.fault.TextFault.{TextFault}
 use Rattle.echo_text.specs.declared.fault.TextFault.TheVariants as text
+
+-- 0 good, 1 a verdict No or a checksum that differs, 2 refused input, 3 device or memory, 4 command line
+abbrev pub code_of : Status → ℕ
+code_of Good = 0
+code_of Differs = 1
+code_of Refused = 2
+code_of Device = 3
+code_of CommandLine = 4
 
 -- the status of a packet's fault: P6, P7 and P9 blame a device or memory
 abbrev pub packet_status : PacketFault → Status

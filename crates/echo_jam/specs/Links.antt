@@ -11,6 +11,10 @@ field_at headers at = if nat_le (at + 4) (length headers) then long_at at header
 abbrev pub field_in : List ℕ → List ℕ → ℕ → ℕ → ℕ
 field_in headers index offset i = field_at headers (place_in index i + offset)
 
+-- the CRCs of the id of a message and of the one that it replies to, the number of that one, and its own
+abbrev pub id_in : List ℕ → List ℕ → ℕ → ℕ
+id_in headers index i = field_in headers index 16 i
+
 abbrev pub reply_in : List ℕ → List ℕ → ℕ → ℕ
 reply_in headers index i = field_in headers index 20 i
 

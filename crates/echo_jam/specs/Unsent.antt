@@ -1,10 +1,11 @@
 -- The messages of a JAM base that an editor wrote, read for posting, and the ids that a base has.
-use Rattle.std.specs.Prelude.{◌≡◌, ℕ, zero, suc, ◌+◌, ◌/◌, ◌%◌, ◌==◌, ◌&&◌, ◌||◌, not, nat_le, Bool, false, List, ◌++◌, bytes_eq, length, slice_index, take}
+use Rattle.std.specs.Prelude.{◌≡◌, ℕ, zero, suc, ◌+◌, ◌/◌, ◌%◌, ◌==◌, ◌&&◌, ◌||◌, not, nat_le, nat_lt, Bool, false, List, ◌++◌, bytes_eq, length, slice_index, take, if◌then◌else◌, Option, Some, None}
 use Rattle.echo_stored.specs.StoredReading.{body_of}
+use Rattle.echo_jam.specs.declared.standing.Last.{Last}
 use Rattle.echo_jam.specs.declared.unsent.JamDraft.{JamDraft}
 use Rattle.echo_jam.specs.Fields.{most_of_id}
 use Rattle.echo_jam.specs.Same.{fields_at}
-use Rattle.echo_jam.specs.Standing.{entries_in, is_deleted_at, place_in}
+use Rattle.echo_jam.specs.Standing.{entries_in, is_deleted_at, last_at, place_in}
 use Rattle.echo_jam.specs.Subfields.{controls_of, field_or_none}
 
 -- bits of the attribute: Local and Sent, in its lowest byte
@@ -19,6 +20,15 @@ abbrev pub is_unsent : List ℕ → ℕ → Bool
 is_unsent headers at =
     nat_le (at + 76) (length headers)
     && (is_local_at headers at && (not (is_sent_at headers at) && not (is_deleted_at headers at)))
+
+-- the byte with the bits of such a message, once it is sent
+abbrev pub sent_attribute : List ℕ → ℕ → Option ℕ
+sent_attribute headers at = if is_unsent headers at then Some (slice_index headers (at + 52) + 16) else None
+
+-- that message of an entry, if it is one
+abbrev pub unsent_at : List ℕ → List ℕ → ℕ → ℕ → Option Last
+unsent_at headers index texts i =
+    if nat_lt i (entries_in index) && is_unsent headers (place_in index i) then last_at headers texts (place_in index i) else None
 
 -- the parts of a message with these subfields and this text: names, subject, the id of the message that is replied to,
 -- its own id, and the lines that its author wrote

@@ -1,8 +1,12 @@
 -- The bytes that are written for a nodelist.
-use Rattle.std.specs.Prelude.{ℕ, List, [], ◌∷◌, ◌++◌, decimal}
+use Rattle.std.specs.Prelude.{◌≡◌, ℕ, ◌<◌, List, [], ◌∷◌, ◌++◌, length, take, decimal, Option, Result, Ok, Err}
 use Rattle.std.specs.List.{flat_map, join_with_byte}
+use Rattle.std.specs.Io.KnownBytes.{Appends}
+use Rattle.disk_io.specs.Device.{Failed, counted}
 use Rattle.echo_nodelist.specs.declared.line.Line.{Line}
 use Rattle.echo_nodelist.specs.declared.line.Line.TheVariants.{Note, Entry}
+use Rattle.echo_nodelist.specs.declared.fault.NodeFault.{NodeFault}
+use Rattle.echo_nodelist.specs.declared.fault.NodeFault.TheVariants.{Memory, Write}
 use Rattle.echo_nodelist.specs.Line.{keyword_text}
 
 -- a Note unchanged; an entry's fields, joined by commas
@@ -17,3 +21,12 @@ line_and_end line = line_text line ++ 13 ∷ (10 ∷ [])
 -- the lines, and 1A
 unfoldable pub nodelist_text : List Line → List ℕ
 nodelist_text lines = flat_map line_and_end lines ++ 26 ∷ []
+
+-- The result of a call that had these bytes to write. Ok: all of them were sent. A write fault: the device failed,
+-- and this many bytes were sent, a beginning that is not complete. Out of memory: nothing was sent.
+abbrev pub WritesOut : {A : Type 0} → Option (List ℕ) → Option (List ℕ) → ℕ → ℕ → List ℕ → Result A NodeFault → Type 0
+WritesOut old new before after bytes (Ok done) = Appends old new bytes × (after ≡ before)
+WritesOut old new before after bytes (Err (Write n)) =
+    (k : ℕ) × (k < length bytes) × Appends old new (take k bytes) × (n ≡ counted k) × Failed before after
+WritesOut old new before after bytes (Err Memory) = (new ≡ old) × (after ≡ before)
+WritesOut old new before after bytes (Err _) = ⊥
