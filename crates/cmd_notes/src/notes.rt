@@ -13,7 +13,8 @@ use crate::word_notes::{
 use cmd_input::{MAX_TEXT_FILE, names_of, read_file};
 use cmd_status::{Fault, print_rest};
 use cmd_words::{
-    Asked, CheckWords, ExportWords, PostStoredWords, PostWords, ReplyWords, TossWords, Words,
+    Asked, CheckWords, ExportWords, PostStoredWords, PostWords, ReplyWords, ResendWords, TossWords,
+    Words,
 };
 use disk_io::Sink;
 use echo_stored::read_stored;
@@ -196,6 +197,7 @@ fn explain_station<E: Sink>(met: Met<'_>, words: &Words<'_>, errors: &mut E) {
             explain_path(met, *folder, Usage::Folder, errors);
             explain_outbound(met, *base, *folder, errors);
         }
+        Words::Resend(words) => explain_resend(met, words, errors),
         Words::Purge { links, base } => explain_files(met, *links, *base, errors),
         _ => {}
     }
@@ -243,6 +245,16 @@ fn explain_reply<E: Sink>(met: Met<'_>, words: &ReplyWords<'_>, errors: &mut E) 
     explain_files(met, words.links, words.base, errors);
     explain_fields(met, 0, words.from.len(), 0, errors);
     explain_index(met, words, errors);
+}
+
+fn explain_resend<E: Sink>(met: Met<'_>, words: &ResendWords<'_>, errors: &mut E) {
+    let form = WordForm::NodeAddress;
+    explain_word(met, Fault::BadAddress, form, Some(words.to), errors);
+    explain_word(met, Fault::BadNumber, WordForm::Number, words.from, errors);
+    explain_moment(met, words.at, None, errors);
+    let _ = explain_links(met, words.links, errors);
+    explain_path(met, words.base, Usage::Base, errors);
+    explain_path(met, words.folder, Usage::Folder, errors);
 }
 
 fn explain_toss<E: Sink>(met: Met<'_>, words: &TossWords<'_>, errors: &mut E) {
