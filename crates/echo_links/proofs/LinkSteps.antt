@@ -12,6 +12,7 @@ use Rattle.echo_links.specs.declared.link_file.reading.Reading.{Reading}
 use Rattle.echo_links.specs.Links.{Area}
 use Rattle.echo_links.specs.LinkLines.{area_in, file_fault, file_lines, file_of, first_fault, is_area_line, is_name_line, is_skipped, is_system_line, line_fault, name_in, no_address, system_in, tag_in}
 use Rattle.echo_links.specs.LinkReading.{Adds, Holds, Knows, areas_of, is_area_known, kept, name_of, system_of}
+use Rattle.echo_links.proofs.Found.{bytes_turned}
 use Rattle.echo_links.proofs.LinkBytes.{no_lines_left, skipped_word}
 use Rattle.echo_links.proofs.LinkTaking.{areas_one, name_one, or_none, system_one}
 
@@ -108,6 +109,30 @@ module _ (line : List ℕ) where
           | inr isnt ↦ areas_one line false h isnt ∙ sym (cond-false (is_area_line line) (area_in line ∷ []) [] isnt)
         ]
   ]
+
+has_tag_append : (all more : List Area) (tag : List ℕ) → is_area_known (all ++ more) tag ≡ (is_area_known all tag || is_area_known more tag)
+has_tag_append [] more tag = refl
+has_tag_append (area ∷ all) more tag = elim (cases_Bool (bytes_eq area.tag tag)) [
+  | inl is ↦
+      ap is_some (cond-true (bytes_eq area.tag tag) (Some area) (find (λ (a : Area). bytes_eq a.tag tag) (all ++ more)) is)
+      ∙ sym (ap (λ o. is_some o || is_area_known more tag) (cond-true (bytes_eq area.tag tag) (Some area) (find (λ (a : Area). bytes_eq a.tag tag) all) is))
+  | inr isnt ↦
+      ap is_some (cond-false (bytes_eq area.tag tag) (Some area) (find (λ (a : Area). bytes_eq a.tag tag) (all ++ more)) isnt)
+      ∙ has_tag_append all more tag
+      ∙ sym (ap (λ o. is_some o || is_area_known more tag) (cond-false (bytes_eq area.tag tag) (Some area) (find (λ (a : Area). bytes_eq a.tag tag) all) isnt))
+]
+
+one_tag : (area : Area) (tag : List ℕ) → is_area_known (area ∷ []) tag ≡ bytes_eq tag area.tag
+one_tag area tag = elim (cases_Bool (bytes_eq area.tag tag)) [
+  | inl is ↦ ap is_some (cond-true (bytes_eq area.tag tag) (Some area) None is) ∙ sym (bytes_turned tag area.tag ∙ is)
+  | inr isnt ↦ ap is_some (cond-false (bytes_eq area.tag tag) (Some area) None isnt) ∙ sym (bytes_turned tag area.tag ∙ isnt)
+]
+
+or_turned : (x y : Bool) → (x || y) ≡ (y || x)
+or_turned true true = refl
+or_turned true false = refl
+or_turned false true = refl
+or_turned false false = refl
 
 knows_more : (earlier : List (List ℕ)) (line : List ℕ) (old new : Reading) → Knows earlier old → Adds (line ∷ []) old new → Knows (line ∷ earlier) new
 knows_more earlier line old new knows adds = record {

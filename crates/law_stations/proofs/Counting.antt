@@ -2,9 +2,8 @@
 use Rattle.std.proofs.Common.{◌≡◌, inl, inr, refl, subst, ap, ℕ, zero, suc, ◌+◌, ◌≤◌, arith, List, [], ◌∷◌, ◌++◌, length, Option, Some, None}
 use Rattle.model_graph.specs.Walk.{Among, Different}
 use Rattle.model_run.specs.Run.{change, nth}
-use Rattle.model_run.proofs.Lists.{nth-changed}
+use Rattle.model_run.proofs.Lists.{none_some, nth-changed, some_same}
 use Rattle.law_stations.specs.Nets.{Paired}
-use Rattle.model_run.proofs.Targets.{some_same, none_some}
 
 -- 1 where two numbers are the same, else 0
 abbrev pub same_as : ℕ → ℕ → ℕ
@@ -43,6 +42,12 @@ pub same-yes : (k : ℕ) → same_as k k ≡ 1
 same-yes zero = refl
 same-yes (suc k) = same-yes k
 
+pub same-is : (a b : ℕ) → 1 ≤ same_as a b → a ≡ b
+same-is zero zero h = refl
+same-is zero (suc b) h = absurd (omega (arith, h))
+same-is (suc a) zero h = absurd (omega (arith, h))
+same-is (suc a) (suc b) h = ap suc (same-is a b h)
+
 pub times-append : (k : ℕ) (xs ys : List ℕ) → times k (xs ++ ys) ≡ times k xs + times k ys
 times-append k [] ys = omega arith
 times-append k (x ∷ xs) ys = let e = times-append k xs ys in omega (arith, e)
@@ -58,6 +63,14 @@ times-among k (x ∷ xs) h = elim h [
   | inl e ↦ (let one : same_as k x ≡ 1 = subst (λ (y : ℕ). same_as k y ≡ 1) e (same-yes k) in omega (arith, one))
   | inr t ↦ (let more = times-among k xs t in omega (arith, more))
 ]
+
+pub among-times : (k : ℕ) (xs : List ℕ) → 1 ≤ times k xs → Among k xs
+among-times k [] h = absurd (omega (arith, h))
+among-times k (x ∷ xs) h = by (same_as k x) refl (among-times k xs)
+  where
+    by : (n : ℕ) → same_as k x ≡ n → (1 ≤ times k xs → Among k xs) → Among k (x ∷ xs)
+    by zero e later = inr (later (omega (arith, h, e)))
+    by (suc n) e later = inl (same-is k x (omega (arith, e)))
 
 pub times-different : (xs : List ℕ) → ((k : ℕ) → times k xs ≤ 1) → Different xs
 times-different [] most = tt
@@ -76,6 +89,11 @@ pub below-most : (k n : ℕ) → below k n ≤ 1
 below-most k zero = omega arith
 below-most zero (suc n) = omega arith
 below-most (suc k) (suc n) = below-most k n
+
+pub below-there : {X : Type 0} (k : ℕ) (x : X) (xs : List X) → nth k xs ≡ Some x → below k (length xs) ≡ 1
+below-there k x [] h = absurd (none_some h)
+below-there zero x (y ∷ xs) h = refl
+below-there (suc k) x (y ∷ xs) h = below-there k x xs h
 
 pub waits-from : {X : Type 0} (k n : ℕ) (xs : List X) → below k n + waits k (from n xs) ≡ below k (n + length xs)
 waits-from k n [] = let e : n ≡ n + 0 = omega arith in omega (arith, ap (below k) e)

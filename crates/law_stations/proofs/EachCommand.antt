@@ -1,19 +1,19 @@
 -- Whatever stops commands, their disks go with a net on which nothing stopped any of them inside.
-use Rattle.std.proofs.Common.{◌≡◌, ◌⊎◌, inl, inr, refl, sym, subst, ◌∙◌, ℕ, zero, suc, arith, List, [], ◌∷◌, length, take, Some}
+use Rattle.std.proofs.Common.{◌≡◌, ◌⊎◌, inl, inr, refl, sym, subst, ◌∙◌, ℕ, zero, suc, ◌≤◌, arith, List, [], ◌∷◌, length, take, Option, Some, None}
 use Rattle.model_graph.specs.Walk.{Among}
 use Rattle.model_steps.specs.declared.stamp.Stamp.{Stamp}
 use Rattle.model_run.specs.Run.{nth}
+use Rattle.model_run.proofs.Lists.{some_same}
 use Rattle.law_stations.specs.Commands.{Command, CommandEvent, Happen, Happens, Leads, Post, Purge, Scan, Toss}
 use Rattle.law_stations.specs.Nets.{Net, Paired, first_net}
 use Rattle.law_stations.specs.Disks.{StagingFile, Disks, cursors, first_disks}
 use Rattle.law_stations.specs.OverCrashes.{CrashesAreNone, HasNet, IsLike, IsLikeEvent, IsToBeNamed}
 use Rattle.law_stations.specs.Stopping.{EndsSome, PartialEffect, MayHappen, MayHappenAll, Moves, ScansFar, Writes}
-use Rattle.law_stations.proofs.Counting.{among-times, below-most, below-there, times, times-different}
+use Rattle.law_stations.proofs.Counting.{among-times, below-most, below-there, same-is, same_as, times, times-different, waits}
 use Rattle.law_stations.proofs.Ending.{some-ended}
 use Rattle.law_stations.proofs.Moving.{moved, scans, then, written}
 use Rattle.law_stations.proofs.Others.{Led, posted-too, purged-too, tossed-too}
-use Rattle.law_stations.proofs.Tracking.{Tracks, cursor-too}
-use Rattle.model_run.proofs.Targets.{some_same}
+use Rattle.law_stations.proofs.Tracking.{IsTagged, Tracks, cursor-too}
 
 -- a command is like itself
 itself-like : (command : Command) → IsLike command command
@@ -116,6 +116,24 @@ first-tracks links = record {
   each = λ k. omega arith;
   tossed = λ j h. absurd h;
 }
+
+-- the file in which a packet waits
+waiting : (k : ℕ) (packets : List (List ℕ)) (at : List ℕ) (files : List StagingFile) (tags : List (Option ℕ)) → Paired (IsTagged packets at) files tags → 1 ≤ waits k tags
+    → (file : StagingFile) × Among file files × IsTagged packets at file (Some k)
+waiting k packets at [] [] are some = absurd (omega (arith, some))
+waiting k packets at [] (tag ∷ tags) are some = absurd are
+waiting k packets at (file ∷ files) [] are some = absurd are
+waiting k packets at (file ∷ files) (None ∷ tags) are some =
+    let (x, there, is) = waiting k packets at files tags are.1 some in
+    (x, inr there, is)
+waiting k packets at (file ∷ files) (Some n ∷ tags) are some = by (same_as k n) refl (waiting k packets at files tags are.1)
+  where
+    by : (m : ℕ) → same_as k n ≡ m → (1 ≤ waits k tags → (x : StagingFile) × Among x files × IsTagged packets at x (Some k))
+        → (x : StagingFile) × Among x (file ∷ files) × IsTagged packets at x (Some k)
+    by zero e later = let (x, there, is) = later (omega (arith, some, e)) in (x, inr there, is)
+    by (suc m) e later =
+        let one = same-is k n (omega (arith, e)) in
+        (file, inl refl, subst (λ (o : ℕ). IsTagged packets at file (Some o)) (sym one) are.0)
 
 -- so the disks have the net
 pub has-net : (d : Disks) (net : Net) → Tracks d net → HasNet d net
