@@ -24,15 +24,6 @@ use Rattle.echo_net.proofs.Ascending.{earlier_less}
 use Rattle.echo_net.proofs.Orders.{address_order, address_total, before_is, before_less, not_before_itself, same_exact, same_itself}
 use Rattle.model_run.proofs.Places.{lister-carries as lister_carries}
 
--- only a file with the area has links in it
-link_has_area : (file : LinkFile) (tag : List ℕ) (b : Address) → is_link file tag b ≡ true → has_area file tag ≡ true
-unfolding links_of
-link_has_area file tag b h = found (area_of file tag) h
-  where
-    found : (o : Option Area) → list_any (same_address b) (unwrap_or (option_map (λ area. area.links) o) []) ≡ true → is_some o ≡ true
-    found None e = cc
-    found (Some area) e = refl
-
 pub before_back : (a b : Address) → address_before a b ≡ true → address_before b a ≡ false
 before_back a b h = before_is b a ∙ ap is_lt (address_total.antisymm b a ∙ ap ordering_reverse (before_less a b h))
 

@@ -2,7 +2,8 @@
 use Rattle.std.proofs.Common.{◌≡◌, inl, inr, refl, subst, ap, ℕ, zero, suc, ◌+◌, ◌≤◌, arith, List, [], ◌∷◌, ◌++◌, length, Option, Some, None}
 use Rattle.model_graph.specs.Walk.{Among, Different}
 use Rattle.model_run.specs.Run.{change, nth}
-use Rattle.model_run.proofs.Lists.{none_some, nth-changed, some_same}
+use Rattle.model_run.proofs.Lists.{nth-changed}
+use Rattle.model_run.proofs.Targets.{none_some, some_same}
 use Rattle.law_stations.specs.Nets.{Paired}
 
 -- 1 where two numbers are the same, else 0

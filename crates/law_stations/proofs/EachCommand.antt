@@ -3,7 +3,7 @@ use Rattle.std.proofs.Common.{◌≡◌, ◌⊎◌, inl, inr, refl, sym, subst, 
 use Rattle.model_graph.specs.Walk.{Among}
 use Rattle.model_steps.specs.declared.stamp.Stamp.{Stamp}
 use Rattle.model_run.specs.Run.{nth}
-use Rattle.model_run.proofs.Lists.{some_same}
+use Rattle.model_run.proofs.Targets.{some_same}
 use Rattle.law_stations.specs.Commands.{Command, CommandEvent, Happen, Happens, Leads, Post, Purge, Scan, Toss}
 use Rattle.law_stations.specs.Nets.{Net, Paired, first_net}
 use Rattle.law_stations.specs.Disks.{StagingFile, Disks, cursors, first_disks}

@@ -1,13 +1,9 @@
 -- What loading answers of the bytes of a base.
-use Rattle.std.proofs.Common.{◌≡◌, ◌-◌, ◌^◌, ◌<◌, ◌≤◌, ℕ, [], ap, Result, Ok, Err, arith, ⊎_elim}
-use Rattle.disk_io.specs.Device.{Failed}
+use Rattle.std.proofs.Common.{◌≡◌, ℕ, [], ap, Result, Ok, Err}
 use Rattle.base_file.specs.Base.{Base}
 use Rattle.base_file.specs.BaseFile.{Loaded}
 use Rattle.base_file.specs.Loading.{AnswersLoad}
 use Rattle.base_file.specs.declared.fault.BaseFault.{BaseFault}
-
-never_failed : Failed 0 0 → ⊥
-never_failed failed = ⊎_elim (λ (more : 0 < 0). omega (arith, more)) (λ (at : (2 ^ 64 - 1 ≤ 0) × (0 ≡ 0)). omega (arith, at.0)) failed
 
 abbrev base_in : Result Loaded BaseFault → Base
 base_in (Ok loaded) = record { messages = loaded.0; cursor = loaded.1 }
