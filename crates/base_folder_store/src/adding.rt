@@ -4,11 +4,11 @@ ghost use Rattle.disk_io.specs.Disk.{Honestly};
 ghost use Rattle.disk_io.specs.Runs.{HasCause, LeavesOnly};
 ghost use Rattle.base_log.specs.AtRest.{IsAtRest, IsStaged};
 ghost use Rattle.base_log.specs.Moments.{LeavesOutside, StandsAlone};
+ghost use Rattle.base_log.specs.Opening.{AreGone};
 ghost use Rattle.base_log.specs.Names.{AreNames, folder_of};
 ghost use Rattle.base_log.specs.Standing.{base_at};
 ghost use Rattle.base_folder_store.specs.Added.{IsFull, LacksRoom, OneMoreWaits, SameBesideBoth, next_place, with_stored};
 ghost use Rattle.base_folder_store.specs.Calls.{CommitsOnly, HasWriteCause, IsAcknowledged, IsWrittenOut, StagesBoth, StagesOnly, StaysInFiles, StaysOpen};
-ghost use Rattle.base_folder_store.specs.Left.{AreGone};
 ghost use Rattle.base_folder_store.specs.Opened.{IsWritten, committed_by, held_by, path_of};
 ghost use Rattle.base_folder_store.specs.State.{IsUsable};
 

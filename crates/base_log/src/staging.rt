@@ -1,13 +1,13 @@
 //! Messages and keys written after those that count, before a commit. However many are written so, a crash leaves the
 //! base as it was.
-ghost use Rattle.std.specs.Prelude.{◌≡◌, ◌<◌, ◌+◌, ◌^◌, length, IfOk, OnOk};
+ghost use Rattle.std.specs.Prelude.{◌≡◌, ◌<◌, ◌+◌, ◌^◌, length, IfOk};
 ghost use Rattle.disk_io.specs.Disk.{Honestly};
-ghost use Rattle.disk_io.specs.Runs.{LeavesOnly, HasCause};
+ghost use Rattle.disk_io.specs.Runs.{HasCause};
 ghost use Rattle.disk_io.specs.Steps.{SameBeside};
-ghost use Rattle.base_log.specs.Names.{AreNames, folder_of, keys_of, messages_of};
+ghost use Rattle.base_log.specs.Names.{folder_of, keys_of, messages_of};
 ghost use Rattle.base_log.specs.Standing.{base_at, and_messages, and_keys};
-ghost use Rattle.base_log.specs.AtRest.{IsAtRest, IsStaged};
-ghost use Rattle.base_log.specs.Moments.{StandsAlone, KeepsOutside, LeavesOutside};
+ghost use Rattle.base_log.specs.AtRest.{HoldsNext, IsAtRest, IsStaged, IsStagedBy};
+ghost use Rattle.base_log.specs.Moments.{LeavesOutside, StagesOnly};
 
 use crate::log::{CommitRecord, End, FolderIdentity};
 use crate::names::Names;
@@ -41,19 +41,14 @@ pub fn stage_messages<D: Disk>(
     told: CommitRecord,
     bytes: &[u8],
 ) -> Result<CommitRecord, DiskError>
-    requires names { AreNames names.now told.number }
-    requires staged { Honestly (D.state disk.old) (IsStaged (D.state disk.old) (folder_of names.now) end told) }
+    requires staged { IsStagedBy (D.state disk.old) names.now end told }
     requires room { told.messages + length bytes.now < 2 ^ 64 }
     ensures staged { Honestly (D.state disk.new) (IfOk result (λ more. IsStaged (D.state disk.new) (folder_of names.now) end more)) }
     ensures told { IfOk result (λ more. more ≡ record told { messages = told.messages + length bytes.now }) }
-    ensures added { Honestly (D.state disk.new) (IfOk result (λ more. base_at (D.state disk.new) (folder_of names.now) more
-        ≡ and_messages (base_at (D.state disk.old) (folder_of names.now) told) bytes.now)) }
-    ensures same { Honestly (D.state disk.new) (OnOk result (base_at (D.state disk.new) (folder_of names.now) end.told
-        ≡ base_at (D.state disk.old) (folder_of names.now) end.told)) }
+    ensures next { Honestly (D.state disk.new) (IfOk result (HoldsNext (D.state disk.new) (folder_of names.now) end.told
+        (base_at (D.state disk.old) (folder_of names.now) end.told) (and_messages (base_at (D.state disk.old) (folder_of names.now) told) bytes.now))) }
     ensures beside { SameBeside (messages_of (folder_of names.now) told.number) (D.state disk.old).seen (D.state disk.new).seen }
-    ensures any_moment { Honestly (D.state disk.new) (LeavesOnly (D.state disk.old) (D.state disk.new)
-        (StandsAlone (folder_of names.now) (D.state disk.old) (base_at (D.state disk.old) (folder_of names.now) end.told))) }
-    ensures outside { KeepsOutside (folder_of names.now) (D.state disk.old) (D.state disk.new) }
+    ensures run { StagesOnly (folder_of names.now) (base_at (D.state disk.old) (folder_of names.now) end.told) (D.state disk.old) (D.state disk.new) }
     ensures leaves { LeavesOutside (folder_of names.now) (D.state disk.old) (D.state disk.new) }
     ensures cause { HasCause (D.failures disk.old) (D.failures disk.new) result }
 {
@@ -72,19 +67,14 @@ pub fn stage_keys<D: Disk>(
     told: CommitRecord,
     bytes: &[u8],
 ) -> Result<CommitRecord, DiskError>
-    requires names { AreNames names.now told.number }
-    requires staged { Honestly (D.state disk.old) (IsStaged (D.state disk.old) (folder_of names.now) end told) }
+    requires staged { IsStagedBy (D.state disk.old) names.now end told }
     requires room { told.keys + length bytes.now < 2 ^ 64 }
     ensures staged { Honestly (D.state disk.new) (IfOk result (λ more. IsStaged (D.state disk.new) (folder_of names.now) end more)) }
     ensures told { IfOk result (λ more. more ≡ record told { keys = told.keys + length bytes.now }) }
-    ensures added { Honestly (D.state disk.new) (IfOk result (λ more. base_at (D.state disk.new) (folder_of names.now) more
-        ≡ and_keys (base_at (D.state disk.old) (folder_of names.now) told) bytes.now)) }
-    ensures same { Honestly (D.state disk.new) (OnOk result (base_at (D.state disk.new) (folder_of names.now) end.told
-        ≡ base_at (D.state disk.old) (folder_of names.now) end.told)) }
+    ensures next { Honestly (D.state disk.new) (IfOk result (HoldsNext (D.state disk.new) (folder_of names.now) end.told
+        (base_at (D.state disk.old) (folder_of names.now) end.told) (and_keys (base_at (D.state disk.old) (folder_of names.now) told) bytes.now))) }
     ensures beside { SameBeside (keys_of (folder_of names.now) told.number) (D.state disk.old).seen (D.state disk.new).seen }
-    ensures any_moment { Honestly (D.state disk.new) (LeavesOnly (D.state disk.old) (D.state disk.new)
-        (StandsAlone (folder_of names.now) (D.state disk.old) (base_at (D.state disk.old) (folder_of names.now) end.told))) }
-    ensures outside { KeepsOutside (folder_of names.now) (D.state disk.old) (D.state disk.new) }
+    ensures run { StagesOnly (folder_of names.now) (base_at (D.state disk.old) (folder_of names.now) end.told) (D.state disk.old) (D.state disk.new) }
     ensures leaves { LeavesOutside (folder_of names.now) (D.state disk.old) (D.state disk.new) }
     ensures cause { HasCause (D.failures disk.old) (D.failures disk.new) result }
 {
