@@ -1,5 +1,5 @@
 -- A base folder that is filled with messages.
-use Rattle.std.specs.Prelude.{◌≡◌, ◌⊎◌, ℕ, Bool, List, [], false, take, Some, slice_get}
+use Rattle.std.specs.Prelude.{◌≡◌, ◌≤◌, ◌⊎◌, ℕ, Bool, List, [], false, length, take, Some, slice_get}
 use Rattle.base_file.specs.Base.{Base, is_known}
 use Rattle.echo_filed.specs.Filed.{Filed, key_of}
 use Rattle.base_log.specs.Standing.{BaseBytes}
@@ -23,6 +23,11 @@ HoldsMore keyed old new m = (base : Base) → HoldsBase keyed old base → is_kn
 -- So many of the messages are held, from the front, and this cursor.
 abbrev pub HoldsFront : (ℕ → ℕ → List ℕ → ℕ) → BaseBytes → List Filed → ℕ → ℕ → Type 0
 HoldsFront keyed bytes messages n cursor = HoldsBase keyed bytes (record { messages = take n messages; cursor = cursor })
+
+-- From one message of these up to another one or to their end.
+pub record IsRangeOf (messages : List Filed) (from to : ℕ) : Type 0 where
+  pub order : from ≤ to
+  pub within : to ≤ length messages
 
 -- The files hold the base from before or the other one, and nothing outside the folder has changed.
 abbrev pub StandsForOneOf : (ℕ → ℕ → List ℕ → ℕ) → List ℕ → DiskState → Base → Base → Files → Type 0

@@ -1,11 +1,12 @@
 -- A base folder that was looked at.
-use Rattle.std.specs.Prelude.{◌≡◌, ◌≤◌, ◌<◌, ◌/◌, ℕ, Bool, List, take}
+use Rattle.std.specs.Prelude.{◌≡◌, ◌≤◌, ◌<◌, ◌/◌, ℕ, Bool, List, length, take}
 use Rattle.disk_io.specs.Disk.{DiskState, Files, bytes_in}
 use Rattle.base_file.specs.declared.fault.BaseFault.TheVariants as base
 use Rattle.base_log.specs.Names.{log_of}
 use Rattle.base_log.specs.Standing.{BaseBytes, StandsFor}
-use Rattle.base_log.specs.Reading.{ReadsAll}
+use Rattle.base_log.specs.Reading.{IsRead, ReadsAll}
 use Rattle.base_log.specs.declared.log.End.{End}
+use Rattle.base_log.specs.declared.log.Log.{Log}
 use Rattle.base_folder_store.specs.Opened.{held_by}
 use Rattle.base_folder_store.specs.Vouched.{HasNone, IsVouched}
 use Rattle.base_folder_store.specs.declared.folder.Folder.{Folder}
@@ -13,6 +14,11 @@ use Rattle.base_folder.specs.OpenError.{IsWrong}
 use Rattle.base_folder.specs.declared.looking.LookedFolder.{LookedFolder}
 use Rattle.base_folder.specs.declared.open_error.OpenError.{OpenError}
 use Rattle.base_folder.specs.declared.open_error.OpenError.TheVariants as unread
+
+-- The log was read to the end of its last record, which is among its bytes.
+pub record IsReadWhole (log : Log) : Type 0 where
+  pub read : IsRead log
+  pub within : log.end.gate ≤ length log.bytes.items
 
 -- Each message from this number on has the digest of its entry.
 abbrev pub AreVouched : (ℕ → ℕ → List ℕ → ℕ) → DiskState → ℕ → Folder → Type 0

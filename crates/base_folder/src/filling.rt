@@ -1,5 +1,5 @@
 //! A base folder filled with the messages of a base.
-ghost use Rattle.std.specs.Prelude.{◌≡◌, ◌≢◌, ◌≤◌, ◌<◌, ◌+◌, ℕ, List, IfErr, IsErrOf, OnOk, Some, length, slice_get};
+ghost use Rattle.std.specs.Prelude.{◌≡◌, ◌≢◌, ◌<◌, ◌+◌, ℕ, List, IfErr, IsErrOf, OnOk, Some, length, slice_get};
 ghost use Rattle.base_file.specs.Base as model;
 ghost use Rattle.base_file.specs.Base.{IsBase};
 ghost use Rattle.disk_io.specs.Disk.{Honestly};
@@ -15,7 +15,7 @@ ghost use Rattle.base_folder_store.specs.Calls.{StagesOnly, StaysOpen};
 ghost use Rattle.base_folder_store.specs.Opened.{IsOpen, committed_by, held_by, path_of};
 ghost use Rattle.base_folder_store.specs.Owned.{with_mark};
 ghost use Rattle.base_folder_store.specs.State.{IsUsable};
-ghost use Rattle.base_folder.specs.Filled.{HoldsFront, HoldsMore, IsFilledFull, IsKept, IsUnfilled, StandsForOneOf, StandsForOneOfOrWasLeft, no_messages, unfilled_cause};
+ghost use Rattle.base_folder.specs.Filled.{HoldsFront, HoldsMore, IsFilledFull, IsKept, IsRangeOf, IsUnfilled, StandsForOneOf, StandsForOneOfOrWasLeft, no_messages, unfilled_cause};
 ghost use Rattle.base_folder.specs.Ours.{SameKey};
 ghost use Rattle.base_folder.specs.OpenError.{HasUnreadCause};
 
@@ -88,8 +88,7 @@ fn add_from<D: Disk, H: Digest, S: BuildHasher>(
 ) -> Result<(), StoreError>
     requires usable { IsUsable (D.state disk.old) folder.old }
     requires base { IsBase base.now.messages base.now.cursor }
-    requires order { from ≤ to }
-    requires within { to ≤ length base.now.messages }
+    requires range { IsRangeOf base.now.messages from to }
     ensures stays { StaysOpen folder.old folder.new (D.state disk.new) result }
     ensures added { Honestly (D.state disk.new) ((cursor : ℕ) → HoldsFront H.keyed (held_by (D.state disk.old) folder.old) base.now.messages from cursor
         → OnOk result (HoldsFront H.keyed (held_by (D.state disk.new) folder.new) base.now.messages to cursor)) }

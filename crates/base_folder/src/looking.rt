@@ -1,12 +1,12 @@
 //! A base folder read without a change, so that no lock is needed.
-ghost use Rattle.std.specs.Prelude.{◌≡◌, ◌≤◌, ◌<◌, ◌/◌, ◌++◌, ℕ, List, length, take, true, IfErr, IfOk, IfSome, IsSome, OnOk};
+ghost use Rattle.std.specs.Prelude.{◌≡◌, ◌++◌, ℕ, List, length, take, true, IfErr, IfOk, IfSome, IsSome, OnOk};
 ghost use Rattle.disk_io.specs.Disk.{Honestly};
 ghost use Rattle.disk_io.specs.Runs.{ChangesNothing};
-ghost use Rattle.base_log.specs.Reading.{IsLogIn, IsRead};
+ghost use Rattle.base_log.specs.Reading.{IsLogIn};
 ghost use Rattle.base_log.specs.Standing.{BaseBytes, StandsFor, base_at};
 ghost use Rattle.base_folder_store.specs.Opened.{held_by};
 ghost use Rattle.base_folder_store.specs.Vouched.{IsLookedAt};
-ghost use Rattle.base_folder.specs.Looked.{AreVouched, GoesOn, HasLogs, IsUnseen};
+ghost use Rattle.base_folder.specs.Looked.{AreVouched, GoesOn, HasLogs, IsReadWhole, IsUnseen};
 ghost use Rattle.base_folder.specs.OpenError.{HasUnreadCause};
 ghost use Rattle.base_folder.specs.Wrong.{IsSound};
 
@@ -106,10 +106,8 @@ fn look_once<D: Disk, H: Digest, P: ReadingProgress>(
 
 // Whether nothing that was read changed during the try: a fault is known of one log alone.
 fn is_steady(read: &Result<Folder, OpenError>, before: &Log, after: &Log) -> bool
-    requires before { IsRead before.now }
-    requires after { IsRead after.now }
-    requires within { after.now.end.gate ≤ length after.now.bytes.items }
-    requires front { before.now.end.gate ≤ length before.now.bytes.items }
+    requires before { IsReadWhole before.now }
+    requires after { IsReadWhole after.now }
     ensures same { before.now.bytes.items ≡ after.now.bytes.items → result ≡ true }
     ensures steady { result ≡ true → OnOk read.now (GoesOn before.now.bytes.items after.now.bytes.items) }
 {
@@ -131,10 +129,8 @@ fn begins_with(log: &[u8], records: &[u8]) -> bool
 // Whether the files that held the base then hold it still: the log continues from what it was, and no record since
 // then names other files, as two purges do.
 fn goes_on(before: &Log, after: &Log) -> bool
-    requires before { IsRead before.now }
-    requires after { IsRead after.now }
-    requires within { after.now.end.gate ≤ length after.now.bytes.items }
-    requires front { before.now.end.gate ≤ length before.now.bytes.items }
+    requires before { IsReadWhole before.now }
+    requires after { IsReadWhole after.now }
     ensures same { before.now.bytes.items ≡ after.now.bytes.items → result ≡ true }
     ensures goes_on { result ≡ true → GoesOn before.now.bytes.items after.now.bytes.items }
 {
@@ -171,8 +167,7 @@ fn folder_by<D: Disk, H: Digest, P: ReadingProgress>(
     progress: &P,
 ) -> Result<Folder, OpenError>
     requires log { Honestly (D.state disk.old) (IsLogIn path.now (D.state disk.old).seen log.now) }
-    requires read { IsRead log.now }
-    requires within { log.now.end.gate ≤ length log.now.bytes.items }
+    requires read { IsReadWhole log.now }
     ensures bytes { IfOk result (λ folder. held_by (D.state disk.new) folder ≡ base_at (D.state disk.old) path.now log.now.end.told) }
     ensures ready { IfOk result (IsLookedAt (D.state disk.new)) }
     ensures vouched { Honestly (D.state disk.new) (IfOk result (AreVouched H.keyed (D.state disk.new) first)) }

@@ -4,7 +4,8 @@ use Rattle.disk_io.specs.Device.{Failed}
 use Rattle.disk_io.specs.Disk.{DiskState, Files, Honestly}
 use Rattle.disk_io.specs.Runs.{LeavesOnly}
 use Rattle.base_log.specs.AtRest.{IsAtRest, IsStaged}
-use Rattle.base_log.specs.Moments.{IsBeforeOrAfter, KeepsOutside, StandsAlone}
+pub use Rattle.base_log.specs.Moments.{StagesOnly}
+use Rattle.base_log.specs.Moments.{IsBeforeOrAfter, KeepsOutside}
 use Rattle.base_log.specs.Standing.{BaseBytes, and_keys, and_messages, base_at}
 use Rattle.base_log.specs.declared.log.CommitRecord.{CommitRecord}
 use Rattle.base_log.specs.declared.log.End.{End}
@@ -26,11 +27,6 @@ pub record StaysInFiles (old new : Folder) (before after : Files) : Type 0 where
   pub end : new.end ≡ old.end
   pub number : new.told.number ≡ old.told.number
   pub beside : SameBesideBoth (path_of old) old.told.number before after
-
--- A run that commits nothing: a crash at any time leaves this base. Nothing outside the folder has changed.
-pub record StagesOnly (path : List ℕ) (base : BaseBytes) (old new : DiskState) : Type 0 where
-  pub any_moment : Honestly new (LeavesOnly old new (StandsAlone path old base))
-  pub outside : KeepsOutside path old new
 
 -- A run that commits at most once: a crash at any time leaves the base from before or the one after. Nothing outside the folder has changed.
 pub record CommitsOnly (path : List ℕ) (first next : BaseBytes) (old new : DiskState) : Type 0 where

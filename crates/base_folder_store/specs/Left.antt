@@ -1,5 +1,5 @@
 -- What a purge leaves of a base folder, message by message.
-use Rattle.std.specs.Prelude.{◌≡◌, ◌≢◌, ◌≤◌, ◌<◌, ◌^◌, ℕ, Bool, true, false, not, ◌&&◌, List, length, take, count_by, None, Result, IsErrOf}
+use Rattle.std.specs.Prelude.{◌≡◌, ◌≢◌, ◌≤◌, ◌<◌, ◌^◌, ℕ, Bool, true, false, not, ◌&&◌, List, length, take, count_by, Result, IsErrOf}
 use Rattle.disk_io.specs.Device.{Failed}
 use Rattle.disk_io.specs.Disk.{DiskState, Honestly}
 use Rattle.base_file.specs.Base.{Base}
@@ -7,7 +7,6 @@ use Rattle.echo_filed.specs.Filed.{Filed}
 use Rattle.echo_filed.specs.Stored.{Stored, message_in, stored_bytes}
 use Rattle.echo_filed.specs.declared.stored.Version.TheVariants.{Second}
 use Rattle.echo_filed.specs.Stubs.{is_stub, stub_of}
-use Rattle.base_log.specs.Names.{keys_of, messages_of}
 use Rattle.base_log.specs.Standing.{BaseBytes}
 use Rattle.base_store.specs.Keys.{place_at}
 use Rattle.base_store.specs.Store.{purged}
@@ -79,8 +78,3 @@ pub record HasPurgeCause {T : Type 0} (disk : DiskState) (bytes : BaseBytes) (be
   pub later : before ≤ now
   pub failed : IsErrOf result error.Device → Failed before now
   pub damaged : Honestly disk (IsErrOf result error.Damaged → (keyed : ℕ → ℕ → List ℕ → ℕ) (base : Base) → HoldsBase keyed bytes base → ⊥)
-
--- The files of that number are there no more.
-pub record AreGone (disk : DiskState) (path : List ℕ) (number : ℕ) : Type 0 where
-  pub messages : disk.seen (messages_of path number) ≡ None
-  pub keys : disk.seen (keys_of path number) ≡ None

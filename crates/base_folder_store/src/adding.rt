@@ -4,16 +4,16 @@ ghost use Rattle.disk_io.specs.Disk.{Honestly};
 ghost use Rattle.disk_io.specs.Runs.{HasCause, LeavesOnly};
 ghost use Rattle.base_log.specs.AtRest.{IsAtRest, IsStaged};
 ghost use Rattle.base_log.specs.Moments.{LeavesOutside, StandsAlone};
+ghost use Rattle.base_log.specs.Opening.{AreGone};
 ghost use Rattle.base_log.specs.Names.{AreNames, folder_of};
 ghost use Rattle.base_log.specs.Standing.{base_at};
 ghost use Rattle.base_folder_store.specs.Added.{IsFull, LacksRoom, OneMoreWaits, SameBesideBoth, next_place, with_stored};
 ghost use Rattle.base_folder_store.specs.Calls.{CommitsOnly, HasWriteCause, IsAcknowledged, IsWrittenOut, StagesBoth, StagesOnly, StaysInFiles, StaysOpen};
-ghost use Rattle.base_folder_store.specs.Left.{AreGone};
 ghost use Rattle.base_folder_store.specs.Opened.{IsWritten, committed_by, held_by, path_of};
 ghost use Rattle.base_folder_store.specs.State.{IsUsable};
 
 use crate::folder::{ENTRY, Folder};
-use base_log::{CommitRecord, End, Names, commit, remove_files, stage_keys, stage_messages};
+use base_log::{CommitRecord, End, GrowingFile, Names, commit, remove_files, stage_bytes};
 use base_store::{StoreError, entry};
 use disk_io::{Disk, DiskError};
 
@@ -42,8 +42,8 @@ fn stage_both<D: Disk>(
     ensures leaves { LeavesOutside (folder_of names.now) (D.state disk.old) (D.state disk.new) }
     ensures cause { HasCause (D.failures disk.old) (D.failures disk.new) result }
 {
-    let more = stage_messages(disk, names, end, told, bytes)?;
-    stage_keys(disk, names, end, more, keys)
+    let more = stage_bytes(disk, names, end, told, GrowingFile::Messages, bytes)?;
+    stage_bytes(disk, names, end, more, GrowingFile::Keys, keys)
 }
 
 impl Folder {

@@ -29,4 +29,4 @@ pub use alone::{Alone, bytes_alone, read_alone};
 pub use folder::Folder;
 pub use folder_store::FolderStore;
 pub use laws::one_message_more;
-pub use sought::{Id, Sought};
+pub use sought::{Id, Sought, is_stored};

@@ -177,8 +177,6 @@ impl Folder {
         requires within { place < self.now.keys / 16 }
         ensures stored { Honestly (D.state disk.new) ((base : List Filed) → StandWhereTold base (held_by (D.state disk.old) self.now).messages (held_by (D.state disk.old) self.now).keys
             → place < length base → Answers (λ stored. IsStoredOf base place stored.bytes.items) result) }
-        ensures long { Honestly (D.state disk.new) ((s : Stored) → HasBytesOf (held_by (D.state disk.old) self.now).messages (held_by (D.state disk.old) self.now).keys place s
-            → IfOk result (λ stored. length stored.bytes.items ≡ length (stored_bytes Second s))) }
         ensures there { Honestly (D.state disk.new) ((s : Stored) → HasBytesOf (held_by (D.state disk.old) self.now).messages (held_by (D.state disk.old) self.now).keys place s
             → Answers (λ stored. stored.bytes.items ≡ stored_bytes Second s) result) }
         ensures digest { Honestly (D.state disk.new) (IfOk result (λ stored. stored.digest ≡ digest_at (held_by (D.state disk.old) self.now).keys place)) }

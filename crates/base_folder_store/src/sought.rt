@@ -64,11 +64,7 @@ impl Sought for Id<'_> {
 }
 
 /// Whether the message of these stored bytes is the sought one. All of it is read only if its front is inconclusive.
-pub(crate) fn is_stored<W: Sought>(
-    alloc: Global,
-    sought: &W,
-    bytes: &[u8],
-) -> Result<bool, StoreError>
+pub fn is_stored<W: Sought>(alloc: Global, sought: &W, bytes: &[u8]) -> Result<bool, StoreError>
     ensures found { (m : Filed) → IsStoredAlone m bytes.now → Answers (λ found. found ≡ W.test sought.now m) result }
     ensures device { IsErrOf result StoreError.Device → ⊥ }
     ensures few { IsErrOf result StoreError.TooMany → ⊥ }

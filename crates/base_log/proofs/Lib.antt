@@ -1,6 +1,7 @@
 pub mod Behind
 pub mod Empty
 pub mod Gates
+pub mod Growing
 pub mod LeftOutside
 pub mod Logs
 pub mod Made

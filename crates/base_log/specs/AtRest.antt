@@ -1,12 +1,13 @@
 -- A base folder between two commits, and in one.
 use Rattle.std.specs.Prelude.{◌≡◌, ◌≢◌, ◌<◌, ◌≤◌, ℕ, List, ◌∷◌, ◌++◌, length, IsSome}
-use Rattle.disk_io.specs.Disk.{DiskState, Files, bytes_in, IsIn}
+use Rattle.disk_io.specs.Disk.{DiskState, Files, Honestly, bytes_in, IsIn}
 use Rattle.disk_io.specs.Synced.{IsOnDisk}
-use Rattle.base_log.specs.Names.{log_of, messages_of, keys_of}
+use Rattle.base_log.specs.Names.{AreNames, folder_of, log_of, messages_of, keys_of}
 use Rattle.base_log.specs.Log.{opened, AreBodies, last_told}
-use Rattle.base_log.specs.Standing.{StandsFor, base_at}
+use Rattle.base_log.specs.Standing.{BaseBytes, StandsFor, base_at}
 use Rattle.base_log.specs.declared.log.CommitRecord.{CommitRecord}
 use Rattle.base_log.specs.declared.log.End.{End}
+use Rattle.base_log.specs.declared.names.Names.{Names}
 
 -- The log has a closed gate at this place, after records that end with this one, and is on the disk.
 pub record IsLogAt (disk : DiskState) (path : List ℕ) (end : End) : Type 0 where
@@ -46,3 +47,18 @@ pub record IsStaged (disk : DiskState) (path : List ℕ) (end : End) (told : Com
   -- in the files that count it is behind what counts
   pub messages_behind : told.number ≡ end.told.number → end.told.messages ≤ told.messages
   pub keys_behind : told.number ≡ end.told.number → end.told.keys ≤ told.keys
+
+-- The number is a digit that the base does not use.
+pub record IsFreeNumber (end : End) (number : ℕ) : Type 0 where
+  pub digit : number < 10
+  pub other : number ≢ end.told.number
+
+-- This record is staged in the files of these names.
+pub record IsStagedBy (disk : DiskState) (all : Names) (end : End) (told : CommitRecord) : Type 0 where
+  pub names : AreNames all told.number
+  pub staged : Honestly disk (IsStaged disk (folder_of all) end told)
+
+-- What was committed last is the first base, and what the other record counts is the next one.
+pub record HoldsNext (disk : DiskState) (path : List ℕ) (committed : CommitRecord) (first next : BaseBytes) (more : CommitRecord) : Type 0 where
+  pub added : base_at disk path more ≡ next
+  pub same : base_at disk path committed ≡ first

@@ -1,4 +1,5 @@
 pub mod AtRest
+pub mod Growing
 pub mod Log
 pub mod Moments
 pub mod Names

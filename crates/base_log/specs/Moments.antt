@@ -1,6 +1,6 @@
 -- What a crash may leave at the moments of a commit.
 use Rattle.std.specs.Prelude.{◌≡◌, ◌⊎◌, ℕ, List}
-use Rattle.disk_io.specs.Disk.{DiskState, Files, IsIn}
+use Rattle.disk_io.specs.Disk.{DiskState, Files, Honestly, IsIn}
 use Rattle.disk_io.specs.Runs.{LeavesOnly, OneStepOn}
 use Rattle.base_log.specs.Standing.{BaseBytes, StandsFor}
 
@@ -33,3 +33,8 @@ pub record StandsAlone (path : List ℕ) (old : DiskState) (base : BaseBytes) (c
 pub record IsBeforeOrAfter (path : List ℕ) (old : DiskState) (first next : BaseBytes) (c : Files) : Type 0 where
   pub outside : SameOutside path old c
   pub stands : StandsFor path first c ⊎ StandsFor path next c
+
+-- A run that commits nothing: a crash at any time leaves this base. Nothing outside the folder has changed.
+pub record StagesOnly (path : List ℕ) (base : BaseBytes) (old new : DiskState) : Type 0 where
+  pub any_moment : Honestly new (LeavesOnly old new (StandsAlone path old base))
+  pub outside : KeepsOutside path old new

@@ -1,14 +1,16 @@
 -- What opening a base folder asks and leaves.
-use Rattle.std.specs.Prelude.{◌≡◌, ◌≢◌, ◌≤◌, ◌<◌, ◌⊎◌, ℕ, List, length, None, Result, IsErrOf, IsSome}
+use Rattle.std.specs.Prelude.{◌≡◌, ◌≢◌, ◌≤◌, ◌<◌, ◌⊎◌, ℕ, List, [], length, None, Result, IsErrOf, IsSome}
 use Rattle.disk_io.specs.Device.{Failed}
 use Rattle.disk_io.specs.Disk.{DiskState, Files, IsIn, bytes_in}
+use Rattle.disk_io.specs.Synced.{IsOnDisk}
 use Rattle.disk_io.specs.declared.disk_error.DiskError.{DiskError}
 use Rattle.disk_io.specs.declared.disk_error.DiskError.TheVariants as disk
 use Rattle.base_log.specs.declared.log.CommitRecord.{CommitRecord}
 use Rattle.base_log.specs.declared.folder_error.FolderError.{FolderError}
 use Rattle.base_log.specs.declared.folder_error.FolderError.TheVariants as folder
+use Rattle.base_log.specs.Log.{IsLog, IsShutAt}
 use Rattle.base_log.specs.Names.{log_of, messages_of, keys_of}
-use Rattle.base_log.specs.Standing.{BaseBytes}
+use Rattle.base_log.specs.Standing.{BaseBytes, IsNew}
 use Rattle.base_log.specs.Moments.{StandsAlone}
 
 -- A disk's fault, as a fault of a folder.
@@ -57,3 +59,29 @@ pub record AreFlushed (path : List ℕ) (disk : DiskState) : Type 0 where
 -- A missing file has no bytes that may come back.
 abbrev pub StayGone : List ℕ → DiskState → Type 0
 StayGone path disk = (m : List ℕ) → IsIn path m → disk.seen m ≡ None → disk.is_flushed m
+
+-- Both files of a number are gone.
+pub record AreGone (disk : DiskState) (path : List ℕ) (number : ℕ) : Type 0 where
+  pub messages : disk.seen (messages_of path number) ≡ None
+  pub keys : disk.seen (keys_of path number) ≡ None
+
+-- The folder is new. The disk has each path as it is, and no bytes of a missing file.
+pub record IsNewFolder (path : List ℕ) (disk : DiskState) : Type 0 where
+  pub named : AreNamed path disk
+  pub gone : StayGone path disk
+  pub new : IsNew path disk.seen
+
+-- The log has no record and a closed gate, and is on the disk. So is each path.
+pub record HasBareLog (path : List ℕ) (disk : DiskState) : Type 0 where
+  pub named : AreNamed path disk
+  pub log : IsOnDisk disk (log_of path)
+  pub none : IsLog [] (bytes_in (disk.seen (log_of path)))
+  pub shut : IsShutAt 0 (bytes_in (disk.seen (log_of path)))
+
+-- The two files of the number 0 exist, and each has one path. Each path is on the disk.
+pub record HasFirstFiles (path : List ℕ) (disk : DiskState) : Type 0 where
+  pub messages : IsSome (disk.seen (messages_of path 0))
+  pub keys : IsSome (disk.seen (keys_of path 0))
+  pub messages_alone : disk.is_alone (messages_of path 0)
+  pub keys_alone : disk.is_alone (keys_of path 0)
+  pub named : AreNamed path disk

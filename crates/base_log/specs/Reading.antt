@@ -1,6 +1,6 @@
 -- How a log is read.
 use Rattle.std.specs.Prelude.{◌≡◌, ℕ, List, ◌++◌, length}
-use Rattle.disk_io.specs.Disk.{Files, bytes_in}
+use Rattle.disk_io.specs.Disk.{DiskState, Files, Honestly, bytes_in}
 use Rattle.base_log.specs.Names.{log_of}
 use Rattle.base_log.specs.Log.{opened, AreBodies, EndsHere, last_told}
 use Rattle.base_log.specs.declared.log.End.{End}
@@ -27,3 +27,8 @@ IsRead log = ReadsAll log.bytes.items log.end
 -- It is that of the folder.
 abbrev pub IsLogIn : List ℕ → Files → Log → Type 0
 IsLogIn path files log = log.bytes.items ≡ bytes_in (files (log_of path))
+
+-- It was read of the folder to the end of its records.
+pub record IsLogRead (disk : DiskState) (path : List ℕ) (log : Log) : Type 0 where
+  pub same : Honestly disk (IsLogIn path disk.seen log)
+  pub read : IsRead log

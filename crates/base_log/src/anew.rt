@@ -1,11 +1,11 @@
 //! Files of another number, for a purge.
-ghost use Rattle.std.specs.Prelude.{◌≡◌, ◌≢◌, ◌<◌, ℕ, List, IfOk};
+ghost use Rattle.std.specs.Prelude.{◌≡◌, ◌≢◌, ℕ, List, IfOk};
 ghost use Rattle.disk_io.specs.Disk.{Honestly};
-ghost use Rattle.disk_io.specs.Runs.{LeavesOnly, HasCause};
+ghost use Rattle.disk_io.specs.Runs.{HasCause};
 ghost use Rattle.base_log.specs.Names.{AreNames, folder_of, keys_of, messages_of};
 ghost use Rattle.base_log.specs.Standing.{base_at};
-ghost use Rattle.base_log.specs.AtRest.{IsAtRest, IsStaged};
-ghost use Rattle.base_log.specs.Moments.{StandsAlone, KeepsOutside};
+ghost use Rattle.base_log.specs.AtRest.{IsAtRest, IsFreeNumber, IsStaged};
+ghost use Rattle.base_log.specs.Moments.{StagesOnly};
 
 use crate::log::{CommitRecord, End};
 use crate::names::Names;
@@ -21,8 +21,7 @@ pub fn stage_anew<D: Disk>(
     cursor: u64,
 ) -> Result<CommitRecord, DiskError>
     requires names { AreNames names.now number }
-    requires digit { number < 10 }
-    requires other { number ≢ end.told.number }
+    requires free { IsFreeNumber end number }
     requires settled { Honestly (D.state disk.old) (IsAtRest (D.state disk.old) (folder_of names.now) end) }
     ensures staged { Honestly (D.state disk.new) (IfOk result (λ told. IsStaged (D.state disk.new) (folder_of names.now) end told)) }
     ensures told { IfOk result (λ told. told ≡ record { messages = 0; keys = 0; cursor = cursor; number = number; mark = end.told.mark }) }
@@ -30,9 +29,7 @@ pub fn stage_anew<D: Disk>(
         ≡ base_at (D.state disk.old) (folder_of names.now) end.told) }
     ensures beside { (m : List ℕ) → m ≢ messages_of (folder_of names.now) number → m ≢ keys_of (folder_of names.now) number
         → (D.state disk.new).seen m ≡ (D.state disk.old).seen m }
-    ensures any_moment { Honestly (D.state disk.new) (LeavesOnly (D.state disk.old) (D.state disk.new)
-        (StandsAlone (folder_of names.now) (D.state disk.old) (base_at (D.state disk.old) (folder_of names.now) end.told))) }
-    ensures outside { KeepsOutside (folder_of names.now) (D.state disk.old) (D.state disk.new) }
+    ensures run { StagesOnly (folder_of names.now) (base_at (D.state disk.old) (folder_of names.now) end.told) (D.state disk.old) (D.state disk.new) }
     ensures cause { HasCause (D.failures disk.old) (D.failures disk.new) result }
 {
     disk.create(&names.messages)?;

@@ -2,10 +2,10 @@
 ghost use Rattle.std.specs.Prelude.{◌≡◌, ◌<◌, ◌+◌, ◌^◌, ◌++◌, ◌∷◌, [], IfOk};
 ghost use Rattle.disk_io.specs.Disk.{Honestly};
 ghost use Rattle.disk_io.specs.Runs.{LeavesOnly, HasCause};
-ghost use Rattle.base_log.specs.Names.{AreNames, folder_of};
+ghost use Rattle.base_log.specs.Names.{folder_of};
 ghost use Rattle.base_log.specs.Log.{body_of, FitsRecord};
 ghost use Rattle.base_log.specs.Standing.{base_at};
-ghost use Rattle.base_log.specs.AtRest.{IsAtRest, IsStaged};
+ghost use Rattle.base_log.specs.AtRest.{IsAtRest, IsStagedBy};
 ghost use Rattle.base_log.specs.Moments.{IsBeforeOrAfter, KeepsOutside, LeavesOutside};
 
 use crate::log::{CommitRecord, End};
@@ -36,8 +36,7 @@ pub fn commit<D: Disk>(
     end: End,
     told: CommitRecord,
 ) -> Result<End, DiskError>
-    requires names { AreNames names.now told.number }
-    requires staged { Honestly (D.state disk.old) (IsStaged (D.state disk.old) (folder_of names.now) end told) }
+    requires staged { IsStagedBy (D.state disk.old) names.now end told }
     requires room { end.gate + 50 < 2 ^ 64 }
 
     ensures settled { Honestly (D.state disk.new) (IfOk result (λ after. IsAtRest (D.state disk.new) (folder_of names.now) after)) }

@@ -29,4 +29,4 @@ pub use log::{CommitRecord, End, FolderIdentity, Log};
 pub use names::Names;
 pub use opening::open;
 pub use removing::remove_files;
-pub use staging::{stage_keys, stage_messages, stage_nothing};
+pub use staging::{GrowingFile, stage_bytes, stage_nothing};

@@ -1,13 +1,12 @@
 //! The log of a folder that is new, and the first files of messages and of keys.
-ghost use Rattle.std.specs.Prelude.{◌≡◌, ◌<◌, ◌∷◌, [], ℕ, List, None, IsSome, OnOk};
+ghost use Rattle.std.specs.Prelude.{◌≡◌, ◌∷◌, [], ℕ, List, None, OnOk};
 ghost use Rattle.disk_io.specs.Disk.{Honestly, IsIn, bytes_in};
 ghost use Rattle.disk_io.specs.Runs.{ChangesNothing, LeavesOnly, HasCause};
 ghost use Rattle.disk_io.specs.Synced.{IsOnDisk};
 ghost use Rattle.base_log.specs.Names.{AreNames, folder_of, log_of, messages_of, keys_of};
 ghost use Rattle.base_log.specs.Moments.{StandsAlone, KeepsOutside};
-ghost use Rattle.base_log.specs.Standing.{BaseBytes, IsNew, StandsFor};
-ghost use Rattle.base_log.specs.Log.{IsLog, IsShutAt};
-ghost use Rattle.base_log.specs.Opening.{AreFlushed, StayGone, AreNamed, StandsOrWasLeft, KeepsButOne};
+ghost use Rattle.base_log.specs.Standing.{BaseBytes, StandsFor};
+ghost use Rattle.base_log.specs.Opening.{AreFlushed, AreNamed, HasBareLog, HasFirstFiles, IsNewFolder, KeepsButOne, StandsOrWasLeft, StayGone};
 
 use crate::names::Names;
 use disk_io::{Disk, DiskError, sync_folder_of, write_synced};
@@ -58,9 +57,7 @@ fn settle_all<D: Disk>(alloc: Global, disk: &mut D, names: &Names) -> Result<(),
 // disk.
 pub(crate) fn make_log<D: Disk>(alloc: Global, disk: &mut D, names: &Names) -> Result<(), DiskError>
     requires log { names.now.log.items ≡ log_of (folder_of names.now) }
-    requires named { Honestly (D.state disk.old) (AreNamed (folder_of names.now) (D.state disk.old)) }
-    requires gone { Honestly (D.state disk.old) (StayGone (folder_of names.now) (D.state disk.old)) }
-    requires new { Honestly (D.state disk.old) (IsNew (folder_of names.now) (D.state disk.old).seen) }
+    requires new { Honestly (D.state disk.old) (IsNewFolder (folder_of names.now) (D.state disk.old)) }
     ensures made { Honestly (D.state disk.new) (OnOk result (bytes_in ((D.state disk.new).seen (log_of (folder_of names.now))) ≡ 0 ∷ [])) }
     ensures on_disk { Honestly (D.state disk.new) (OnOk result (IsOnDisk (D.state disk.new) (log_of (folder_of names.now)))) }
     ensures named { Honestly (D.state disk.new) (OnOk result (AreNamed (folder_of names.now) (D.state disk.new))) }
@@ -79,15 +76,8 @@ pub(crate) fn make_log<D: Disk>(alloc: Global, disk: &mut D, names: &Names) -> R
 // Makes the two files of a folder that has no record in its log.
 pub(crate) fn make_files<D: Disk>(disk: &mut D, names: &Names) -> Result<(), DiskError>
     requires names { AreNames names.now 0 }
-    requires named { Honestly (D.state disk.old) (AreNamed (folder_of names.now) (D.state disk.old)) }
-    requires log { Honestly (D.state disk.old) (IsOnDisk (D.state disk.old) (log_of (folder_of names.now))) }
-    requires none { Honestly (D.state disk.old) (IsLog [] (bytes_in ((D.state disk.old).seen (log_of (folder_of names.now))))) }
-    requires shut { Honestly (D.state disk.old) (IsShutAt 0 (bytes_in ((D.state disk.old).seen (log_of (folder_of names.now))))) }
-    ensures messages { OnOk result (IsSome ((D.state disk.new).seen (messages_of (folder_of names.now) 0))) }
-    ensures keys { OnOk result (IsSome ((D.state disk.new).seen (keys_of (folder_of names.now) 0))) }
-    ensures messages_alone { OnOk result ((D.state disk.new).is_alone (messages_of (folder_of names.now) 0)) }
-    ensures keys_alone { OnOk result ((D.state disk.new).is_alone (keys_of (folder_of names.now) 0)) }
-    ensures named { OnOk result (AreNamed (folder_of names.now) (D.state disk.new)) }
+    requires bare { Honestly (D.state disk.old) (HasBareLog (folder_of names.now) (D.state disk.old)) }
+    ensures made { OnOk result (HasFirstFiles (folder_of names.now) (D.state disk.new)) }
     ensures log { Honestly (D.state disk.new) (IsOnDisk (D.state disk.new) (log_of (folder_of names.now))) }
     ensures same { (D.state disk.new).seen (log_of (folder_of names.now)) ≡ (D.state disk.old).seen (log_of (folder_of names.now)) }
     ensures outside { KeepsOutside (folder_of names.now) (D.state disk.old) (D.state disk.new) }

@@ -5,7 +5,7 @@ ghost use Rattle.disk_io.specs.Runs.{ChangesNothing, LeavesOnly, HasCause};
 ghost use Rattle.base_log.specs.Log.{IsShutAt};
 ghost use Rattle.base_log.specs.Names.{AreNames, folder_of, log_of};
 ghost use Rattle.base_log.specs.Standing.{BaseBytes, IsNew, StandsFor, base_at};
-ghost use Rattle.base_log.specs.Reading.{IsLogIn, IsRead};
+ghost use Rattle.base_log.specs.Reading.{IsLogRead};
 ghost use Rattle.base_log.specs.AtRest.{IsAtRest, IsLogAt};
 ghost use Rattle.base_log.specs.Moments.{KeepsOutside};
 ghost use Rattle.base_log.specs.Opening.{AreAlone, StandsOrWasLeft, KeepsButOne};
@@ -26,8 +26,7 @@ fn settle_log<D: Disk>(
 ) -> Result<(), DiskError>
     requires name { names.now.log.items ≡ log_of (folder_of names.now) }
     requires alone { Honestly (D.state disk.old) (AreAlone (folder_of names.now) (D.state disk.old)) }
-    requires log { Honestly (D.state disk.old) (IsLogIn (folder_of names.now) (D.state disk.old).seen log.now) }
-    requires read { IsRead log.now }
+    requires log { IsLogRead (D.state disk.old) (folder_of names.now) log.now }
     requires ended { Honestly (D.state disk.old) (IsShutAt log.now.end.gate log.now.bytes.items ⊎ IsNew (folder_of names.now) (D.state disk.old).seen) }
     ensures log { Honestly (D.state disk.new) (OnOk result (IsLogAt (D.state disk.new) (folder_of names.now) log.now.end)) }
     ensures others { KeepsButOne (D.state disk.old) (D.state disk.new) (log_of (folder_of names.now)) }
@@ -62,8 +61,7 @@ fn settle_files<D: Disk>(disk: &mut D, names: &Names) -> Result<(), DiskError>
 pub fn open<D: Disk>(alloc: Global, disk: &mut D, names: &Names, log: &Log) -> Result<(), DiskError>
     requires names { AreNames names.now log.now.end.told.number }
     requires alone { Honestly (D.state disk.old) (AreAlone (folder_of names.now) (D.state disk.old)) }
-    requires log { Honestly (D.state disk.old) (IsLogIn (folder_of names.now) (D.state disk.old).seen log.now) }
-    requires read { IsRead log.now }
+    requires log { IsLogRead (D.state disk.old) (folder_of names.now) log.now }
     requires stands { Honestly (D.state disk.old) (StandsFor (folder_of names.now) (base_at (D.state disk.old) (folder_of names.now) log.now.end.told) (D.state disk.old).seen) }
 
     ensures settled { Honestly (D.state disk.new) (OnOk result (IsAtRest (D.state disk.new) (folder_of names.now) log.now.end)) }

@@ -1,11 +1,12 @@
 //! Files that no longer count, removed.
-ghost use Rattle.std.specs.Prelude.{◌≡◌, ◌≢◌, ◌<◌, ℕ, List, None, OnOk};
+ghost use Rattle.std.specs.Prelude.{◌≡◌, ◌≢◌, ℕ, List, None, OnOk};
 ghost use Rattle.disk_io.specs.Disk.{Honestly};
-ghost use Rattle.disk_io.specs.Runs.{LeavesOnly, HasCause};
-ghost use Rattle.base_log.specs.Names.{AreNames, IsBeside, folder_of, keys_of, messages_of};
+ghost use Rattle.disk_io.specs.Runs.{HasCause};
+ghost use Rattle.base_log.specs.Names.{AreNames, IsBeside, folder_of};
 ghost use Rattle.base_log.specs.Standing.{base_at};
 ghost use Rattle.base_log.specs.AtRest.{IsAtRest};
-ghost use Rattle.base_log.specs.Moments.{StandsAlone, KeepsOutside, LeavesOutside};
+ghost use Rattle.base_log.specs.Opening.{AreGone};
+ghost use Rattle.base_log.specs.Moments.{LeavesOutside, StagesOnly};
 
 use crate::log::End;
 use crate::names::Names;
@@ -23,9 +24,7 @@ pub(crate) fn remove_one<D: Disk>(
     ensures settled { Honestly (D.state disk.new) (OnOk result (IsAtRest (D.state disk.new) folder.now end)) }
     ensures gone { Honestly (D.state disk.new) (OnOk result ((D.state disk.new).seen file.now ≡ None)) }
     ensures beside { (m : List ℕ) → m ≢ file.now → (D.state disk.new).seen m ≡ (D.state disk.old).seen m }
-    ensures any_moment { Honestly (D.state disk.new) (LeavesOnly (D.state disk.old) (D.state disk.new)
-        (StandsAlone folder.now (D.state disk.old) (base_at (D.state disk.old) folder.now end.told))) }
-    ensures outside { KeepsOutside folder.now (D.state disk.old) (D.state disk.new) }
+    ensures run { StagesOnly folder.now (base_at (D.state disk.old) folder.now end.told) (D.state disk.old) (D.state disk.new) }
     ensures leaves { LeavesOutside folder.now (D.state disk.old) (D.state disk.new) }
     ensures cause { HasCause (D.failures disk.old) (D.failures disk.new) result }
 {
@@ -48,12 +47,9 @@ pub fn remove_files<D: Disk>(
     requires other { number ≢ end.told.number }
     requires settled { Honestly (D.state disk.old) (IsAtRest (D.state disk.old) (folder_of names.now) end) }
     ensures settled { Honestly (D.state disk.new) (OnOk result (IsAtRest (D.state disk.new) (folder_of names.now) end)) }
-    ensures messages { Honestly (D.state disk.new) (OnOk result ((D.state disk.new).seen (messages_of (folder_of names.now) number) ≡ None)) }
-    ensures keys { Honestly (D.state disk.new) (OnOk result ((D.state disk.new).seen (keys_of (folder_of names.now) number) ≡ None)) }
+    ensures gone { Honestly (D.state disk.new) (OnOk result (AreGone (D.state disk.new) (folder_of names.now) number)) }
     ensures same { base_at (D.state disk.new) (folder_of names.now) end.told ≡ base_at (D.state disk.old) (folder_of names.now) end.told }
-    ensures any_moment { Honestly (D.state disk.new) (LeavesOnly (D.state disk.old) (D.state disk.new)
-        (StandsAlone (folder_of names.now) (D.state disk.old) (base_at (D.state disk.old) (folder_of names.now) end.told))) }
-    ensures outside { KeepsOutside (folder_of names.now) (D.state disk.old) (D.state disk.new) }
+    ensures run { StagesOnly (folder_of names.now) (base_at (D.state disk.old) (folder_of names.now) end.told) (D.state disk.old) (D.state disk.new) }
     ensures leaves { LeavesOutside (folder_of names.now) (D.state disk.old) (D.state disk.new) }
     ensures cause { HasCause (D.failures disk.old) (D.failures disk.new) result }
 {

@@ -1,13 +1,14 @@
 //! Messages and keys written after those that count, before a commit. However many are written so, a crash leaves the
 //! base as it was.
-ghost use Rattle.std.specs.Prelude.{◌≡◌, ◌<◌, ◌+◌, ◌^◌, length, IfOk, OnOk};
+ghost use Rattle.std.specs.Prelude.{◌≡◌, ◌<◌, ◌+◌, ◌^◌, length, IfOk};
 ghost use Rattle.disk_io.specs.Disk.{Honestly};
-ghost use Rattle.disk_io.specs.Runs.{LeavesOnly, HasCause};
+ghost use Rattle.disk_io.specs.Runs.{HasCause};
 ghost use Rattle.disk_io.specs.Steps.{SameBeside};
-ghost use Rattle.base_log.specs.Names.{AreNames, folder_of, keys_of, messages_of};
-ghost use Rattle.base_log.specs.Standing.{base_at, and_messages, and_keys};
-ghost use Rattle.base_log.specs.AtRest.{IsAtRest, IsStaged};
-ghost use Rattle.base_log.specs.Moments.{StandsAlone, KeepsOutside, LeavesOutside};
+ghost use Rattle.base_log.specs.Growing.{and_bytes, counted, file_of, path_in, with_more};
+ghost use Rattle.base_log.specs.Names.{folder_of};
+ghost use Rattle.base_log.specs.Standing.{base_at};
+ghost use Rattle.base_log.specs.AtRest.{HoldsNext, IsAtRest, IsStaged, IsStagedBy};
+ghost use Rattle.base_log.specs.Moments.{LeavesOutside, StagesOnly};
 
 use crate::log::{CommitRecord, End, FolderIdentity};
 use crate::names::Names;
@@ -33,64 +34,70 @@ pub fn stage_nothing<D: Disk>(
     }
 }
 
-/// Writes messages after the staged ones, without a sync.
-pub fn stage_messages<D: Disk>(
-    disk: &mut D,
-    names: &Names,
-    end: End,
-    told: CommitRecord,
-    bytes: &[u8],
-) -> Result<CommitRecord, DiskError>
-    requires names { AreNames names.now told.number }
-    requires staged { Honestly (D.state disk.old) (IsStaged (D.state disk.old) (folder_of names.now) end told) }
-    requires room { told.messages + length bytes.now < 2 ^ 64 }
-    ensures staged { Honestly (D.state disk.new) (IfOk result (λ more. IsStaged (D.state disk.new) (folder_of names.now) end more)) }
-    ensures told { IfOk result (λ more. more ≡ record told { messages = told.messages + length bytes.now }) }
-    ensures added { Honestly (D.state disk.new) (IfOk result (λ more. base_at (D.state disk.new) (folder_of names.now) more
-        ≡ and_messages (base_at (D.state disk.old) (folder_of names.now) told) bytes.now)) }
-    ensures same { Honestly (D.state disk.new) (OnOk result (base_at (D.state disk.new) (folder_of names.now) end.told
-        ≡ base_at (D.state disk.old) (folder_of names.now) end.told)) }
-    ensures beside { SameBeside (messages_of (folder_of names.now) told.number) (D.state disk.old).seen (D.state disk.new).seen }
-    ensures any_moment { Honestly (D.state disk.new) (LeavesOnly (D.state disk.old) (D.state disk.new)
-        (StandsAlone (folder_of names.now) (D.state disk.old) (base_at (D.state disk.old) (folder_of names.now) end.told))) }
-    ensures outside { KeepsOutside (folder_of names.now) (D.state disk.old) (D.state disk.new) }
-    ensures leaves { LeavesOutside (folder_of names.now) (D.state disk.old) (D.state disk.new) }
-    ensures cause { HasCause (D.failures disk.old) (D.failures disk.new) result }
-{
-    disk.write_at(&names.messages, told.messages, bytes)?;
-    Ok(CommitRecord {
-        messages: told.messages + bytes.len(),
-        ..told
-    })
+/// One of the two files of a number. Both only grow.
+#[derive(Clone, Copy, Debug, PartialEq, Eq)]
+pub enum GrowingFile {
+    Messages,
+    Keys,
 }
 
-/// Writes keys after the staged ones, without a sync.
-pub fn stage_keys<D: Disk>(
+// The path of the file.
+fn path_of(names: &Names, file: GrowingFile) -> &[u8]
+    ensures { result.now ≡ path_in names.now file }
+{
+    match file {
+        GrowingFile::Messages => &names.messages,
+        GrowingFile::Keys => &names.keys,
+    }
+}
+
+// How many bytes of the file the record counts.
+fn counted(told: CommitRecord, file: GrowingFile) -> usize
+    ensures { result ≡ counted told file }
+{
+    match file {
+        GrowingFile::Messages => told.messages,
+        GrowingFile::Keys => told.keys,
+    }
+}
+
+// The record that counts so many bytes more of the file.
+fn with_more(told: CommitRecord, file: GrowingFile, more: usize) -> CommitRecord
+    requires { counted told file + more < 2 ^ 64 }
+    ensures { result ≡ with_more told file more }
+{
+    match file {
+        GrowingFile::Messages => CommitRecord {
+            messages: told.messages + more,
+            ..told
+        },
+        GrowingFile::Keys => CommitRecord {
+            keys: told.keys + more,
+            ..told
+        },
+    }
+}
+
+/// Writes bytes after the staged ones of the file, without a sync.
+pub fn stage_bytes<D: Disk>(
     disk: &mut D,
     names: &Names,
     end: End,
     told: CommitRecord,
+    file: GrowingFile,
     bytes: &[u8],
 ) -> Result<CommitRecord, DiskError>
-    requires names { AreNames names.now told.number }
-    requires staged { Honestly (D.state disk.old) (IsStaged (D.state disk.old) (folder_of names.now) end told) }
-    requires room { told.keys + length bytes.now < 2 ^ 64 }
+    requires staged { IsStagedBy (D.state disk.old) names.now end told }
+    requires room { counted told file + length bytes.now < 2 ^ 64 }
     ensures staged { Honestly (D.state disk.new) (IfOk result (λ more. IsStaged (D.state disk.new) (folder_of names.now) end more)) }
-    ensures told { IfOk result (λ more. more ≡ record told { keys = told.keys + length bytes.now }) }
-    ensures added { Honestly (D.state disk.new) (IfOk result (λ more. base_at (D.state disk.new) (folder_of names.now) more
-        ≡ and_keys (base_at (D.state disk.old) (folder_of names.now) told) bytes.now)) }
-    ensures same { Honestly (D.state disk.new) (OnOk result (base_at (D.state disk.new) (folder_of names.now) end.told
-        ≡ base_at (D.state disk.old) (folder_of names.now) end.told)) }
-    ensures beside { SameBeside (keys_of (folder_of names.now) told.number) (D.state disk.old).seen (D.state disk.new).seen }
-    ensures any_moment { Honestly (D.state disk.new) (LeavesOnly (D.state disk.old) (D.state disk.new)
-        (StandsAlone (folder_of names.now) (D.state disk.old) (base_at (D.state disk.old) (folder_of names.now) end.told))) }
-    ensures outside { KeepsOutside (folder_of names.now) (D.state disk.old) (D.state disk.new) }
+    ensures told { IfOk result (λ more. more ≡ with_more told file (length bytes.now)) }
+    ensures next { Honestly (D.state disk.new) (IfOk result (HoldsNext (D.state disk.new) (folder_of names.now) end.told
+        (base_at (D.state disk.old) (folder_of names.now) end.told) (and_bytes (base_at (D.state disk.old) (folder_of names.now) told) file bytes.now))) }
+    ensures beside { SameBeside (file_of (folder_of names.now) told.number file) (D.state disk.old).seen (D.state disk.new).seen }
+    ensures run { StagesOnly (folder_of names.now) (base_at (D.state disk.old) (folder_of names.now) end.told) (D.state disk.old) (D.state disk.new) }
     ensures leaves { LeavesOutside (folder_of names.now) (D.state disk.old) (D.state disk.new) }
     ensures cause { HasCause (D.failures disk.old) (D.failures disk.new) result }
 {
-    disk.write_at(&names.keys, told.keys, bytes)?;
-    Ok(CommitRecord {
-        keys: told.keys + bytes.len(),
-        ..told
-    })
+    disk.write_at(path_of(names, file), counted(told, file), bytes)?;
+    Ok(with_more(told, file, bytes.len()))
 }

@@ -1,10 +1,11 @@
 -- A file that gets a part of another one.
-use Rattle.std.proofs.Common.{◌≡◌, ◌∙◌, ℕ, ◌<◌, ◌≤◌, List, [], ◌++◌, length, take, drop, Some, ap, refl, sym, subst, arith, append_assoc}
+use Rattle.std.proofs.Common.{◌≡◌, ◌∙◌, ℕ, ◌<◌, ◌≤◌, List, [], ◌++◌, length, take, drop, Option, Some, ap, refl, sym, subst, arith, append_assoc}
 use Rattle.std.proofs.lemmas.List.{append-nil, drop-append-le, drop_all, length-take, length-take-le, nil_from_length, take-append-drop, take-append-le}
 use Rattle.std.specs.Prelude.{IsSome, slice_index}
 use Rattle.disk_io.specs.Disk.{DiskState, bytes_in}
 use Rattle.disk_io.specs.Runs.{ChangesNothing}
 use Rattle.disk_atomic.specs.Changes.{HasOnDisk, IsGrowing}
+use Rattle.disk_atomic.specs.Keeping.{HasPart}
 use Rattle.disk_atomic.proofs.Whole.{file_of_bytes}
 
 -- a run that changes nothing
@@ -57,3 +58,11 @@ all_on_disk disk path there named flushed = record { seen = file_of_bytes (disk.
 -- its bytes are these
 pub on_disk_as : (disk : DiskState) (path bytes : List ℕ) → HasOnDisk disk path (bytes_in (disk.seen path)) → bytes_in (disk.seen path) ≡ bytes → HasOnDisk disk path bytes
 on_disk_as disk path bytes has is = record { seen = has.seen ∙ ap (λ l. Some l) is; named = has.named; flushed = has.flushed }
+
+-- a part of a file stays where the file does
+pub part_still : (d e : DiskState) (path : List ℕ) (from to : ℕ) → e.seen path ≡ d.seen path → (e.is_honest → d.is_honest) → HasPart d path from to → HasPart e path from to
+part_still d e path from to same since part = record {
+  there = λ honest. subst (λ (f : Option (List ℕ)). IsSome f) (sym same) (part.there (since honest));
+  order = part.order;
+  within = λ honest. subst (λ (f : Option (List ℕ)). to ≤ length (bytes_in f)) (sym same) (part.within (since honest));
+}

@@ -1,6 +1,6 @@
 -- Packets that get their paths.
 use Rattle.std.specs.Prelude.{◌≡◌, ◌≢◌, ◌⊎◌, ℕ, List, All, Some, None, IsSome}
-use Rattle.disk_io.specs.Disk.{DiskState, Files}
+use Rattle.disk_io.specs.Disk.{DiskState, Files, Honestly, IsIn}
 use Rattle.disk_io.specs.Runs.{LeavesOnly, OneStepOn}
 use Rattle.disk_atomic.specs.Changes.{ChangesOnly, DifferAt, HasOnDisk}
 use Rattle.disk_atomic.specs.Outgoing.{IsOfOne}
@@ -17,6 +17,19 @@ pub record StaysThere (old new : DiskState) (path : List ℕ) : Type 0 where
   pub seen : new.seen path ≡ old.seen path
   pub named : old.is_named path → new.is_named path
   pub flushed : old.is_flushed path → new.is_flushed path
+
+-- The two paths are in this folder.
+pub record AreBothIn (folder staging path : List ℕ) : Type 0 where
+  pub path_in : IsIn folder path
+  pub staging_in : IsIn folder staging
+
+-- The file at the one path is on the disk. So is what the other path leads to.
+pub record CanLink (disk : DiskState) (staging path : List ℕ) : Type 0 where
+  pub other : staging ≢ path
+  pub there : Honestly disk (IsSome (disk.seen staging))
+  pub durable : disk.is_flushed staging
+  pub staging_named : disk.is_named staging
+  pub path_named : disk.is_named path
 
 -- A call that gives a staging file its path, whether it could or not.
 pub record Gives (old new : DiskState) (path staging : List ℕ) : Type 0 where

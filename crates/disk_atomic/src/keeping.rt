@@ -1,9 +1,9 @@
 //! A file is replaced by a head, a part of its old bytes, and a tail.
-ghost use Rattle.std.specs.Prelude.{◌≡◌, ◌≢◌, ◌≤◌, ◌⊎◌, ◌++◌, ℕ, List, [], drop, length, take, IfOk, IsSome, OnOk, Some};
+ghost use Rattle.std.specs.Prelude.{◌≡◌, ◌≢◌, ◌⊎◌, ◌++◌, ℕ, List, [], drop, take, IfOk, IsSome, OnOk, Some};
 ghost use Rattle.disk_io.specs.Disk.{Honestly, IsIn, bytes_in};
 ghost use Rattle.disk_io.specs.Runs.{HasCause, KeepsNamed, LeavesOnly, OneStepOn};
 ghost use Rattle.disk_atomic.specs.Changes.{ChangesOnly, HasOnDisk, IsGrowing};
-ghost use Rattle.disk_atomic.specs.Keeping.{HasAllOnDisk, kept_bytes};
+ghost use Rattle.disk_atomic.specs.Keeping.{HasAllOnDisk, HasPart, kept_bytes};
 ghost use Rattle.disk_atomic.specs.Replacing.{Replaces};
 
 use crate::filling::append;
@@ -34,9 +34,7 @@ fn copy_piece<D: Disk>(
     to: usize,
 ) -> Result<usize, DiskError>
     requires growing { IsGrowing (D.state disk.old) path.now at }
-    requires there { Honestly (D.state disk.old) (IsSome ((D.state disk.old).seen source.now)) }
-    requires order { from ≤ to }
-    requires within { Honestly (D.state disk.old) (to ≤ length (bytes_in ((D.state disk.old).seen source.now))) }
+    requires part { HasPart (D.state disk.old) source.now from to }
     ensures growing { IfOk result (IsGrowing (D.state disk.new) path.now) }
     ensures more { Honestly (D.state disk.new) (OnOk result (bytes_in ((D.state disk.new).seen path.now) ≡ bytes_in ((D.state disk.old).seen path.now) ++ drop from (take to (bytes_in ((D.state disk.old).seen source.now))))) }
     ensures named { KeepsNamed (λ m. ⊥) (D.state disk.old) (D.state disk.new) }
@@ -59,9 +57,7 @@ fn copy_part<D: Disk>(
 ) -> Result<usize, DiskError>
     requires growing { IsGrowing (D.state disk.old) path.now at }
     requires other { path.now ≢ source.now }
-    requires there { Honestly (D.state disk.old) (IsSome ((D.state disk.old).seen source.now)) }
-    requires order { from ≤ to }
-    requires within { Honestly (D.state disk.old) (to ≤ length (bytes_in ((D.state disk.old).seen source.now))) }
+    requires part { HasPart (D.state disk.old) source.now from to }
     ensures growing { IfOk result (IsGrowing (D.state disk.new) path.now) }
     ensures more { Honestly (D.state disk.new) (OnOk result (bytes_in ((D.state disk.new).seen path.now) ≡ bytes_in ((D.state disk.old).seen path.now) ++ drop from (take to (bytes_in ((D.state disk.old).seen source.now))))) }
     ensures named { KeepsNamed (λ m. ⊥) (D.state disk.old) (D.state disk.new) }
@@ -88,9 +84,7 @@ fn write_kept<D: Disk>(
 ) -> Result<(), DiskError>
     requires growing { IsGrowing (D.state disk.old) path.now 0 }
     requires other { path.now ≢ source.now }
-    requires there { Honestly (D.state disk.old) (IsSome ((D.state disk.old).seen source.now)) }
-    requires order { kept.from ≤ kept.to }
-    requires within { Honestly (D.state disk.old) (kept.to ≤ length (bytes_in ((D.state disk.old).seen source.now))) }
+    requires part { HasPart (D.state disk.old) source.now kept.from kept.to }
     ensures there { OnOk result (IsSome ((D.state disk.new).seen path.now)) }
     ensures bytes { Honestly (D.state disk.new) (OnOk result (bytes_in ((D.state disk.new).seen path.now) ≡ kept_bytes (bytes_in ((D.state disk.old).seen source.now)) kept.entry)) }
     ensures named { KeepsNamed (λ m. ⊥) (D.state disk.old) (D.state disk.new) }
@@ -113,9 +107,7 @@ fn fill_kept<D: Disk>(
 ) -> Result<(), DiskError>
     requires growing { IsGrowing (D.state disk.old) path.now 0 }
     requires other { path.now ≢ source.now }
-    requires there { Honestly (D.state disk.old) (IsSome ((D.state disk.old).seen source.now)) }
-    requires order { kept.from ≤ kept.to }
-    requires within { Honestly (D.state disk.old) (kept.to ≤ length (bytes_in ((D.state disk.old).seen source.now))) }
+    requires part { HasPart (D.state disk.old) source.now kept.from kept.to }
     ensures filled { OnOk result (HasAllOnDisk (D.state disk.new) path.now) }
     ensures bytes { Honestly (D.state disk.new) (OnOk result (bytes_in ((D.state disk.new).seen path.now) ≡ kept_bytes (bytes_in ((D.state disk.old).seen source.now)) kept.entry)) }
     ensures named { KeepsNamed (λ m. ⊥) (D.state disk.old) (D.state disk.new) }
@@ -137,9 +129,7 @@ fn stage_kept<D: Disk>(
 ) -> Result<(), DiskError>
     requires staging_in { IsIn folder.now staging.now }
     requires other { staging.now ≢ path.now }
-    requires there { Honestly (D.state disk.old) (IsSome ((D.state disk.old).seen path.now)) }
-    requires order { kept.from ≤ kept.to }
-    requires within { Honestly (D.state disk.old) (kept.to ≤ length (bytes_in ((D.state disk.old).seen path.now))) }
+    requires part { HasPart (D.state disk.old) path.now kept.from kept.to }
     ensures staged { OnOk result (HasAllOnDisk (D.state disk.new) staging.now) }
     ensures bytes { Honestly (D.state disk.new) (OnOk result (bytes_in ((D.state disk.new).seen staging.now) ≡ kept_bytes (bytes_in ((D.state disk.old).seen path.now)) kept.entry)) }
     ensures named { OnOk result ((m : List ℕ) → IsIn folder.now m → (D.state disk.new).is_named m) }
@@ -165,9 +155,7 @@ pub fn replace_around<D: Disk>(
     requires path_in { IsIn folder.now path.now }
     requires staging_in { IsIn folder.now staging.now }
     requires other { staging.now ≢ path.now }
-    requires there { Honestly (D.state disk.old) (IsSome ((D.state disk.old).seen path.now)) }
-    requires order { kept.from ≤ kept.to }
-    requires within { Honestly (D.state disk.old) (kept.to ≤ length (bytes_in ((D.state disk.old).seen path.now))) }
+    requires part { HasPart (D.state disk.old) path.now kept.from kept.to }
     ensures replaced { Honestly (D.state disk.new) (OnOk result (HasOnDisk (D.state disk.new) path.now (kept_bytes (bytes_in ((D.state disk.old).seen path.now)) kept.entry))) }
 
     // A crash at any time leaves the old file or these bytes at the path. Except at these two paths, it leaves a state

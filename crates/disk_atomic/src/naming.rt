@@ -1,9 +1,9 @@
 //! Packets get their paths: each a second path by a hard link, and then its staging path goes.
-ghost use Rattle.std.specs.Prelude.{◌≡◌, ◌≢◌, ◌⊎◌, ◌↔◌, ℕ, List, true, false, All, IfOk, IsTrue, None, OnOk, IsSome};
+ghost use Rattle.std.specs.Prelude.{◌≡◌, ◌⊎◌, ◌↔◌, ℕ, List, true, false, All, IfOk, IsTrue, None, OnOk, IsSome};
 ghost use Rattle.disk_io.specs.Disk.{Honestly, IsIn};
 ghost use Rattle.disk_io.specs.Runs.{ChangesNothing, HasCause, LeavesOnly, OneStepOn};
 ghost use Rattle.disk_atomic.specs.Changes.{ChangesOnly};
-ghost use Rattle.disk_atomic.specs.Naming.{Gives, HasItsPath, HasMoved, IsTaken, Names, NamesEach, StaysThere};
+ghost use Rattle.disk_atomic.specs.Naming.{AreBothIn, CanLink, Gives, HasItsPath, HasMoved, IsTaken, Names, NamesEach, StaysThere};
 ghost use Rattle.disk_atomic.specs.Outgoing.{ArePlaced, IsFree, IsOfOne, IsStaged, staged_in};
 
 use crate::outgoing::Outgoing;
@@ -55,11 +55,7 @@ pub(crate) fn link_path<D: Disk>(
     staging: &[u8],
     path: &[u8],
 ) -> Result<bool, DiskError>
-    requires other { staging.now ≢ path.now }
-    requires there { Honestly (D.state disk.old) (IsSome ((D.state disk.old).seen staging.now)) }
-    requires durable { (D.state disk.old).is_flushed staging.now }
-    requires staging_named { (D.state disk.old).is_named staging.now }
-    requires path_named { (D.state disk.old).is_named path.now }
+    requires { CanLink (D.state disk.old) staging.now path.now }
     ensures linked { IfOk result (λ linked. linked ≡ true → (D.state disk.new).seen path.now ≡ (D.state disk.old).seen staging.now) }
     ensures kept { IfOk result (λ linked. linked ≡ true → (D.state disk.new).is_flushed path.now) }
     ensures free { Honestly (D.state disk.new) (IfOk result (λ linked. IsTrue linked ↔ ((D.state disk.old).seen path.now ≡ None))) }
@@ -77,11 +73,7 @@ fn give_path<D: Disk>(
     staging: &[u8],
     path: &[u8],
 ) -> Result<bool, DiskError>
-    requires other { staging.now ≢ path.now }
-    requires there { Honestly (D.state disk.old) (IsSome ((D.state disk.old).seen staging.now)) }
-    requires durable { (D.state disk.old).is_flushed staging.now }
-    requires staging_named { (D.state disk.old).is_named staging.now }
-    requires path_named { (D.state disk.old).is_named path.now }
+    requires { CanLink (D.state disk.old) staging.now path.now }
     ensures given { Honestly (D.state disk.new) (IfOk result (λ given. given ≡ true → (D.state disk.new).seen path.now ≡ (D.state disk.old).seen staging.now)) }
     ensures durable { IfOk result (λ given. given ≡ true → (D.state disk.new).is_flushed path.now) }
     ensures over_none { Honestly (D.state disk.new) (OnOk result (IsSome ((D.state disk.old).seen path.now) → (D.state disk.new).seen path.now ≡ (D.state disk.old).seen path.now)) }
@@ -104,13 +96,8 @@ pub fn name_packet<D: Disk>(
     staging: &[u8],
     path: &[u8],
 ) -> Result<bool, DiskError>
-    requires path_in { IsIn folder.now path.now }
-    requires staging_in { IsIn folder.now staging.now }
-    requires other { staging.now ≢ path.now }
-    requires there { Honestly (D.state disk.old) (IsSome ((D.state disk.old).seen staging.now)) }
-    requires durable { (D.state disk.old).is_flushed staging.now }
-    requires staging_named { (D.state disk.old).is_named staging.now }
-    requires path_named { (D.state disk.old).is_named path.now }
+    requires inside { AreBothIn folder.now staging.now path.now }
+    requires can { CanLink (D.state disk.old) staging.now path.now }
     ensures named { Honestly (D.state disk.new) (IfOk result (λ named. named ≡ true → HasMoved (D.state disk.old) (D.state disk.new) path.now staging.now)) }
     ensures over_none { Honestly (D.state disk.new) (OnOk result (IsSome ((D.state disk.old).seen path.now) → (D.state disk.new).seen path.now ≡ (D.state disk.old).seen path.now)) }
     ensures taken { Honestly (D.state disk.new) (IfOk result (λ named. named ≡ false → IsTaken (D.state disk.old) path.now staging.now)) }

@@ -1,8 +1,9 @@
 //! Whether a file of a folder can get a second path there. Some folders have no hard links.
-ghost use Rattle.std.specs.Prelude.{◌≡◌, ◌≢◌, ◌⊎◌, ℕ, List, false, true, IfOk, IsSome, None, OnOk};
+ghost use Rattle.std.specs.Prelude.{◌≡◌, ◌≢◌, ◌⊎◌, ℕ, List, false, true, IfOk, None, OnOk};
 ghost use Rattle.disk_io.specs.Disk.{Honestly, IsIn};
 ghost use Rattle.disk_io.specs.Runs.{HasCause};
 ghost use Rattle.disk_atomic.specs.Changes.{ChangesOnly};
+ghost use Rattle.disk_atomic.specs.Naming.{CanLink};
 ghost use Rattle.disk_atomic.specs.Trying.{Tries, WasTried};
 
 use crate::naming::link_path;
@@ -33,11 +34,7 @@ pub fn try_link<D: Disk>(
     trial: &[u8],
 ) -> Result<bool, DiskError>
     requires inside { IsIn folder.now trial.now }
-    requires other { from.now ≢ trial.now }
-    requires there { Honestly (D.state disk.old) (IsSome ((D.state disk.old).seen from.now)) }
-    requires durable { (D.state disk.old).is_flushed from.now }
-    requires from_named { (D.state disk.old).is_named from.now }
-    requires named { (D.state disk.old).is_named trial.now }
+    requires can { CanLink (D.state disk.old) from.now trial.now }
     ensures tried { IfOk result (λ tried. tried ≡ true → WasTried D.state (λ m. (m ≡ from.now) ⊎ (m ≡ trial.now)) trial.now (D.state disk.old)) }
     ensures taken { Honestly (D.state disk.new) (IfOk result (λ tried. tried ≡ false → ⊥)) }
     ensures gone { IfOk result (λ tried. tried ≡ true → (m : List ℕ) → IsIn folder.now m → m ≢ trial.now → (D.state disk.new).seen m ≡ None → (D.state disk.new).is_flushed m) }

@@ -54,7 +54,8 @@ fn shown_crossings(
     let events = events_of(alloc, shown.poster, tag, shown.moves.as_slice())?;
     let files = read_files(alloc, sources)?;
     let (world, counts) = replay_counted(alloc, files, &events, hasher)?;
-    crossings_to(alloc, &world, &counts, to, tag, shown.id.as_slice())
+    let id = shown.id.as_slice();
+    crossings_to(alloc, &world, &counts, HarmedMessage { to, tag, id })
 }
 
 // The system that the harm names.
@@ -69,20 +70,26 @@ fn system_named(harm: Harm) -> Option<Address>
     }
 }
 
-// The packets of the net to this address that hold the message, where so many were there after each event.
+// The message of a harm, and the system that the harm names.
+#[derive(Clone, Copy)]
+struct HarmedMessage<'a> {
+    to: Address,
+    tag: &'a [u8],
+    id: &'a [u8],
+}
+
+// The packets of the net to the system that hold the message, where so many were there after each event.
 fn crossings_to(
     alloc: Global,
     world: &World,
     counts: &[usize],
-    to: Address,
-    tag: &[u8],
-    id: &[u8],
+    harmed: HarmedMessage<'_>,
 ) -> Result<Vec<Crossing>, AllocError>
-    ensures { IfOk result (λ all. (run : Run) → IsWorldOf world.now run → all.items ≡ crossings_from counts.now to (ById tag.now id.now) 0 run.packets) }
+    ensures { IfOk result (λ all. (run : Run) → IsWorldOf world.now run → all.items ≡ crossings_from counts.now harmed.entry.to (ById harmed.entry.tag.now harmed.entry.id.now) 0 run.packets) }
 {
     let mut all = Vec::new(alloc);
     'packets: for k in 0..world.packets() {
-        add_crossing(alloc, &mut all, world, counts, k, to, tag, id)?;
+        add_crossing(alloc, &mut all, world, counts, k, harmed)?;
     }
     Ok(all)
 }
@@ -94,17 +101,16 @@ fn add_crossing(
     world: &World,
     counts: &[usize],
     k: usize,
-    to: Address,
-    tag: &[u8],
-    id: &[u8],
+    harmed: HarmedMessage<'_>,
 ) -> Result<(), AllocError>
     ensures { OnOk result ((run : Run) → IsWorldOf world.now run → (p : Packet) → nth k run.packets ≡ Some p →
-        all.new.items ≡ all.old.items ++ crossing_at counts.now to (ById tag.now id.now) k p) }
+        all.new.items ≡ all.old.items ++ crossing_at counts.now harmed.entry.to (ById harmed.entry.tag.now harmed.entry.id.now) k p) }
 {
+    let to = harmed.to;
     if !is_for(world, k, to) {
         return Ok(());
     }
-    let found = sender_at(alloc, world, k, tag, id)?;
+    let found = sender_at(alloc, world, k, harmed.tag, harmed.id)?;
     if let Some(from) = found {
         let step = step_of(counts, k);
         all.push(Crossing { step, from, to })?;

@@ -1,5 +1,5 @@
 -- A base file held as entries: for each message the place where it begins, and a digest of its key.
-use Rattle.std.specs.Prelude.{◌≡◌, ◌≤◌, ◌⊎◌, ◌<◌, ◌+◌, ◌*◌, ◌/◌, ◌^◌, ℕ, ⊤, false, true, nat_lt, List, [], ◌∷◌, ◌++◌, length, take, drop, IsSome}
+use Rattle.std.specs.Prelude.{◌≡◌, ◌≤◌, ◌⊎◌, ◌<◌, ◌+◌, ◌*◌, ◌/◌, ◌^◌, ℕ, ⊤, false, true, nat_lt, List, [], ◌∷◌, ◌++◌, length, take, drop, IsErrOf, IsSome, Result}
 use Rattle.std.specs.List.{flat_map}
 use Rattle.disk_io.specs.Disk.{DiskState, Honestly, bytes_in}
 use Rattle.echo_filed.specs.Filed.{Filed}
@@ -64,6 +64,11 @@ pub record HoldEntries (file : List ℕ) (e : Entries) (base : Base) : Type 0 wh
 pub record HasRoomFor (count : ℕ) (message : Filed) : Type 0 where
   pub messages : count + 1 < 2 ^ 32
   pub text : is_short_enough (stored_as false message) ≡ true
+
+-- It is damaged only where four bytes do not count its messages or its cursor, and never too many.
+pub record IsRefusedUncounted {T : Type 0} (e : Entries) (result : Result T StoreError) : Type 0 where
+  pub damaged : IsErrOf result error.Damaged → (2 ^ 32 ≤ e.cursor) ⊎ (2 ^ 32 ≤ length e.keys.items / 16)
+  pub few : IsErrOf result error.TooMany → ⊥
 
 -- No memory, or too many.
 abbrev pub IsUnsaved : StoreError → Type 0

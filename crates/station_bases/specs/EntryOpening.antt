@@ -1,5 +1,6 @@
 -- The messages of a base file are judged one after another, and their entries made.
 use Rattle.std.specs.Prelude.{◌≡◌, ◌≤◌, ℕ, ◌+◌, Bool, false, List, [], ◌++◌, length, map, take, drop}
+use Rattle.disk_io.specs.Disk.{DiskState, Honestly, bytes_in}
 use Rattle.echo_filed.specs.Stored.{Stored, message_in}
 use Rattle.echo_filed.specs.declared.stored.Version.TheVariants.{Second}
 use Rattle.base_file.specs.BaseFile.{Begins}
@@ -8,7 +9,7 @@ use Rattle.base_file.specs.declared.base.loading.Head.{Head}
 use Rattle.base_file.specs.declared.piece.Next.TheVariants as next
 use Rattle.base_store.specs.Keys.{keys_from}
 use Rattle.echo_filed.specs.declared.key.Key.{Key}
-use Rattle.station_bases.specs.Entries.{KeepForms, entry_digest}
+use Rattle.station_bases.specs.Entries.{AreIndexed, KeepForms, entry_digest}
 use Rattle.station_bases.specs.declared.entry_opening.Piece.{Piece}
 use Rattle.station_bases.specs.declared.entries.Entries.{Entries}
 
@@ -26,6 +27,17 @@ pub record AreJudged (file : List ℕ) (head : Head) (e : Entries) : Type 0 wher
   pub none : e.waiting.items ≡ []
   pub entries : e.keys.items ≡ keys_from (entry_digest e) 0 all
   pub forms : e.odd ≡ false → KeepForms head.cursor 0 (map (message_in Second) all)
+
+-- The entries are those of the messages so far of a file of version 2, and the piece is a part of the file.
+pub record HasJudged (disk : DiskState) (path : List ℕ) (head : Head) (piece : Piece) (e : Entries) : Type 0 where
+  pub second : head.version ≡ Second
+  pub part : Honestly disk (IsPartOf (bytes_in (disk.seen path)) piece)
+  pub judged : Honestly disk (AreJudged (bytes_in (disk.seen path)) head e)
+
+-- The entries are whole, and the cursor is the same.
+pub record StaysIndexed (old new : Entries) : Type 0 where
+  pub indexed : AreIndexed new
+  pub cursor : new.cursor ≡ old.cursor
 
 -- A message that no rule refuses by itself is in front of these bytes.
 pub record IsSoundIn (cursor place : ℕ) (bytes : List ℕ) (key : Key) (size : ℕ) (short : Bool) : Type 0 where

@@ -1,5 +1,5 @@
 -- The files of a station with its base in a file are read.
-use Rattle.std.specs.Prelude.{◌⊎◌, ℕ, List}
+use Rattle.std.specs.Prelude.{◌≤◌, ◌⊎◌, ℕ, List}
 use Rattle.disk_io.specs.Disk.{DiskState}
 use Rattle.disk_io.specs.Runs.{ChangesNothing}
 use Rattle.station.specs.Faults.{FailsAt}
@@ -13,6 +13,11 @@ use Rattle.station_bases.specs.InFile.{IsOfFile, StandsInFile}
 -- The place of a base file: its path, and its staging path for each system.
 abbrev pub file_place : List ℕ → Place
 file_place path = record { stands_for = λ base c. StandsInFile path base c; is_own = λ m. (own : List ℕ) × IsOfFile path own m }
+
+-- Nothing has changed, and no failure of the device is forgotten.
+pub record ReadsOnly (old new : DiskState) (before now : ℕ) : Type 0 where
+  pub quiet : ChangesNothing old new
+  pub later : before ≤ now
 
 -- A name of the file has all its bytes on the disk, or that there is no file is on it.
 pub record IsSettled (disk : DiskState) (path : List ℕ) : Type 0 where

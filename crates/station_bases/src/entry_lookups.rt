@@ -1,33 +1,19 @@
 //! A message of a base file looked up by its digest. Only messages that have it are read, and keys are compared whole.
-ghost use Rattle.std.specs.Prelude.{◌≡◌, ◌≤◌, ◌*◌, ◌/◌, List, length, IsErrOf, IsTrue, OnOk};
+ghost use Rattle.std.specs.Prelude.{◌≡◌, ◌≤◌, ◌*◌, ◌/◌, List, length, IsErrOf, OnOk};
 ghost use Rattle.std.specs.List.{list_any};
 ghost use Rattle.disk_io.specs.Disk.{Honestly, bytes_in};
 ghost use Rattle.disk_io.specs.Runs.{ChangesNothing};
 ghost use Rattle.echo_filed.specs.Filed.{Filed};
 ghost use Rattle.base_store.specs.Index.{IsIndexOf, covered};
 ghost use Rattle.base_store.specs.Keys.{StandWhereTold};
-ghost use Rattle.base_folder_store.specs.Added.{IsStoredAlone};
 ghost use Rattle.base_folder_store.specs.Answers.{Answers, HasReadCause, HaveDigest};
 ghost use Rattle.station_bases.specs.Entries.{AreIndexed, CanLookUp, IsWithinFile, message_bytes};
 
 use crate::entries::{ENTRY, Entries};
-use base_folder_store::{Sought, read_alone};
+use base_folder_store::{Sought, is_stored};
 use base_store::{Index, StoreError};
 use disk_io::Disk;
 use std::alloc::{AllocError, Global};
-
-// Whether the message of these stored bytes is the sought one. All of it is read only if its front is inconclusive.
-fn is_stored<W: Sought>(alloc: Global, sought: &W, bytes: &[u8]) -> Result<bool, StoreError>
-    ensures found { (m : Filed) → IsStoredAlone m bytes.now → Answers (λ found. found ≡ W.test sought.now m) result }
-    ensures device { IsErrOf result StoreError.Device → ⊥ }
-    ensures few { IsErrOf result StoreError.TooMany → ⊥ }
-{
-    if sought.matches_by_header(bytes) {
-        return Ok(true);
-    }
-    let alone = read_alone(alloc, bytes)?;
-    Ok(sought.is_in(&alone)?)
-}
 
 // Takes the entries into the index that it lacks for a look-up of the digest.
 fn take_rest(keys: &[u8], index: &mut Index, digest: u64) -> Result<(), AllocError>

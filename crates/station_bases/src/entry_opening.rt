@@ -9,7 +9,7 @@ ghost use Rattle.base_file.specs.BaseFile.{LoadOf};
 ghost use Rattle.base_file.specs.Pieces.{BeginsWith};
 ghost use Rattle.base_store.specs.Keys.{digested_key, entry};
 ghost use Rattle.station_bases.specs.Entries.{AreEntriesOf, AreIndexed, CanLookUp, HoldEntries, IsWithinFile, entry_digest};
-ghost use Rattle.station_bases.specs.EntryOpening.{AreJudged, IsPartOf, IsSoundIn};
+ghost use Rattle.station_bases.specs.EntryOpening.{AreJudged, HasJudged, IsPartOf, IsSoundIn, StaysIndexed};
 
 use crate::entries::{Entries, HEAD};
 use base_file::{Head, Next, head_of, judge_next};
@@ -220,15 +220,12 @@ impl Entries {
         piece: &mut Piece,
     ) -> Result<bool, DiskError>
         requires can { CanLookUp (D.state disk.old) path.now self.old }
-        requires second { head.version ≡ Second }
-        requires part { Honestly (D.state disk.old) (IsPartOf (bytes_in ((D.state disk.old).seen path.now)) piece.old) }
-        requires judged { Honestly (D.state disk.old) (AreJudged (bytes_in ((D.state disk.old).seen path.now)) head self.old) }
+        requires so_far { HasJudged (D.state disk.old) path.now head piece.old self.old }
         requires more { length self.old.keys.items / 16 < head.number }
         ensures judged { Honestly (D.state disk.new) (IfOk result (λ taken. taken ≡ true → AreJudged (bytes_in ((D.state disk.old).seen path.now)) head self.new)) }
         ensures part { Honestly (D.state disk.new) (OnOk result (IsPartOf (bytes_in ((D.state disk.old).seen path.now)) piece.new)) }
         ensures count { IfOk result (λ taken. taken ≡ true → length self.new.keys.items / 16 ≡ length self.old.keys.items / 16 + 1) }
-        ensures indexed { AreIndexed self.new }
-        ensures cursor { self.new.cursor ≡ self.old.cursor }
+        ensures keeps { StaysIndexed self.old self.new }
         ensures quiet { ChangesNothing (D.state disk.old) (D.state disk.new) }
         ensures cause { HasCause (D.failures disk.old) (D.failures disk.new) result }
     {
@@ -255,13 +252,10 @@ impl Entries {
         watch: &T,
     ) -> Result<bool, DiskError>
         requires can { CanLookUp (D.state disk.old) path.now self.old }
-        requires second { head.version ≡ Second }
-        requires part { Honestly (D.state disk.old) (IsPartOf (bytes_in ((D.state disk.old).seen path.now)) piece.old) }
-        requires judged { Honestly (D.state disk.old) (AreJudged (bytes_in ((D.state disk.old).seen path.now)) head self.old) }
+        requires so_far { HasJudged (D.state disk.old) path.now head piece.old self.old }
         ensures judged { Honestly (D.state disk.new) (IfOk result (λ all. all ≡ true → AreJudged (bytes_in ((D.state disk.old).seen path.now)) head self.new)) }
         ensures enough { IfOk result (λ all. all ≡ true → head.number ≤ length self.new.keys.items / 16) }
-        ensures indexed { AreIndexed self.new }
-        ensures cursor { self.new.cursor ≡ self.old.cursor }
+        ensures keeps { StaysIndexed self.old self.new }
         ensures quiet { ChangesNothing (D.state disk.old) (D.state disk.new) }
         ensures cause { HasCause (D.failures disk.old) (D.failures disk.new) result }
     {

@@ -1,5 +1,5 @@
 //! A base file is replaced by one with the messages that wait behind it, or is read whole.
-ghost use Rattle.std.specs.Prelude.{◌≡◌, ◌≢◌, ◌≤◌, ◌⊎◌, ◌/◌, ◌^◌, ◌++◌, ℕ, List, All, Ok, drop, take, length, IfOk, IsErrOf, IsSome, OnOk};
+ghost use Rattle.std.specs.Prelude.{◌≡◌, ◌≢◌, ◌≤◌, ◌/◌, ◌++◌, ℕ, List, All, Ok, drop, take, length, IfOk, IsErrOf, IsSome, OnOk};
 ghost use Rattle.disk_io.specs.Disk.{Honestly, bytes_in};
 ghost use Rattle.disk_io.specs.Runs.{ChangesNothing, HasCause, LeavesOnly, OneStepOn};
 ghost use Rattle.disk_atomic.specs.Changes.{ChangesOnly, HasOnDisk};
@@ -10,7 +10,7 @@ ghost use Rattle.echo_filed.specs.declared.stored.Version.TheVariants.{Second};
 ghost use Rattle.base_file.specs.Base.{Base as TheBase};
 ghost use Rattle.base_file.specs.BaseFile.{LoadOf, head_bytes};
 ghost use Rattle.base_folder_store.specs.Answers.{Answers, HasReadCause};
-ghost use Rattle.station_bases.specs.Entries.{AreIndexed, CanLookUp, HoldEntries, IsWithinFile, file_bytes, message_bytes};
+ghost use Rattle.station_bases.specs.Entries.{AreIndexed, CanLookUp, HoldEntries, IsRefusedUncounted, IsWithinFile, file_bytes, message_bytes};
 ghost use Rattle.station_bases.specs.InFile.{IsOfFile};
 
 use crate::entries::{Entries, HEAD};
@@ -86,9 +86,8 @@ impl Entries {
     // The head of a base file with these messages, which four bytes count.
     fn head(&self, alloc: Global) -> Result<Vec<u8>, StoreError>
         ensures head { IfOk result (λ head. head.items ≡ head_bytes Second self.now.cursor (length self.now.keys.items / 16)) }
-        ensures damaged { IsErrOf result StoreError.Damaged → (2 ^ 32 ≤ self.now.cursor) ⊎ (2 ^ 32 ≤ length self.now.keys.items / 16) }
+        ensures refused { IsRefusedUncounted self.now result }
         ensures device { IsErrOf result StoreError.Device → ⊥ }
-        ensures few { IsErrOf result StoreError.TooMany → ⊥ }
     {
         if self.cursor > MOST || self.count() > MOST {
             return Err(StoreError::Damaged);
@@ -106,10 +105,9 @@ impl Entries {
     ) -> Result<Vec<u8>, StoreError>
         requires { CanLookUp (D.state disk.old) path.now self.now }
         ensures bytes { Honestly (D.state disk.new) (IfOk result (λ whole. whole.items ≡ file_bytes (bytes_in ((D.state disk.old).seen path.now)) self.now)) }
-        ensures damaged { IsErrOf result StoreError.Damaged → (2 ^ 32 ≤ self.now.cursor) ⊎ (2 ^ 32 ≤ length self.now.keys.items / 16) }
+        ensures refused { IsRefusedUncounted self.now result }
         ensures quiet { ChangesNothing (D.state disk.old) (D.state disk.new) }
         ensures cause { HasReadCause (D.failures disk.old) (D.failures disk.new) result }
-        ensures few { IsErrOf result StoreError.TooMany → ⊥ }
     {
         let mut whole = self.head(alloc)?;
         let part = read_part(alloc, disk, path, HEAD, self.end)?;
@@ -152,9 +150,8 @@ impl Entries {
         ensures any_moment { Honestly (D.state disk.new) (LeavesOnly (D.state disk.old) (D.state disk.new)
             (OneStepOn (Replaces path.now (staging_path path.now own.now) (file_bytes (bytes_in ((D.state disk.old).seen path.now)) self.old)) (D.state disk.old))) }
         ensures changes { ChangesOnly (IsOfFile path.now own.now) (D.state disk.old) (D.state disk.new) }
-        ensures damaged { IsErrOf result StoreError.Damaged → (2 ^ 32 ≤ self.old.cursor) ⊎ (2 ^ 32 ≤ length self.old.keys.items / 16) }
+        ensures refused { IsRefusedUncounted self.old result }
         ensures cause { HasReadCause (D.failures disk.old) (D.failures disk.new) result }
-        ensures few { IsErrOf result StoreError.TooMany → ⊥ }
     {
         let head = self.head(alloc)?;
         let Some(end) = self.end.checked_add(self.waiting.len()) else {

@@ -1,5 +1,5 @@
 //! The link file of a station is read, and its base file is opened.
-ghost use Rattle.std.specs.Prelude.{◌≡◌, ◌≢◌, ◌≤◌, ◌⊎◌, ◌↔◌, All, IfErr, IfNone, IfOk, IfSome, IsSome, IsTrue, OnOk, Some, None};
+ghost use Rattle.std.specs.Prelude.{◌≡◌, ◌≢◌, ◌⊎◌, ◌↔◌, All, IfErr, IfNone, IfOk, IfSome, IsSome, IsTrue, OnOk, Some, None};
 ghost use Rattle.base_file.specs.Base.{Base as TheBase};
 ghost use Rattle.disk_io.specs.Device.{Failed};
 ghost use Rattle.disk_io.specs.Disk.{Honestly};
@@ -10,7 +10,7 @@ ghost use Rattle.cmd_status.specs.Inputs.{IsBaseFault, IsBaseGiven};
 ghost use Rattle.station.specs.Opening.{AreFree, HaveFailed};
 ghost use Rattle.station.specs.Faults.{IsFaultAt};
 ghost use Rattle.station_bases.specs.InFile.{IsHeld, IsWithinReach, StandsInFile};
-ghost use Rattle.station_bases.specs.Reading.{IsFileShut, IsSettled, IsUnreadFor};
+ghost use Rattle.station_bases.specs.Reading.{IsFileShut, IsSettled, IsUnreadFor, ReadsOnly};
 
 use crate::entry_opening::open_entries;
 use crate::file_station::FileStation;
@@ -112,8 +112,7 @@ fn open_whole<'a, D: Disk, S: BuildHasher + Drop, T: MessageProgress>(
 ) -> Result<Base<S>, Fault<'a>>
     requires there { Honestly (D.state disk.old) (IsSome ((D.state disk.old).seen path.now)) }
     ensures same { Honestly (D.state disk.new) ((base : TheBase) → StandsInFile path.entry.now base (D.state disk.old).seen → IfOk result (λ b. base ≡ b)) }
-    ensures quiet { ChangesNothing (D.state disk.old) (D.state disk.new) }
-    ensures later { D.failures disk.old ≤ D.failures disk.new }
+    ensures reads { ReadsOnly (D.state disk.old) (D.state disk.new) (D.failures disk.old) (D.failures disk.new) }
     ensures err { Honestly (D.state disk.new) (IfErr result (IsUnreadFor path.entry.now (Failed (D.failures disk.old) (D.failures disk.new)) (D.state disk.old))) }
 {
     match read_file(alloc, disk, path.as_bytes()) {
@@ -141,8 +140,7 @@ fn base_at<
     ensures same { Honestly (D.state disk.new) ((base : TheBase) → StandsInFile at.entry.base.now base (D.state disk.old).seen → IfOk result (λ held. IsHeld (D.state disk.new) at.entry.base.now held base)) }
     ensures reach { IfOk result (IsWithinReach (D.state disk.new) at.entry.base.now) }
     ensures settled { Honestly (D.state disk.new) (OnOk result (IsSettled (D.state disk.new) at.entry.base.now)) }
-    ensures quiet { ChangesNothing (D.state disk.old) (D.state disk.new) }
-    ensures later { D.failures disk.old ≤ D.failures disk.new }
+    ensures reads { ReadsOnly (D.state disk.old) (D.state disk.new) (D.failures disk.old) (D.failures disk.new) }
     ensures err { Honestly (D.state disk.new) (IfErr result (IsUnreadFor at.entry.base.now (Failed (D.failures disk.old) (D.failures disk.new)) (D.state disk.old))) }
 {
     let FileStation {
@@ -182,8 +180,7 @@ fn locked_base<
     ensures same { Honestly (D.state disk.new) ((base : TheBase) → StandsInFile at.entry.base.now base (D.state disk.old).seen → IfOk result (λ held. IsHeld (D.state disk.new) at.entry.base.now held base)) }
     ensures reach { IfOk result (IsWithinReach (D.state disk.new) at.entry.base.now) }
     ensures settled { Honestly (D.state disk.new) (OnOk result (IsSettled (D.state disk.new) at.entry.base.now)) }
-    ensures quiet { ChangesNothing (D.state disk.old) (D.state disk.new) }
-    ensures later { D.failures disk.old ≤ D.failures disk.new }
+    ensures reads { ReadsOnly (D.state disk.old) (D.state disk.new) (D.failures disk.old) (D.failures disk.new) }
     ensures err { Honestly (D.state disk.new) (IfErr result (IsUnreadFor at.entry.base.now (Failed (D.failures disk.old) (D.failures disk.new) ⊎ Failed (K.failures locks.old.base) (K.failures locks.new.base)) (D.state disk.old))) }
 {
     lock_at(&mut locks.base, at.base)?;
@@ -211,8 +208,7 @@ pub(crate) fn read_station<
     ensures reach { IfOk result (λ read. IsWithinReach (D.state disk.new) at.entry.base.now read.held) }
     ensures plain { IfOk result (λ read. All (λ b. b ≢ 47) read.own) }
     ensures settled { Honestly (D.state disk.new) (OnOk result (IsSettled (D.state disk.new) at.entry.base.now)) }
-    ensures quiet { ChangesNothing (D.state disk.old) (D.state disk.new) }
-    ensures later { D.failures disk.old ≤ D.failures disk.new }
+    ensures reads { ReadsOnly (D.state disk.old) (D.state disk.new) (D.failures disk.old) (D.failures disk.new) }
     ensures err { Honestly (D.state disk.new) (IfErr result (IsFileShut at.entry.links.now at.entry.base.now
         (HaveFailed (D.failures disk.old) (D.failures disk.new) (L.failures locks.old.links) (L.failures locks.new.links) (K.failures locks.old.base) (K.failures locks.new.base)) (D.state disk.old))) }
 {

@@ -6,8 +6,8 @@ ghost use Rattle.base_log.specs.Names.{AreNames, folder_of};
 ghost use Rattle.base_log.specs.Opening.{AreAlone};
 
 use base_log::{
-    CommitRecord, End, FolderError, FolderIdentity, Names, commit, judge, open, read_log,
-    stage_anew, stage_keys, stage_messages, stage_nothing,
+    CommitRecord, End, FolderError, FolderIdentity, GrowingFile, Names, commit, judge, open,
+    read_log, stage_anew, stage_bytes, stage_nothing,
 };
 use disk_io::{Disk, read_file};
 use std::alloc::{AllocError, Global};
@@ -88,8 +88,8 @@ fn stage<D: Disk>(
     if told.messages > LIMIT || told.keys > LIMIT || messages.len() > LIMIT || keys.len() > LIMIT {
         return Err(FolderError::Corrupt);
     }
-    let told = stage_messages(disk, names, end, told, messages)?;
-    Ok(stage_keys(disk, names, end, told, keys)?)
+    let told = stage_bytes(disk, names, end, told, GrowingFile::Messages, messages)?;
+    Ok(stage_bytes(disk, names, end, told, GrowingFile::Keys, keys)?)
 }
 
 // Stages a change in two parts, and commits it.

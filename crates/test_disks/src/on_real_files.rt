@@ -2,6 +2,7 @@
 use crate::bases::{Base, Change, change_folder, open_folder, read_base};
 use base_log::{FolderError, FolderIdentity};
 use disk_system::{RealDisk, Unknown};
+use std::alloc::{AllocError, Global};
 use std::fs;
 use std::fs::OpenOptions;
 use std::test::Fail;
@@ -25,25 +26,35 @@ const CLAIMED: FolderIdentity = FolderIdentity {
 /// A length of a log that ends inside its second record.
 const INSIDE: u64 = 75;
 
-#[test]
-fn a_base_folder_is_opened_again_and_not_with_a_log_cut_short(rt: HostRuntime) -> Result<(), Fail> {
-    let alloc = rt.alloc();
-    let _ = fs::remove_dir_all(&rt, "disk_tests_base");
-    fs::create_dir(&rt, "disk_tests_base")?;
-    let first = Change {
+// A message is added, and the folder gets its owner.
+fn first_change(alloc: Global) -> Result<Change, AllocError> {
+    Ok(Change {
         anew: false,
         messages: Vec::from_slice(alloc, b"first message")?,
         keys: Vec::from_slice(alloc, b"first key")?,
         cursor: 1,
         mark: CLAIMED,
-    };
-    let second = Change {
+    })
+}
+
+// Another message replaces it, in files of another number.
+fn second_change(alloc: Global) -> Result<Change, AllocError> {
+    Ok(Change {
         anew: true,
         messages: Vec::from_slice(alloc, b"another")?,
         keys: Vec::from_slice(alloc, b"key")?,
         cursor: 2,
         mark: CLAIMED,
-    };
+    })
+}
+
+#[test]
+fn a_base_folder_is_opened_again_and_not_with_a_log_cut_short(rt: HostRuntime) -> Result<(), Fail> {
+    let alloc = rt.alloc();
+    let _ = fs::remove_dir_all(&rt, "disk_tests_base");
+    fs::create_dir(&rt, "disk_tests_base")?;
+    let first = first_change(alloc)?;
+    let second = second_change(alloc)?;
     let empty = Base {
         messages: Vec::new(alloc),
         keys: Vec::new(alloc),

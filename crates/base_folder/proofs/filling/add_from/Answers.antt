@@ -40,7 +40,7 @@ messages-preserved g c =
 
 pub returns-clause-added : goal.returns-clause-added
 returns-clause-added g c = λ honest cursor front.
-    let end : c.messages.i ≡ c.args.to = omega (arith, c.requires.order) in
+    let end : c.messages.i ≡ c.args.to = omega (arith, c.requires.range.order) in
     subst (λ (n : ℕ). HoldsFront g.H.Digest.keyed (held_by (g.D.Disk.state c.messages.disk) c.messages.folder) c.args.base.now.messages n cursor) end (c.messages.invariant.held honest cursor front)
 
 pub returns-in_err-add_next-clause-many : goal.returns-in_err-add_next-clause-many

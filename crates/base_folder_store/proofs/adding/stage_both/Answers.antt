@@ -1,8 +1,8 @@
 use Rattle.std.proofs.Common.{◌≡◌, ◌+◌, ◌<◌, ◌^◌, ℕ, List, length, Result, Ok, Err, refl, sym, ap, subst, ◌∙◌}
-use Rattle.std.specs.Prelude.{IfOk, OnOk}
+use Rattle.std.specs.Prelude.{IfOk}
 use Rattle.disk_io.specs.Disk.{DiskState, Honestly}
 use Rattle.disk_io.specs.declared.disk_error.DiskError.{DiskError}
-use Rattle.base_log.specs.AtRest.{IsStaged}
+use Rattle.base_log.specs.AtRest.{HoldsNext, IsStaged}
 use Rattle.base_log.specs.Names.{AreNames, folder_of, keys_of}
 use Rattle.base_log.specs.Standing.{BaseBytes, and_keys, and_messages, base_at}
 use Rattle.base_log.specs.declared.log.CommitRecord.{CommitRecord}
@@ -12,51 +12,56 @@ use Rattle.base_folder_store.specs.Calls.{StagesBoth}
 use Rattle.base_folder_store.proofs.Runs.{run_twice}
 use Rattle.base_folder_store.proofs.adding.stage_both.Goals as goal
 
-pub stage_keys-requires-clause-names : goal.stage_keys-requires-clause-names
-stage_keys-requires-clause-names g c = subst (λ (n : ℕ). AreNames c.args.names.now n) (sym (ap (λ (t : CommitRecord). t.number) c.in_ok-more.ensures.told)) c.requires.names
+pub stage_bytes-requires-clause-staged : goal.stage_bytes-requires-clause-staged
+stage_bytes-requires-clause-staged g c = record { names = c.requires.names; staged = c.requires.staged }
 
-pub stage_keys-requires-clause-room : goal.stage_keys-requires-clause-room
-stage_keys-requires-clause-room g c = subst (λ (n : ℕ). n + length c.args.keys.now < 2 ^ 64) (sym (ap (λ (t : CommitRecord). t.keys) c.in_ok-more.ensures.told)) c.requires.keys_room
+pub stage_bytes-requires-2-clause-staged : goal.stage_bytes-requires-2-clause-staged
+stage_bytes-requires-2-clause-staged g c = record {
+  names = subst (λ (n : ℕ). AreNames c.args.names.now n) (sym (ap (λ (t : CommitRecord). t.number) c.in_ok-more.ensures.told)) c.requires.names;
+  staged = c.in_ok-more.ensures.staged;
+}
+
+pub stage_bytes-requires-2-clause-room : goal.stage_bytes-requires-2-clause-room
+stage_bytes-requires-2-clause-room g c = subst (λ (n : ℕ). n + length c.args.keys.now < 2 ^ 64) (sym (ap (λ (t : CommitRecord). t.keys) c.in_ok-more.ensures.told)) c.requires.keys_room
 
 -- what the second call added to what the first one did
 both : (path : List ℕ) (d e f : DiskState) (end : End) (told more : CommitRecord) (bytes keys : List ℕ) (r : Result CommitRecord DiskError) → (f.is_honest → e.is_honest) → more ≡ record told { messages = told.messages + length bytes }
-    → Honestly e (base_at e path more ≡ and_messages (base_at d path told) bytes) → Honestly e (base_at e path end.told ≡ base_at d path end.told) → IfOk r (λ m. m ≡ record more { keys = more.keys + length keys })
-    → Honestly f (IfOk r (λ m. IsStaged f path end m)) → Honestly f (IfOk r (λ m. base_at f path m ≡ and_keys (base_at e path more) keys)) → Honestly f (OnOk r (base_at f path end.told ≡ base_at e path end.told))
+    → Honestly e (HoldsNext e path end.told (base_at d path end.told) (and_messages (base_at d path told) bytes) more) → IfOk r (λ m. m ≡ record more { keys = more.keys + length keys })
+    → Honestly f (IfOk r (λ m. IsStaged f path end m)) → Honestly f (IfOk r (HoldsNext f path end.told (base_at e path end.told) (and_keys (base_at e path more) keys)))
     → IfOk r (λ m. StagesBoth path d f end told m bytes keys)
-both path d e f end told more bytes keys (Ok m) since is first_added first_same next staged added same = record {
+both path d e f end told more bytes keys (Ok m) since is first next staged second = record {
   staged = staged;
-  added = λ honest. added honest ∙ ap (λ (b : BaseBytes). and_keys b keys) (first_added (since honest));
-  same = λ honest. same honest ∙ first_same (since honest);
+  added = λ honest. (second honest).added ∙ ap (λ (b : BaseBytes). and_keys b keys) (first (since honest)).added;
+  same = λ honest. (second honest).same ∙ (first (since honest)).same;
   number = ap (λ (t : CommitRecord). t.number) next ∙ ap (λ (t : CommitRecord). t.number) is;
   mark = ap (λ (t : CommitRecord). t.mark) next ∙ ap (λ (t : CommitRecord). t.mark) is;
 }
-both path d e f end told more bytes keys (Err failed) since is first_added first_same next staged added same = tt
+both path d e f end told more bytes keys (Err failed) since is first next staged second = tt
 
 pub returns-clause-staged : goal.returns-clause-staged
 returns-clause-staged g c =
     let one = c.in_ok-more.ensures in
-    let two = c.stage_keys.ensures in
-    both (folder_of c.args.names.now) (g.D.Disk.state c.args.disk.now) (g.D.Disk.state c.stage_messages.new.disk) (g.D.Disk.state c.stage_keys.new.disk) c.args.end c.args.told c.in_ok-more.more c.args.bytes.now c.args.keys.now c.stage_keys.result
-    two.outside.honest one.told one.added one.same two.told two.staged two.added two.same
+    let two = c.stage_bytes-2.ensures in
+    both (folder_of c.args.names.now) (g.D.Disk.state c.args.disk.now) (g.D.Disk.state c.stage_bytes.new.disk) (g.D.Disk.state c.stage_bytes-2.new.disk) c.args.end c.args.told c.in_ok-more.more c.args.bytes.now c.args.keys.now c.stage_bytes-2.result
+    two.run.outside.honest one.told one.next two.told two.staged two.next
 
 pub returns-clause-run : goal.returns-clause-run
 returns-clause-run g c =
     let path = folder_of c.args.names.now in
     let d = g.D.Disk.state c.args.disk.now in
-    let e = g.D.Disk.state c.stage_messages.new.disk in
-    run_twice path path d e (g.D.Disk.state c.stage_keys.new.disk) (base_at d path c.args.end.told) (base_at e path c.args.end.told) refl
-    (record { any_moment = c.stage_messages.ensures.any_moment; outside = c.stage_messages.ensures.outside }) (record { any_moment = c.stage_keys.ensures.any_moment; outside = c.stage_keys.ensures.outside })
-    c.in_ok-more.ensures.same
+    let e = g.D.Disk.state c.stage_bytes.new.disk in
+    run_twice path path d e (g.D.Disk.state c.stage_bytes-2.new.disk) (base_at d path c.args.end.told) (base_at e path c.args.end.told) refl
+    c.stage_bytes.ensures.run c.stage_bytes-2.ensures.run (λ honest. (c.in_ok-more.ensures.next honest).same)
 
 pub returns-in_err-more-clause-beside : goal.returns-in_err-more-clause-beside
-returns-in_err-more-clause-beside g c = λ m messages keys. c.stage_messages.ensures.beside m messages
+returns-in_err-more-clause-beside g c = λ m messages keys. c.stage_bytes.ensures.beside m messages
 
 pub returns-clause-beside : goal.returns-clause-beside
 returns-clause-beside g c = λ m messages keys.
-    c.stage_keys.ensures.beside m (λ is. keys (is ∙ ap (λ (t : CommitRecord). keys_of (folder_of c.args.names.now) t.number) c.in_ok-more.ensures.told))
-    ∙ c.stage_messages.ensures.beside m messages
+    c.stage_bytes-2.ensures.beside m (λ is. keys (is ∙ ap (λ (t : CommitRecord). keys_of (folder_of c.args.names.now) t.number) c.in_ok-more.ensures.told))
+    ∙ c.stage_bytes.ensures.beside m messages
 
 pub returns-clause-leaves : goal.returns-clause-leaves
 returns-clause-leaves g c =
-    left_twice (folder_of c.args.names.now) (g.D.Disk.state c.args.disk.now) (g.D.Disk.state c.stage_messages.new.disk) (g.D.Disk.state c.stage_keys.new.disk)
-    c.stage_messages.ensures.outside.named c.stage_messages.ensures.leaves c.stage_keys.ensures.leaves
+    left_twice (folder_of c.args.names.now) (g.D.Disk.state c.args.disk.now) (g.D.Disk.state c.stage_bytes.new.disk) (g.D.Disk.state c.stage_bytes-2.new.disk)
+    c.stage_bytes.ensures.run.outside.named c.stage_bytes.ensures.leaves c.stage_bytes-2.ensures.leaves

@@ -32,14 +32,20 @@ keys_made g c =
       time = made.time;
     })
 
-pub returns-in_err-create-clause-any_moment : goal.returns-in_err-create-clause-any_moment
-returns-in_err-create-clause-any_moment g c honest =
-    let one = messages_made g (goal.at.returns-in_err-create-clause-any_moment g c).After-create in
-    let path = folder_of c.args.names.now in
-    let d0 = g.D.Disk.state c.args.disk.now in
-    let d1 = g.D.Disk.state c.create.new.self in
-    let rest = c.requires.settled (one.time.honest honest) in
-    alone_run d0 path c.args.end rest d1 (messages_run d0 path c.args.end rest c.args.number c.requires.other d1 one)
+pub returns-in_err-create-clause-run : goal.returns-in_err-create-clause-run
+returns-in_err-create-clause-run g c = record {
+  any_moment = λ honest.
+        let one = messages_made g (goal.at.returns-in_err-create-clause-run g c).After-create in
+        let path = folder_of c.args.names.now in
+        let d0 = g.D.Disk.state c.args.disk.now in
+        let d1 = g.D.Disk.state c.create.new.self in
+        let rest = c.requires.settled (one.time.honest honest) in
+        alone_run d0 path c.args.end rest d1 (messages_run d0 path c.args.end rest c.args.number c.requires.free.other d1 one);
+  outside = 
+        let one = messages_made g (goal.at.returns-in_err-create-clause-run g c).After-create in
+        let path = folder_of c.args.names.now in
+        outside_but_one path (g.D.Disk.state c.args.disk.now) (g.D.Disk.state c.create.new.self) (messages_of path c.args.number) (messages_in path c.args.number) one.kept;
+}
 
 pub returns-in_err-create-clause-same : goal.returns-in_err-create-clause-same
 returns-in_err-create-clause-same g c honest =
@@ -48,27 +54,27 @@ returns-in_err-create-clause-same g c honest =
     let n = c.args.end.told.number in
     let number = c.args.number in
     same_base (g.D.Disk.state c.args.disk.now) (g.D.Disk.state c.create.new.self) path c.args.end
-    (one.kept.seen (messages_of path n) (λ is. c.requires.other (sym (messages_of-injective path n number is)))) (one.kept.seen (keys_of path n) (keys_not_messages path n number))
+    (one.kept.seen (messages_of path n) (λ is. c.requires.free.other (sym (messages_of-injective path n number is)))) (one.kept.seen (keys_of path n) (keys_not_messages path n number))
 
 pub returns-in_err-create-clause-beside : goal.returns-in_err-create-clause-beside
 returns-in_err-create-clause-beside g c m ne nk = (messages_made g (goal.at.returns-in_err-create-clause-beside g c).After-create).kept.seen m ne
 
-pub returns-in_err-create-clause-outside : goal.returns-in_err-create-clause-outside
-returns-in_err-create-clause-outside g c =
-    let one = messages_made g (goal.at.returns-in_err-create-clause-outside g c).After-create in
-    let path = folder_of c.args.names.now in
-    outside_but_one path (g.D.Disk.state c.args.disk.now) (g.D.Disk.state c.create.new.self) (messages_of path c.args.number) (messages_in path c.args.number) one.kept
-
-pub returns-in_err-create-2-clause-any_moment : goal.returns-in_err-create-2-clause-any_moment
-returns-in_err-create-2-clause-any_moment g c honest =
-    let one = messages_made g (goal.at.returns-in_err-create-2-clause-any_moment g c).After-create in
-    let two = keys_made g (goal.at.returns-in_err-create-2-clause-any_moment g c).After-create-2 in
-    let path = folder_of c.args.names.now in
-    let d0 = g.D.Disk.state c.args.disk.now in
-    let d1 = g.D.Disk.state c.create.new.self in
-    let d2 = g.D.Disk.state c.create-2.new.self in
-    let rest = c.requires.settled (one.time.honest (two.time.honest honest)) in
-    alone_run d0 path c.args.end rest d2 (keys_run d0 path c.args.end rest c.args.number c.requires.other d1 one d2 two)
+pub returns-in_err-create-2-clause-run : goal.returns-in_err-create-2-clause-run
+returns-in_err-create-2-clause-run g c = record {
+  any_moment = λ honest.
+        let one = messages_made g (goal.at.returns-in_err-create-2-clause-run g c).After-create in
+        let two = keys_made g (goal.at.returns-in_err-create-2-clause-run g c).After-create-2 in
+        let path = folder_of c.args.names.now in
+        let d0 = g.D.Disk.state c.args.disk.now in
+        let d1 = g.D.Disk.state c.create.new.self in
+        let d2 = g.D.Disk.state c.create-2.new.self in
+        let rest = c.requires.settled (one.time.honest (two.time.honest honest)) in
+        alone_run d0 path c.args.end rest d2 (keys_run d0 path c.args.end rest c.args.number c.requires.free.other d1 one d2 two);
+  outside = 
+        let one = messages_made g (goal.at.returns-in_err-create-2-clause-run g c).After-create in
+        let two = keys_made g (goal.at.returns-in_err-create-2-clause-run g c).After-create-2 in
+        outside_both (folder_of c.args.names.now) c.args.number (g.D.Disk.state c.args.disk.now) (g.D.Disk.state c.create.new.self) (g.D.Disk.state c.create-2.new.self) one two;
+}
 
 pub returns-in_err-create-2-clause-same : goal.returns-in_err-create-2-clause-same
 returns-in_err-create-2-clause-same g c honest =
@@ -79,30 +85,34 @@ returns-in_err-create-2-clause-same g c honest =
     let d0 = g.D.Disk.state c.args.disk.now in
     let d1 = g.D.Disk.state c.create.new.self in
     let d2 = g.D.Disk.state c.create-2.new.self in
-    same_base d0 d2 path c.args.end (messages_seen path n c.args.number c.requires.other d0 d1 d2 one two) (keys_seen path n c.args.number c.requires.other d0 d1 d2 one two)
+    same_base d0 d2 path c.args.end (messages_seen path n c.args.number c.requires.free.other d0 d1 d2 one two) (keys_seen path n c.args.number c.requires.free.other d0 d1 d2 one two)
 
 pub returns-in_err-create-2-clause-beside : goal.returns-in_err-create-2-clause-beside
 returns-in_err-create-2-clause-beside g c m ne nk =
     (keys_made g (goal.at.returns-in_err-create-2-clause-beside g c).After-create-2).kept.seen m nk ∙ (messages_made g (goal.at.returns-in_err-create-2-clause-beside g c).After-create).kept.seen m ne
 
-pub returns-in_err-create-2-clause-outside : goal.returns-in_err-create-2-clause-outside
-returns-in_err-create-2-clause-outside g c =
-    let one = messages_made g (goal.at.returns-in_err-create-2-clause-outside g c).After-create in
-    let two = keys_made g (goal.at.returns-in_err-create-2-clause-outside g c).After-create-2 in
-    outside_both (folder_of c.args.names.now) c.args.number (g.D.Disk.state c.args.disk.now) (g.D.Disk.state c.create.new.self) (g.D.Disk.state c.create-2.new.self) one two
-
-pub returns-in_err-sync_folder_of-clause-any_moment : goal.returns-in_err-sync_folder_of-clause-any_moment
-returns-in_err-sync_folder_of-clause-any_moment g c honest =
-    let one = messages_made g (goal.at.returns-in_err-sync_folder_of-clause-any_moment g c).After-create in
-    let two = keys_made g (goal.at.returns-in_err-sync_folder_of-clause-any_moment g c).After-create-2 in
-    let quiet = c.sync_folder_of.ensures.quiet in
-    let path = folder_of c.args.names.now in
-    let d0 = g.D.Disk.state c.args.disk.now in
-    let d1 = g.D.Disk.state c.create.new.self in
-    let d2 = g.D.Disk.state c.create-2.new.self in
-    let d3 = g.D.Disk.state c.sync_folder_of.new.disk in
-    let rest = c.requires.settled (one.time.honest (two.time.honest (quiet.honest honest))) in
-    alone_run d0 path c.args.end rest d3 (then_nothing d0 d2 d3 (FilesAlone d0 path c.args.end rest) (keys_run d0 path c.args.end rest c.args.number c.requires.other d1 one d2 two) quiet)
+pub returns-in_err-sync_folder_of-clause-run : goal.returns-in_err-sync_folder_of-clause-run
+returns-in_err-sync_folder_of-clause-run g c = record {
+  any_moment = λ honest.
+        let one = messages_made g (goal.at.returns-in_err-sync_folder_of-clause-run g c).After-create in
+        let two = keys_made g (goal.at.returns-in_err-sync_folder_of-clause-run g c).After-create-2 in
+        let quiet = c.sync_folder_of.ensures.quiet in
+        let path = folder_of c.args.names.now in
+        let d0 = g.D.Disk.state c.args.disk.now in
+        let d1 = g.D.Disk.state c.create.new.self in
+        let d2 = g.D.Disk.state c.create-2.new.self in
+        let d3 = g.D.Disk.state c.sync_folder_of.new.disk in
+        let rest = c.requires.settled (one.time.honest (two.time.honest (quiet.honest honest))) in
+        alone_run d0 path c.args.end rest d3 (then_nothing d0 d2 d3 (FilesAlone d0 path c.args.end rest) (keys_run d0 path c.args.end rest c.args.number c.requires.free.other d1 one d2 two) quiet);
+  outside = 
+        let one = messages_made g (goal.at.returns-in_err-sync_folder_of-clause-run g c).After-create in
+        let two = keys_made g (goal.at.returns-in_err-sync_folder_of-clause-run g c).After-create-2 in
+        let path = folder_of c.args.names.now in
+        let d0 = g.D.Disk.state c.args.disk.now in
+        let d2 = g.D.Disk.state c.create-2.new.self in
+        let d3 = g.D.Disk.state c.sync_folder_of.new.disk in
+        outside_twice path d0 d2 d3 (outside_both path c.args.number d0 (g.D.Disk.state c.create.new.self) d2 one two) (outside_quiet path d2 d3 c.sync_folder_of.ensures.quiet);
+}
 
 pub returns-in_err-sync_folder_of-clause-same : goal.returns-in_err-sync_folder_of-clause-same
 returns-in_err-sync_folder_of-clause-same g c honest =
@@ -115,34 +125,34 @@ returns-in_err-sync_folder_of-clause-same g c honest =
     let d0 = g.D.Disk.state c.args.disk.now in
     let d1 = g.D.Disk.state c.create.new.self in
     let d2 = g.D.Disk.state c.create-2.new.self in
-    same_base d0 (g.D.Disk.state c.sync_folder_of.new.disk) path c.args.end (seen (messages_of path n) ∙ messages_seen path n number c.requires.other d0 d1 d2 one two) (seen (keys_of path n) ∙ keys_seen path n number c.requires.other d0 d1 d2 one two)
+    same_base d0 (g.D.Disk.state c.sync_folder_of.new.disk) path c.args.end (seen (messages_of path n) ∙ messages_seen path n number c.requires.free.other d0 d1 d2 one two) (seen (keys_of path n) ∙ keys_seen path n number c.requires.free.other d0 d1 d2 one two)
 
 pub returns-in_err-sync_folder_of-clause-beside : goal.returns-in_err-sync_folder_of-clause-beside
 returns-in_err-sync_folder_of-clause-beside g c m ne nk =
     c.sync_folder_of.ensures.quiet.seen m ∙ (keys_made g (goal.at.returns-in_err-sync_folder_of-clause-beside g c).After-create-2).kept.seen m nk ∙ (messages_made g (goal.at.returns-in_err-sync_folder_of-clause-beside g c).After-create).kept.seen m ne
 
-pub returns-in_err-sync_folder_of-clause-outside : goal.returns-in_err-sync_folder_of-clause-outside
-returns-in_err-sync_folder_of-clause-outside g c =
-    let one = messages_made g (goal.at.returns-in_err-sync_folder_of-clause-outside g c).After-create in
-    let two = keys_made g (goal.at.returns-in_err-sync_folder_of-clause-outside g c).After-create-2 in
-    let path = folder_of c.args.names.now in
-    let d0 = g.D.Disk.state c.args.disk.now in
-    let d2 = g.D.Disk.state c.create-2.new.self in
-    let d3 = g.D.Disk.state c.sync_folder_of.new.disk in
-    outside_twice path d0 d2 d3 (outside_both path c.args.number d0 (g.D.Disk.state c.create.new.self) d2 one two) (outside_quiet path d2 d3 c.sync_folder_of.ensures.quiet)
-
-pub returns-clause-any_moment : goal.returns-clause-any_moment
-returns-clause-any_moment g c honest =
-    let one = messages_made g (goal.at.returns-clause-any_moment g c).After-create in
-    let two = keys_made g (goal.at.returns-clause-any_moment g c).After-create-2 in
-    let quiet = c.sync_folder_of.ensures.quiet in
-    let path = folder_of c.args.names.now in
-    let d0 = g.D.Disk.state c.args.disk.now in
-    let d1 = g.D.Disk.state c.create.new.self in
-    let d2 = g.D.Disk.state c.create-2.new.self in
-    let d3 = g.D.Disk.state c.sync_folder_of.new.disk in
-    let rest = c.requires.settled (one.time.honest (two.time.honest (quiet.honest honest))) in
-    alone_run d0 path c.args.end rest d3 (then_nothing d0 d2 d3 (FilesAlone d0 path c.args.end rest) (keys_run d0 path c.args.end rest c.args.number c.requires.other d1 one d2 two) quiet)
+pub returns-clause-run : goal.returns-clause-run
+returns-clause-run g c = record {
+  any_moment = λ honest.
+        let one = messages_made g (goal.at.returns-clause-run g c).After-create in
+        let two = keys_made g (goal.at.returns-clause-run g c).After-create-2 in
+        let quiet = c.sync_folder_of.ensures.quiet in
+        let path = folder_of c.args.names.now in
+        let d0 = g.D.Disk.state c.args.disk.now in
+        let d1 = g.D.Disk.state c.create.new.self in
+        let d2 = g.D.Disk.state c.create-2.new.self in
+        let d3 = g.D.Disk.state c.sync_folder_of.new.disk in
+        let rest = c.requires.settled (one.time.honest (two.time.honest (quiet.honest honest))) in
+        alone_run d0 path c.args.end rest d3 (then_nothing d0 d2 d3 (FilesAlone d0 path c.args.end rest) (keys_run d0 path c.args.end rest c.args.number c.requires.free.other d1 one d2 two) quiet);
+  outside = 
+        let one = messages_made g (goal.at.returns-clause-run g c).After-create in
+        let two = keys_made g (goal.at.returns-clause-run g c).After-create-2 in
+        let path = folder_of c.args.names.now in
+        let d0 = g.D.Disk.state c.args.disk.now in
+        let d2 = g.D.Disk.state c.create-2.new.self in
+        let d3 = g.D.Disk.state c.sync_folder_of.new.disk in
+        outside_twice path d0 d2 d3 (outside_both path c.args.number d0 (g.D.Disk.state c.create.new.self) d2 one two) (outside_quiet path d2 d3 c.sync_folder_of.ensures.quiet);
+}
 
 pub returns-clause-same : goal.returns-clause-same
 returns-clause-same g c honest =
@@ -155,21 +165,11 @@ returns-clause-same g c honest =
     let d0 = g.D.Disk.state c.args.disk.now in
     let d1 = g.D.Disk.state c.create.new.self in
     let d2 = g.D.Disk.state c.create-2.new.self in
-    same_base d0 (g.D.Disk.state c.sync_folder_of.new.disk) path c.args.end (seen (messages_of path n) ∙ messages_seen path n number c.requires.other d0 d1 d2 one two) (seen (keys_of path n) ∙ keys_seen path n number c.requires.other d0 d1 d2 one two)
+    same_base d0 (g.D.Disk.state c.sync_folder_of.new.disk) path c.args.end (seen (messages_of path n) ∙ messages_seen path n number c.requires.free.other d0 d1 d2 one two) (seen (keys_of path n) ∙ keys_seen path n number c.requires.free.other d0 d1 d2 one two)
 
 pub returns-clause-beside : goal.returns-clause-beside
 returns-clause-beside g c m ne nk =
     c.sync_folder_of.ensures.quiet.seen m ∙ (keys_made g (goal.at.returns-clause-beside g c).After-create-2).kept.seen m nk ∙ (messages_made g (goal.at.returns-clause-beside g c).After-create).kept.seen m ne
-
-pub returns-clause-outside : goal.returns-clause-outside
-returns-clause-outside g c =
-    let one = messages_made g (goal.at.returns-clause-outside g c).After-create in
-    let two = keys_made g (goal.at.returns-clause-outside g c).After-create-2 in
-    let path = folder_of c.args.names.now in
-    let d0 = g.D.Disk.state c.args.disk.now in
-    let d2 = g.D.Disk.state c.create-2.new.self in
-    let d3 = g.D.Disk.state c.sync_folder_of.new.disk in
-    outside_twice path d0 d2 d3 (outside_both path c.args.number d0 (g.D.Disk.state c.create.new.self) d2 one two) (outside_quiet path d2 d3 c.sync_folder_of.ensures.quiet)
 
 pub returns-clause-staged : goal.returns-clause-staged
 returns-clause-staged g c honest =
@@ -185,9 +185,9 @@ returns-clause-staged g c honest =
     let d2 = g.D.Disk.state c.create-2.new.self in
     let d3 = g.D.Disk.state c.sync_folder_of.new.disk in
     let rest = c.requires.settled (one.time.honest (two.time.honest (quiet.honest honest))) in
-    let run = then_nothing d0 d2 d3 (FilesAlone d0 path end rest) (keys_run d0 path end rest number c.requires.other d1 one d2 two) quiet in
-    let m_same : d3.seen (messages_of path n) ≡ d0.seen (messages_of path n) = quiet.seen (messages_of path n) ∙ messages_seen path n number c.requires.other d0 d1 d2 one two in
-    let k_same : d3.seen (keys_of path n) ≡ d0.seen (keys_of path n) = quiet.seen (keys_of path n) ∙ keys_seen path n number c.requires.other d0 d1 d2 one two in
+    let run = then_nothing d0 d2 d3 (FilesAlone d0 path end rest) (keys_run d0 path end rest number c.requires.free.other d1 one d2 two) quiet in
+    let m_same : d3.seen (messages_of path n) ≡ d0.seen (messages_of path n) = quiet.seen (messages_of path n) ∙ messages_seen path n number c.requires.free.other d0 d1 d2 one two in
+    let k_same : d3.seen (keys_of path n) ≡ d0.seen (keys_of path n) = quiet.seen (keys_of path n) ∙ keys_seen path n number c.requires.free.other d0 d1 d2 one two in
     let same : base_at d3 path end.told ≡ base_at d0 path end.told = same_base d0 d3 path end m_same k_same in
     let log_1 = log_not_messages path number in
     let log_2 = log_not_keys path number in
@@ -218,13 +218,13 @@ returns-clause-staged g c honest =
       };
       stands = λ f left. subst (λ (b : BaseBytes). StandsFor path b f) (sym same) (alone_stands d0 path end rest f (left_now d0 d3 (FilesAlone d0 path end rest) run f left)).stands;
       shown = subst (λ (b : BaseBytes). StandsFor path b d3.seen) (sym same) (rest_same d0 path end rest d3.seen log_seen m_same k_same);
-      digit = c.requires.digit;
+      digit = c.requires.free.digit;
       messages_there = subst (λ f. IsSome f) (sym m_made) refl;
       keys_there = subst (λ f. IsSome f) (sym k_made) refl;
       messages_alone = quiet.alone (messages_of path number) (λ h. h) (two.kept.alone (messages_of path number) (messages_not_keys path number number) (subst (λ (l : List ℕ). d1.is_alone l) messages c.in_ok-create.ensures.own));
       keys_alone = quiet.alone (keys_of path number) (λ h. h) (subst (λ (l : List ℕ). d2.is_alone l) keys c.in_ok-create-2.ensures.own);
       messages_long = omega arith;
       keys_long = omega arith;
-      messages_behind = λ is. absurd (c.requires.other is);
-      keys_behind = λ is. absurd (c.requires.other is);
+      messages_behind = λ is. absurd (c.requires.free.other is);
+      keys_behind = λ is. absurd (c.requires.free.other is);
     }

@@ -37,48 +37,48 @@ record_run : (g : given.Over) (c : After-write_synced g)
 record_run g c =
     let d2 = g.D.Disk.state c.sync-2.new.self in
     subst (λ (l : List ℕ). LeavesOnly d2 (g.D.Disk.state c.write_synced.new.disk) (OneStepOn (ChangesFile d2 l (TornWrite (c.args.end.gate + 1) (length c.record_of.result))) d2))
-    (c.deref-3.ensures.value ∙ c.requires.names.log) c.write_synced.ensures.any_moment
+    (c.deref-3.ensures.value ∙ c.requires.staged.names.log) c.write_synced.ensures.any_moment
 
 record_kept : (g : given.Over) (c : After-write_synced g) → KeepsOthers (g.D.Disk.state c.sync-2.new.self) (g.D.Disk.state c.write_synced.new.disk) (log_of (folder_of c.args.names.now))
 record_kept g c =
-    subst (λ (l : List ℕ). KeepsOthers (g.D.Disk.state c.sync-2.new.self) (g.D.Disk.state c.write_synced.new.disk) l) (c.deref-3.ensures.value ∙ c.requires.names.log) c.write_synced.ensures.others
+    subst (λ (l : List ℕ). KeepsOthers (g.D.Disk.state c.sync-2.new.self) (g.D.Disk.state c.write_synced.new.disk) l) (c.deref-3.ensures.value ∙ c.requires.staged.names.log) c.write_synced.ensures.others
 
 at_record : (g : given.Over) (c : After-write_synced g) (h0 : (g.D.Disk.state c.args.disk.now).is_honest)
-    → Ready (g.D.Disk.state c.args.disk.now) (folder_of c.args.names.now) c.args.end c.args.told (c.requires.staged h0) (g.D.Disk.state c.sync-2.new.self) (c.requires.staged h0).log.rest
+    → Ready (g.D.Disk.state c.args.disk.now) (folder_of c.args.names.now) c.args.end c.args.told (c.requires.staged.staged h0) (g.D.Disk.state c.sync-2.new.self) (c.requires.staged.staged h0).log.rest
 at_record g c h0 =
     let d1 = g.D.Disk.state c.sync.new.self in
     let d2 = g.D.Disk.state c.sync-2.new.self in
-    ready (g.D.Disk.state c.args.disk.now) (folder_of c.args.names.now) c.args.end c.args.told (c.requires.staged h0) d1 d2 c.sync.ensures.quiet c.sync-2.ensures.quiet
-    (subst (λ (l : List ℕ). d1.is_flushed l) (c.deref.ensures.value ∙ c.requires.names.messages) c.in_ok-sync.ensures.durable)
-    (subst (λ (l : List ℕ). d2.is_flushed l) (c.deref-2.ensures.value ∙ c.requires.names.keys) c.in_ok-sync-2.ensures.durable)
+    ready (g.D.Disk.state c.args.disk.now) (folder_of c.args.names.now) c.args.end c.args.told (c.requires.staged.staged h0) d1 d2 c.sync.ensures.quiet c.sync-2.ensures.quiet
+    (subst (λ (l : List ℕ). d1.is_flushed l) (c.deref.ensures.value ∙ c.requires.staged.names.messages) c.in_ok-sync.ensures.durable)
+    (subst (λ (l : List ℕ). d2.is_flushed l) (c.deref-2.ensures.value ∙ c.requires.staged.names.keys) c.in_ok-sync-2.ensures.durable)
 
 -- the gate is opened
 gate_run : (g : given.Over) (c : After-write_synced-2 g)
     → LeavesOnly (g.D.Disk.state c.write_synced.new.disk) (g.D.Disk.state c.write_synced-2.new.disk) (OneStepOn (ChangesFile (g.D.Disk.state c.write_synced.new.disk) (log_of (folder_of c.args.names.now)) (TornWrite c.args.end.gate 1)) (g.D.Disk.state c.write_synced.new.disk))
 gate_run g c =
     let d3 = g.D.Disk.state c.write_synced.new.disk in
-    subst (λ (l : List ℕ). LeavesOnly d3 (g.D.Disk.state c.write_synced-2.new.disk) (OneStepOn (ChangesFile d3 l (TornWrite c.args.end.gate 1)) d3)) (c.deref-4.ensures.value ∙ c.requires.names.log) c.write_synced-2.ensures.any_moment
+    subst (λ (l : List ℕ). LeavesOnly d3 (g.D.Disk.state c.write_synced-2.new.disk) (OneStepOn (ChangesFile d3 l (TornWrite c.args.end.gate 1)) d3)) (c.deref-4.ensures.value ∙ c.requires.staged.names.log) c.write_synced-2.ensures.any_moment
 
 gate_kept : (g : given.Over) (c : After-write_synced-2 g) → KeepsOthers (g.D.Disk.state c.write_synced.new.disk) (g.D.Disk.state c.write_synced-2.new.disk) (log_of (folder_of c.args.names.now))
 gate_kept g c =
-    subst (λ (l : List ℕ). KeepsOthers (g.D.Disk.state c.write_synced.new.disk) (g.D.Disk.state c.write_synced-2.new.disk) l) (c.deref-4.ensures.value ∙ c.requires.names.log) c.write_synced-2.ensures.others
+    subst (λ (l : List ℕ). KeepsOthers (g.D.Disk.state c.write_synced.new.disk) (g.D.Disk.state c.write_synced-2.new.disk) l) (c.deref-4.ensures.value ∙ c.requires.staged.names.log) c.write_synced-2.ensures.others
 
 at_gate : (g : given.Over) (c : After-write_synced-2 g) (h0 : (g.D.Disk.state c.args.disk.now).is_honest) (h3 : (g.D.Disk.state c.write_synced.new.disk).is_honest)
-    → Ready (g.D.Disk.state c.args.disk.now) (folder_of c.args.names.now) c.args.end c.args.told (c.requires.staged h0) (g.D.Disk.state c.write_synced.new.disk) ((body_of c.args.told ++ 0 ∷ []) ++ drop (length c.record_of.result) (c.requires.staged h0).log.rest)
+    → Ready (g.D.Disk.state c.args.disk.now) (folder_of c.args.names.now) c.args.end c.args.told (c.requires.staged.staged h0) (g.D.Disk.state c.write_synced.new.disk) ((body_of c.args.told ++ 0 ∷ []) ++ drop (length c.record_of.result) (c.requires.staged.staged h0).log.rest)
 at_gate g c h0 h3 =
     let path = folder_of c.args.names.now in
     let told = c.args.told in
     let end = c.args.end in
-    let staged = c.requires.staged h0 in
+    let staged = c.requires.staged.staged h0 in
     let d0 = g.D.Disk.state c.args.disk.now in
     let d1 = g.D.Disk.state c.sync.new.self in
     let d2 = g.D.Disk.state c.sync-2.new.self in
     let d3 = g.D.Disk.state c.write_synced.new.disk in
     let bytes = c.record_of.result in
-    let m_flushed = subst (λ (l : List ℕ). d1.is_flushed l) (c.deref.ensures.value ∙ c.requires.names.messages) c.in_ok-sync.ensures.durable in
-    let k_flushed = subst (λ (l : List ℕ). d2.is_flushed l) (c.deref-2.ensures.value ∙ c.requires.names.keys) c.in_ok-sync-2.ensures.durable in
+    let m_flushed = subst (λ (l : List ℕ). d1.is_flushed l) (c.deref.ensures.value ∙ c.requires.staged.names.messages) c.in_ok-sync.ensures.durable in
+    let k_flushed = subst (λ (l : List ℕ). d2.is_flushed l) (c.deref-2.ensures.value ∙ c.requires.staged.names.keys) c.in_ok-sync-2.ensures.durable in
     let at = ready d0 path end told staged d1 d2 c.sync.ensures.quiet c.sync-2.ensures.quiet m_flushed k_flushed in
-    let log : c.deref-3.result.now ≡ log_of path = c.deref-3.ensures.value ∙ c.requires.names.log in
+    let log : c.deref-3.result.now ≡ log_of path = c.deref-3.ensures.value ∙ c.requires.staged.names.log in
     let more = subst (λ (l : List ℕ). LeavesOnly d2 d3 (OneStepOn (ChangesFile d2 l (TornWrite (end.gate + 1) (length bytes))) d2)) log c.write_synced.ensures.any_moment in
     let kept = subst (λ (l : List ℕ). KeepsOthers d2 d3 l) log c.write_synced.ensures.others in
     let on = subst (λ (l : List ℕ). IsOnDisk d3 l) log (c.in_ok-write_synced.ensures.durable h3) in
@@ -94,7 +94,7 @@ returns-in_err-sync-clause-leaves g c = left_quiet (folder_of c.args.names.now) 
 pub returns-in_err-sync-2-clause-any_moment : goal.returns-in_err-sync-2-clause-any_moment
 returns-in_err-sync-2-clause-any_moment g c h2 =
     let h1 = c.sync-2.ensures.quiet.honest h2 in
-    let staged = c.requires.staged (c.sync.ensures.quiet.honest h1) in
+    let staged = c.requires.staged.staged (c.sync.ensures.quiet.honest h1) in
     let path = folder_of c.args.names.now in
     let d0 = g.D.Disk.state c.args.disk.now in
     let d1 = g.D.Disk.state c.sync.new.self in
@@ -112,7 +112,7 @@ pub returns-in_err-write_synced-clause-any_moment : goal.returns-in_err-write_sy
 returns-in_err-write_synced-clause-any_moment g c h3 =
     let h0 = c.sync.ensures.quiet.honest (c.sync-2.ensures.quiet.honest (c.write_synced.ensures.others.honest h3)) in
     let at = (goal.at.returns-in_err-write_synced-clause-any_moment g c).After-write_synced in
-    run_record (g.D.Disk.state c.args.disk.now) (folder_of c.args.names.now) c.args.end c.args.told (c.requires.staged h0) (g.D.Disk.state c.sync-2.new.self) (g.D.Disk.state c.write_synced.new.disk)
+    run_record (g.D.Disk.state c.args.disk.now) (folder_of c.args.names.now) c.args.end c.args.told (c.requires.staged.staged h0) (g.D.Disk.state c.sync-2.new.self) (g.D.Disk.state c.write_synced.new.disk)
     (length c.record_of.result) (at_record g at h0) (record_run g at)
 
 pub returns-in_err-write_synced-clause-outside : goal.returns-in_err-write_synced-clause-outside
@@ -137,8 +137,8 @@ returns-in_err-write_synced-2-clause-any_moment g c h4 =
     let h3 = c.write_synced-2.ensures.others.honest h4 in
     let h0 = c.sync.ensures.quiet.honest (c.sync-2.ensures.quiet.honest (c.write_synced.ensures.others.honest h3)) in
     let written = (goal.at.returns-in_err-write_synced-2-clause-any_moment g c).After-write_synced-2 in
-    let rest = drop (length c.record_of.result) (c.requires.staged h0).log.rest in
-    run_gate (g.D.Disk.state c.args.disk.now) (folder_of c.args.names.now) c.args.end c.args.told (c.requires.staged h0) (g.D.Disk.state c.write_synced.new.disk) (g.D.Disk.state c.write_synced-2.new.disk)
+    let rest = drop (length c.record_of.result) (c.requires.staged.staged h0).log.rest in
+    run_gate (g.D.Disk.state c.args.disk.now) (folder_of c.args.names.now) c.args.end c.args.told (c.requires.staged.staged h0) (g.D.Disk.state c.write_synced.new.disk) (g.D.Disk.state c.write_synced-2.new.disk)
     (body_of c.args.told) rest refl (told_by-body_of c.args.told c.record_of.ensures.fits) (at_gate g written h0 h3) (gate_run g written)
 
 pub returns-in_err-write_synced-2-clause-outside : goal.returns-in_err-write_synced-2-clause-outside
@@ -170,10 +170,10 @@ returns-clause-settled g c h4 =
     let at = (goal.at.returns-clause-settled g c).After-write_synced-2 in
     let d3 = g.D.Disk.state c.write_synced.new.disk in
     let d4 = g.D.Disk.state c.write_synced-2.new.disk in
-    let log : c.deref-4.result.now ≡ log_of (folder_of c.args.names.now) = c.deref-4.ensures.value ∙ c.requires.names.log in
+    let log : c.deref-4.result.now ≡ log_of (folder_of c.args.names.now) = c.deref-4.ensures.value ∙ c.requires.staged.names.log in
     let on = subst (λ (l : List ℕ). IsOnDisk d4 l) log (c.in_ok-write_synced-2.ensures.durable h4) in
     let written = subst (λ (l : List ℕ). IsWrittenAt (bytes_in (d3.seen l)) c.args.end.gate (1 ∷ []) (bytes_in (d4.seen l))) log c.in_ok-write_synced-2.ensures.written in
-    done_gate (g.D.Disk.state c.args.disk.now) (folder_of c.args.names.now) c.args.end c.args.told (c.requires.staged h0) d3 d4 (body_of c.args.told) (drop (length c.record_of.result) (c.requires.staged h0).log.rest) refl
+    done_gate (g.D.Disk.state c.args.disk.now) (folder_of c.args.names.now) c.args.end c.args.told (c.requires.staged.staged h0) d3 d4 (body_of c.args.told) (drop (length c.record_of.result) (c.requires.staged.staged h0).log.rest) refl
     (told_by-body_of c.args.told c.record_of.ensures.fits) (at_gate g at h0 h3) (gate_kept g at) on written
 
 pub returns-clause-acknowledged : goal.returns-clause-acknowledged
@@ -181,16 +181,16 @@ returns-clause-acknowledged g c h4 =
     let h3 = c.write_synced-2.ensures.others.honest h4 in
     let h0 = c.sync.ensures.quiet.honest (c.sync-2.ensures.quiet.honest (c.write_synced.ensures.others.honest h3)) in
     let at = (goal.at.returns-clause-acknowledged g c).After-write_synced-2 in
-    same_gate (g.D.Disk.state c.args.disk.now) (folder_of c.args.names.now) c.args.end c.args.told (c.requires.staged h0) (g.D.Disk.state c.write_synced.new.disk) (g.D.Disk.state c.write_synced-2.new.disk)
-    ((body_of c.args.told ++ 0 ∷ []) ++ drop (length c.record_of.result) (c.requires.staged h0).log.rest) (at_gate g at h0 h3) (gate_kept g at)
+    same_gate (g.D.Disk.state c.args.disk.now) (folder_of c.args.names.now) c.args.end c.args.told (c.requires.staged.staged h0) (g.D.Disk.state c.write_synced.new.disk) (g.D.Disk.state c.write_synced-2.new.disk)
+    ((body_of c.args.told ++ 0 ∷ []) ++ drop (length c.record_of.result) (c.requires.staged.staged h0).log.rest) (at_gate g at h0 h3) (gate_kept g at)
 
 pub returns-clause-any_moment : goal.returns-clause-any_moment
 returns-clause-any_moment g c h4 =
     let h3 = c.write_synced-2.ensures.others.honest h4 in
     let h0 = c.sync.ensures.quiet.honest (c.sync-2.ensures.quiet.honest (c.write_synced.ensures.others.honest h3)) in
     let written = (goal.at.returns-clause-any_moment g c).After-write_synced-2 in
-    let rest = drop (length c.record_of.result) (c.requires.staged h0).log.rest in
-    run_gate (g.D.Disk.state c.args.disk.now) (folder_of c.args.names.now) c.args.end c.args.told (c.requires.staged h0) (g.D.Disk.state c.write_synced.new.disk) (g.D.Disk.state c.write_synced-2.new.disk)
+    let rest = drop (length c.record_of.result) (c.requires.staged.staged h0).log.rest in
+    run_gate (g.D.Disk.state c.args.disk.now) (folder_of c.args.names.now) c.args.end c.args.told (c.requires.staged.staged h0) (g.D.Disk.state c.write_synced.new.disk) (g.D.Disk.state c.write_synced-2.new.disk)
     (body_of c.args.told) rest refl (told_by-body_of c.args.told c.record_of.ensures.fits) (at_gate g written h0 h3) (gate_run g written)
 
 pub returns-clause-outside : goal.returns-clause-outside

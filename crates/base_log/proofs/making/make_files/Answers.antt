@@ -1,10 +1,13 @@
-use Rattle.std.proofs.Common.{List, ℕ, ◌∙◌, subst}
+use Rattle.std.proofs.Common.{List, ℕ, ◌≡◌, [], Option, Some, refl, sym, ◌∙◌, subst}
+use Rattle.std.specs.Prelude.{IsSome}
+use Rattle.std.proofs.lemmas.Result.{on_ok_weaker}
+use Rattle.disk_io.specs.Disk.{IsIn}
 use Rattle.disk_io.proofs.Moments.{then_nothing}
 use Rattle.base_log.specs.Names.{folder_of, log_of, messages_of, keys_of}
 use Rattle.base_log.proofs.Empty.{LogAlone, log_alone_stands}
 use Rattle.base_log.proofs.Gates.{on_disk_quiet, outside_quiet, outside_twice}
 use Rattle.base_log.proofs.Made.{Made, log_both, log_first, outside_both}
-use Rattle.base_log.proofs.Paths.{log_not_messages, log_not_keys, messages_in}
+use Rattle.base_log.proofs.Paths.{log_not_messages, log_not_keys, messages_in, messages_not_keys}
 use Rattle.base_log.proofs.Removed.{on_disk_but_one, outside_but_one}
 use Rattle.base_log.proofs.making.make_files.Given as given
 use Rattle.base_log.proofs.making.make_files.Goals.{After-create, After-create-2}
@@ -35,14 +38,15 @@ returns-in_err-create-clause-any_moment g c honest base stands =
     let path = folder_of c.args.names.now in
     let d0 = g.D.Disk.state c.args.disk.now in
     let d1 = g.D.Disk.state c.create.new.self in
-    let on = c.requires.log h0 in
-    log_alone_stands d0 path on d1 base stands (c.requires.none h0) (c.requires.shut h0) (log_first d0 path on (c.requires.named h0) 0 d1 one)
+    let bare = c.requires.bare h0 in
+    let on = bare.log in
+    log_alone_stands d0 path on d1 base stands bare.none bare.shut (log_first d0 path on bare.named 0 d1 one)
 
 pub returns-in_err-create-clause-log : goal.returns-in_err-create-clause-log
 returns-in_err-create-clause-log g c honest =
     let one = messages_made g (goal.at.returns-in_err-create-clause-log g c).After-create in
     let path = folder_of c.args.names.now in
-    on_disk_but_one (g.D.Disk.state c.args.disk.now) (g.D.Disk.state c.create.new.self) (log_of path) (messages_of path 0) one.kept (log_not_messages path 0) (c.requires.log (one.time.honest honest))
+    on_disk_but_one (g.D.Disk.state c.args.disk.now) (g.D.Disk.state c.create.new.self) (log_of path) (messages_of path 0) one.kept (log_not_messages path 0) (c.requires.bare (one.time.honest honest)).log
 
 pub returns-in_err-create-clause-same : goal.returns-in_err-create-clause-same
 returns-in_err-create-clause-same g c =
@@ -64,8 +68,9 @@ returns-in_err-create-2-clause-any_moment g c honest base stands =
     let d0 = g.D.Disk.state c.args.disk.now in
     let d1 = g.D.Disk.state c.create.new.self in
     let d2 = g.D.Disk.state c.create-2.new.self in
-    let on = c.requires.log h0 in
-    log_alone_stands d0 path on d2 base stands (c.requires.none h0) (c.requires.shut h0) (log_both d0 path on (c.requires.named h0) 0 d1 one d2 two)
+    let bare = c.requires.bare h0 in
+    let on = bare.log in
+    log_alone_stands d0 path on d2 base stands bare.none bare.shut (log_both d0 path on bare.named 0 d1 one d2 two)
 
 pub returns-in_err-create-2-clause-log : goal.returns-in_err-create-2-clause-log
 returns-in_err-create-2-clause-log g c honest =
@@ -76,7 +81,7 @@ returns-in_err-create-2-clause-log g c honest =
     let d0 = g.D.Disk.state c.args.disk.now in
     let d1 = g.D.Disk.state c.create.new.self in
     let d2 = g.D.Disk.state c.create-2.new.self in
-    on_disk_but_one d1 d2 log (keys_of path 0) two.kept (log_not_keys path 0) (on_disk_but_one d0 d1 log (messages_of path 0) one.kept (log_not_messages path 0) (c.requires.log (one.time.honest (two.time.honest honest))))
+    on_disk_but_one d1 d2 log (keys_of path 0) two.kept (log_not_keys path 0) (on_disk_but_one d0 d1 log (messages_of path 0) one.kept (log_not_messages path 0) (c.requires.bare (one.time.honest (two.time.honest honest))).log)
 
 pub returns-in_err-create-2-clause-same : goal.returns-in_err-create-2-clause-same
 returns-in_err-create-2-clause-same g c =
@@ -101,9 +106,10 @@ returns-clause-any_moment g c honest base stands =
     let d1 = g.D.Disk.state c.create.new.self in
     let d2 = g.D.Disk.state c.create-2.new.self in
     let d3 = g.D.Disk.state c.sync_folder_of.new.disk in
-    let on = c.requires.log h0 in
-    let both = then_nothing d0 d2 d3 (LogAlone d0 path on) (log_both d0 path on (c.requires.named h0) 0 d1 one d2 two) quiet in
-    log_alone_stands d0 path on d3 base stands (c.requires.none h0) (c.requires.shut h0) both
+    let bare = c.requires.bare h0 in
+    let on = bare.log in
+    let both = then_nothing d0 d2 d3 (LogAlone d0 path on) (log_both d0 path on bare.named 0 d1 one d2 two) quiet in
+    log_alone_stands d0 path on d3 base stands bare.none bare.shut both
 
 pub returns-clause-log : goal.returns-clause-log
 returns-clause-log g c honest =
@@ -116,7 +122,7 @@ returns-clause-log g c honest =
     let d1 = g.D.Disk.state c.create.new.self in
     let d2 = g.D.Disk.state c.create-2.new.self in
     on_disk_quiet d2 (g.D.Disk.state c.sync_folder_of.new.disk) log quiet
-    (on_disk_but_one d1 d2 log (keys_of path 0) two.kept (log_not_keys path 0) (on_disk_but_one d0 d1 log (messages_of path 0) one.kept (log_not_messages path 0) (c.requires.log (one.time.honest (two.time.honest (quiet.honest honest))))))
+    (on_disk_but_one d1 d2 log (keys_of path 0) two.kept (log_not_keys path 0) (on_disk_but_one d0 d1 log (messages_of path 0) one.kept (log_not_messages path 0) (c.requires.bare (one.time.honest (two.time.honest (quiet.honest honest)))).log))
 
 pub returns-clause-same : goal.returns-clause-same
 returns-clause-same g c =
@@ -134,3 +140,26 @@ returns-clause-outside g c =
     let d2 = g.D.Disk.state c.create-2.new.self in
     let d3 = g.D.Disk.state c.sync_folder_of.new.disk in
     outside_twice path d0 d2 d3 (outside_both path 0 d0 (g.D.Disk.state c.create.new.self) d2 one two) (outside_quiet path d2 d3 c.sync_folder_of.ensures.quiet)
+
+pub returns-clause-made : goal.returns-clause-made
+returns-clause-made g c =
+    let two = keys_made g (goal.at.returns-clause-made g c).After-create-2 in
+    let quiet = c.sync_folder_of.ensures.quiet in
+    let path = folder_of c.args.names.now in
+    let d1 = g.D.Disk.state c.create.new.self in
+    let d2 = g.D.Disk.state c.create-2.new.self in
+    let d3 = g.D.Disk.state c.sync_folder_of.new.disk in
+    let m = messages_of path 0 in
+    let k = keys_of path 0 in
+    let messages : c.deref.result.now ≡ m = c.deref.ensures.value ∙ c.requires.names.messages in
+    let keys : c.deref-2.result.now ≡ k = c.deref-2.ensures.value ∙ c.requires.names.keys in
+    let m_made : d3.seen m ≡ Some [] = quiet.seen m ∙ two.kept.seen m (messages_not_keys path 0 0) ∙ subst (λ (l : List ℕ). d1.seen l ≡ Some []) messages c.in_ok-create.ensures.made in
+    let k_made : d3.seen k ≡ Some [] = quiet.seen k ∙ subst (λ (l : List ℕ). d2.seen l ≡ Some []) keys c.in_ok-create-2.ensures.made in
+    on_ok_weaker {P = (n : List ℕ) → IsIn c.deref-3.result.now n → d3.is_named n} c.sync_folder_of.result
+    (λ named. record {
+      messages = subst (λ (f : Option (List ℕ)). IsSome f) (sym m_made) refl;
+      keys = subst (λ (f : Option (List ℕ)). IsSome f) (sym k_made) refl;
+      messages_alone = quiet.alone m (λ h. h) (two.kept.alone m (messages_not_keys path 0 0) (subst (λ (l : List ℕ). d1.is_alone l) messages c.in_ok-create.ensures.own));
+      keys_alone = quiet.alone k (λ h. h) (subst (λ (l : List ℕ). d2.is_alone l) keys c.in_ok-create-2.ensures.own);
+      named = subst (λ (p : List ℕ). (n : List ℕ) → IsIn p n → d3.is_named n) c.deref-3.ensures.value named;
+    }) c.sync_folder_of.ensures.durable

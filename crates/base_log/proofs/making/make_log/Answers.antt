@@ -18,7 +18,7 @@ returns-in_err-create-clause-any_moment g c honest base stands =
     let h0 = c.settle_all.ensures.quiet.honest h1 in
     let d1 = g.D.Disk.state c.settle_all.new.disk in
     let d2 = g.D.Disk.state c.create.new.self in
-    made_run (g.D.Disk.state c.args.disk.now) d1 (folder_of c.args.names.now) base c.settle_all.ensures.quiet (c.requires.named h0) (c.requires.new h0) stands (c.in_ok-settle_all.ensures.flushed h1) d2
+    made_run (g.D.Disk.state c.args.disk.now) d1 (folder_of c.args.names.now) base c.settle_all.ensures.quiet (c.requires.new h0).named (c.requires.new h0).new stands (c.in_ok-settle_all.ensures.flushed h1) d2
     c.create.ensures.time (subst (λ (l : List ℕ). LeavesOneStepOn (ChangesFile d1 l TornMaking) d1 d2) (c.deref.ensures.value ∙ c.requires.log) c.create.ensures.crash)
 
 pub returns-in_err-sync_folder_of-clause-any_moment : goal.returns-in_err-sync_folder_of-clause-any_moment
@@ -27,7 +27,7 @@ returns-in_err-sync_folder_of-clause-any_moment g c honest base stands =
     let h0 = c.settle_all.ensures.quiet.honest h1 in
     let d1 = g.D.Disk.state c.settle_all.new.disk in
     let d2 = g.D.Disk.state c.create.new.self in
-    named_run (g.D.Disk.state c.args.disk.now) d1 (folder_of c.args.names.now) base c.settle_all.ensures.quiet (c.requires.named h0) (c.requires.new h0) stands (c.in_ok-settle_all.ensures.flushed h1) d2
+    named_run (g.D.Disk.state c.args.disk.now) d1 (folder_of c.args.names.now) base c.settle_all.ensures.quiet (c.requires.new h0).named (c.requires.new h0).new stands (c.in_ok-settle_all.ensures.flushed h1) d2
     c.create.ensures.time (subst (λ (l : List ℕ). LeavesOneStepOn (ChangesFile d1 l TornMaking) d1 d2) (c.deref.ensures.value ∙ c.requires.log) c.create.ensures.crash)
     (g.D.Disk.state c.sync_folder_of.new.disk) c.sync_folder_of.ensures.quiet
 
@@ -38,7 +38,7 @@ returns-in_err-sync-clause-any_moment g c honest base stands =
     let d1 = g.D.Disk.state c.settle_all.new.disk in
     let d2 = g.D.Disk.state c.create.new.self in
     let d4 = g.D.Disk.state c.sync.new.self in
-    named_run (g.D.Disk.state c.args.disk.now) d1 (folder_of c.args.names.now) base c.settle_all.ensures.quiet (c.requires.named h0) (c.requires.new h0) stands (c.in_ok-settle_all.ensures.flushed h1) d2
+    named_run (g.D.Disk.state c.args.disk.now) d1 (folder_of c.args.names.now) base c.settle_all.ensures.quiet (c.requires.new h0).named (c.requires.new h0).new stands (c.in_ok-settle_all.ensures.flushed h1) d2
     c.create.ensures.time (subst (λ (l : List ℕ). LeavesOneStepOn (ChangesFile d1 l TornMaking) d1 d2) (c.deref.ensures.value ∙ c.requires.log) c.create.ensures.crash) d4
     (nothing_twice d2 (g.D.Disk.state c.sync_folder_of.new.disk) d4 c.sync_folder_of.ensures.quiet c.sync.ensures.quiet)
 
@@ -55,7 +55,10 @@ returns-clause-any_moment g c honest base stands =
     let d5 = g.D.Disk.state c.write_synced.new.disk in
     let named = c.sync.ensures.quiet.named (log_of path) (λ h. h)
     (subst (λ (p : List ℕ). (m : List ℕ) → IsIn p m → d3.is_named m) c.deref-2.ensures.value c.in_ok-sync_folder_of.ensures.durable (log_of path) (log_in path)) in
-    gate_run (g.D.Disk.state c.args.disk.now) d1 path base c.settle_all.ensures.quiet (c.requires.named h0) (c.requires.new h0) stands (c.in_ok-settle_all.ensures.flushed h1) d2
+    gate_run (g.D.Disk.state c.args.disk.now) d1 path base c.settle_all.ensures.quiet (c.requires.new h0).named (c.requires.new h0).new stands (c.in_ok-settle_all.ensures.flushed h1) d2
     c.create.ensures.time (subst (λ (l : List ℕ). LeavesOneStepOn (ChangesFile d1 l TornMaking) d1 d2) (c.deref.ensures.value ∙ c.requires.log) c.create.ensures.crash) d4 d5
     (nothing_twice d2 d3 d4 c.sync_folder_of.ensures.quiet c.sync.ensures.quiet) named
     (subst (λ (l : List ℕ). LeavesOnly d4 d5 (OneStepOn (ChangesFile d4 l (TornWrite 0 1)) d4)) (c.deref-4.ensures.value ∙ c.requires.log) c.write_synced.ensures.any_moment)
+
+pub settle_all-requires-clause-gone : goal.settle_all-requires-clause-gone
+settle_all-requires-clause-gone g c honest = (c.requires.new honest).gone

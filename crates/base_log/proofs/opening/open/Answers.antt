@@ -24,7 +24,7 @@ settle_log-requires-clause-ended g c h0 =
     let path = folder_of c.args.names.now in
     let log = c.args.log.now in
     let d0 = g.D.Disk.state c.args.disk.now in
-    end_shut log.bytes.items log.end c.requires.read path d0.seen (c.requires.log h0) (base_at d0 path log.end.told) (c.requires.stands h0)
+    end_shut log.bytes.items log.end c.requires.log.read path d0.seen (c.requires.log.same h0) (base_at d0 path log.end.told) (c.requires.stands h0)
 
 pub settle_files-requires-clause-messages : goal.settle_files-requires-clause-messages
 settle_files-requires-clause-messages g c h1 =
@@ -35,7 +35,7 @@ settle_files-requires-clause-messages g c h1 =
     let others = c.settle_log.ensures.others in
     let h0 = others.honest h1 in
     let some : log.end.gate ≢ 0 = λ none. absurd (omega (arith, none, c.if-log-gt0.true)) in
-    let has = files_beside d0 d1 path log.end.told others (has_files log.bytes.items log.end c.requires.read path d0.seen (c.requires.log h0) (base_at d0 path log.end.told) (c.requires.stands h0) some) in
+    let has = files_beside d0 d1 path log.end.told others (has_files log.bytes.items log.end c.requires.log.read path d0.seen (c.requires.log.same h0) (base_at d0 path log.end.told) (c.requires.stands h0) some) in
     subst (λ (l : List ℕ). IsSome (d1.seen l)) (sym c.requires.names.messages) has.messages
 
 pub settle_files-requires-clause-keys : goal.settle_files-requires-clause-keys
@@ -47,40 +47,34 @@ settle_files-requires-clause-keys g c h1 =
     let others = c.settle_log.ensures.others in
     let h0 = others.honest h1 in
     let some : log.end.gate ≢ 0 = λ none. absurd (omega (arith, none, c.if-log-gt0.true)) in
-    let has = files_beside d0 d1 path log.end.told others (has_files log.bytes.items log.end c.requires.read path d0.seen (c.requires.log h0) (base_at d0 path log.end.told) (c.requires.stands h0) some) in
+    let has = files_beside d0 d1 path log.end.told others (has_files log.bytes.items log.end c.requires.log.read path d0.seen (c.requires.log.same h0) (base_at d0 path log.end.told) (c.requires.stands h0) some) in
     subst (λ (l : List ℕ). IsSome (d1.seen l)) (sym c.requires.names.keys) has.keys
 
 pub make_files-requires-clause-names : goal.make_files-requires-clause-names
 make_files-requires-clause-names g c =
     let log = c.args.log.now in
-    let none = nothing_read log.bytes.items log.end c.requires.read (omega (arith, c.if-log-gt0.false)) in
+    let none = nothing_read log.bytes.items log.end c.requires.log.read (omega (arith, c.if-log-gt0.false)) in
     subst (λ (n : ℕ). AreNames c.args.names.now n) (ap (λ (t : CommitRecord). t.number) none) c.requires.names
 
-pub make_files-requires-clause-named : goal.make_files-requires-clause-named
-make_files-requires-clause-named g c h1 = (c.in_ok-settle_log.ensures.log h1).named
-
-pub make_files-requires-clause-log : goal.make_files-requires-clause-log
-make_files-requires-clause-log g c h1 = (c.in_ok-settle_log.ensures.log h1).on_disk
-
-pub make_files-requires-clause-none : goal.make_files-requires-clause-none
-make_files-requires-clause-none g c h1 = (none_at (g.D.Disk.state c.settle_log.new.disk) (folder_of c.args.names.now) c.args.log.now.end (c.in_ok-settle_log.ensures.log h1) (omega (arith, c.if-log-gt0.false))).0
-
-pub make_files-requires-clause-shut : goal.make_files-requires-clause-shut
-make_files-requires-clause-shut g c h1 = (none_at (g.D.Disk.state c.settle_log.new.disk) (folder_of c.args.names.now) c.args.log.now.end (c.in_ok-settle_log.ensures.log h1) (omega (arith, c.if-log-gt0.false))).1
+pub make_files-requires-clause-bare : goal.make_files-requires-clause-bare
+make_files-requires-clause-bare g c h1 =
+    let log = c.in_ok-settle_log.ensures.log h1 in
+    let none = none_at (g.D.Disk.state c.settle_log.new.disk) (folder_of c.args.names.now) c.args.log.now.end log (omega (arith, c.if-log-gt0.false)) in
+    record { named = log.named; log = log.on_disk; none = none.0; shut = none.1 }
 
 pub settle_files-requires-2-clause-messages : goal.settle_files-requires-2-clause-messages
 settle_files-requires-2-clause-messages g c h2 =
     let log = c.args.log.now in
     let d2 = g.D.Disk.state c.make_files.new.disk in
-    let none = nothing_read log.bytes.items log.end c.requires.read (omega (arith, c.if-log-gt0.false)) in
-    subst (λ (l : List ℕ). IsSome (d2.seen l)) (ap (λ (t : CommitRecord). messages_of (folder_of c.args.names.now) t.number) (sym none) ∙ sym c.requires.names.messages) c.in_ok-make_files.ensures.messages
+    let none = nothing_read log.bytes.items log.end c.requires.log.read (omega (arith, c.if-log-gt0.false)) in
+    subst (λ (l : List ℕ). IsSome (d2.seen l)) (ap (λ (t : CommitRecord). messages_of (folder_of c.args.names.now) t.number) (sym none) ∙ sym c.requires.names.messages) c.in_ok-make_files.ensures.made.messages
 
 pub settle_files-requires-2-clause-keys : goal.settle_files-requires-2-clause-keys
 settle_files-requires-2-clause-keys g c h2 =
     let log = c.args.log.now in
     let d2 = g.D.Disk.state c.make_files.new.disk in
-    let none = nothing_read log.bytes.items log.end c.requires.read (omega (arith, c.if-log-gt0.false)) in
-    subst (λ (l : List ℕ). IsSome (d2.seen l)) (ap (λ (t : CommitRecord). keys_of (folder_of c.args.names.now) t.number) (sym none) ∙ sym c.requires.names.keys) c.in_ok-make_files.ensures.keys
+    let none = nothing_read log.bytes.items log.end c.requires.log.read (omega (arith, c.if-log-gt0.false)) in
+    subst (λ (l : List ℕ). IsSome (d2.seen l)) (ap (λ (t : CommitRecord). keys_of (folder_of c.args.names.now) t.number) (sym none) ∙ sym c.requires.names.keys) c.in_ok-make_files.ensures.made.keys
 
 pub returns-in_err-settle_log-clause-any_moment : goal.returns-in_err-settle_log-clause-any_moment
 returns-in_err-settle_log-clause-any_moment g c h1 =
@@ -122,8 +116,8 @@ returns-then-log-gt0-clause-settled g c h2 =
     let others = c.settle_log.ensures.others in
     let base = base_at d0 path told in
     let some : log.end.gate ≢ 0 = λ none. absurd (omega (arith, none, c.if-log-gt0.true)) in
-    let tells = end_tells log.bytes.items log.end c.requires.read path d0.seen (c.requires.log h0) base (c.requires.stands h0) in
-    let has = has_files log.bytes.items log.end c.requires.read path d0.seen (c.requires.log h0) base (c.requires.stands h0) some in
+    let tells = end_tells log.bytes.items log.end c.requires.log.read path d0.seen (c.requires.log.same h0) base (c.requires.stands h0) in
+    let has = has_files log.bytes.items log.end c.requires.log.read path d0.seen (c.requires.log.same h0) base (c.requires.stands h0) some in
     files_settled d1 d2 path log.end (c.in_ok-settle_log.ensures.log h1) c.settle_files.ensures.quiet tells.digit (files_beside d0 d1 path told others has)
     (others.alone (messages_of path told.number) (messages_not_log path told.number) (c.requires.alone h0 (messages_of path told.number) (messages_in path told.number)))
     (others.alone (keys_of path told.number) (keys_not_log path told.number) (c.requires.alone h0 (keys_of path told.number) (keys_in path told.number)))
@@ -174,7 +168,7 @@ returns-in_err-make_files-clause-any_moment g c h2 =
     let log = c.args.log.now in
     let d0 = g.D.Disk.state c.args.disk.now in
     let base = base_at d0 path log.end.told in
-    made d0 (g.D.Disk.state c.settle_log.new.disk) (g.D.Disk.state c.make_files.new.disk) path log base c.requires.read (c.requires.log h0) (omega (arith, c.if-log-gt0.false)) (c.requires.stands h0) c.settle_log.ensures.others (c.in_ok-settle_log.ensures.log h1)
+    made d0 (g.D.Disk.state c.settle_log.new.disk) (g.D.Disk.state c.make_files.new.disk) path log base c.requires.log.read (c.requires.log.same h0) (omega (arith, c.if-log-gt0.false)) (c.requires.stands h0) c.settle_log.ensures.others (c.in_ok-settle_log.ensures.log h1)
     (c.settle_log.ensures.any_moment h1 base (c.requires.stands h0)) (c.make_files.ensures.any_moment h2)
 
 pub returns-in_err-make_files-clause-outside : goal.returns-in_err-make_files-clause-outside
@@ -195,7 +189,7 @@ returns-in_err-settle_files-2-clause-any_moment g c h3 =
     let d2 = g.D.Disk.state c.make_files.new.disk in
     let base = base_at d0 path log.end.told in
     then_nothing d0 d2 (g.D.Disk.state c.settle_files-2.new.disk) (StandsOrWasLeft path d0 base)
-    (made d0 (g.D.Disk.state c.settle_log.new.disk) d2 path log base c.requires.read (c.requires.log h0) (omega (arith, c.if-log-gt0.false)) (c.requires.stands h0) c.settle_log.ensures.others (c.in_ok-settle_log.ensures.log h1)
+    (made d0 (g.D.Disk.state c.settle_log.new.disk) d2 path log base c.requires.log.read (c.requires.log.same h0) (omega (arith, c.if-log-gt0.false)) (c.requires.stands h0) c.settle_log.ensures.others (c.in_ok-settle_log.ensures.log h1)
     (c.settle_log.ensures.any_moment h1 base (c.requires.stands h0)) (c.make_files.ensures.any_moment h2)) c.settle_files-2.ensures.quiet
 
 pub returns-in_err-settle_files-2-clause-outside : goal.returns-in_err-settle_files-2-clause-outside
@@ -217,8 +211,8 @@ returns-clause-settled g c h3 =
     let d1 = g.D.Disk.state c.settle_log.new.disk in
     let d2 = g.D.Disk.state c.make_files.new.disk in
     let d3 = g.D.Disk.state c.settle_files-2.new.disk in
-    let none = nothing_read log.bytes.items log.end c.requires.read (omega (arith, c.if-log-gt0.false)) in
-    let files = c.in_ok-make_files.ensures in
+    let none = nothing_read log.bytes.items log.end c.requires.log.read (omega (arith, c.if-log-gt0.false)) in
+    let files = c.in_ok-make_files.ensures.made in
     files_settled d2 d3 path log.end (log_moved d1 d2 path log.end (c.in_ok-settle_log.ensures.log h1) c.make_files.ensures.same (c.make_files.ensures.log h2) files.named) c.settle_files-2.ensures.quiet
     (omega (arith, ap (λ (t : CommitRecord). t.number) none)) (first_files path d2.seen told none files.messages files.keys)
     (subst (λ (t : CommitRecord). d2.is_alone (messages_of path t.number)) (sym none) files.messages_alone)
@@ -232,7 +226,7 @@ returns-clause-same g c h3 =
     let log = c.args.log.now in
     let d0 = g.D.Disk.state c.args.disk.now in
     let d3 = g.D.Disk.state c.settle_files-2.new.disk in
-    let none = nothing_read log.bytes.items log.end c.requires.read (omega (arith, c.if-log-gt0.false)) in
+    let none = nothing_read log.bytes.items log.end c.requires.log.read (omega (arith, c.if-log-gt0.false)) in
     subst (λ (t : CommitRecord). base_at d3 path t ≡ base_at d0 path t) (sym none) refl
 
 pub returns-clause-any_moment : goal.returns-clause-any_moment
@@ -246,7 +240,7 @@ returns-clause-any_moment g c h3 =
     let d2 = g.D.Disk.state c.make_files.new.disk in
     let base = base_at d0 path log.end.told in
     then_nothing d0 d2 (g.D.Disk.state c.settle_files-2.new.disk) (StandsOrWasLeft path d0 base)
-    (made d0 (g.D.Disk.state c.settle_log.new.disk) d2 path log base c.requires.read (c.requires.log h0) (omega (arith, c.if-log-gt0.false)) (c.requires.stands h0) c.settle_log.ensures.others (c.in_ok-settle_log.ensures.log h1)
+    (made d0 (g.D.Disk.state c.settle_log.new.disk) d2 path log base c.requires.log.read (c.requires.log.same h0) (omega (arith, c.if-log-gt0.false)) (c.requires.stands h0) c.settle_log.ensures.others (c.in_ok-settle_log.ensures.log h1)
     (c.settle_log.ensures.any_moment h1 base (c.requires.stands h0)) (c.make_files.ensures.any_moment h2)) c.settle_files-2.ensures.quiet
 
 pub returns-clause-outside : goal.returns-clause-outside

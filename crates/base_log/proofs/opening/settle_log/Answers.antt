@@ -19,16 +19,10 @@ sync-requires g c honest =
     let d1 = g.D.Disk.state c.sync_folder_of.new.disk in
     let bytes = c.args.log.now.bytes.items in
     let shut : IsShutAt c.args.log.now.end.gate bytes = c.is_shut.ensures.0 c.if-is_shut.true in
-    let is : bytes ≡ bytes_in (d1.seen (log_of path)) = c.requires.log (c.sync_folder_of.ensures.quiet.honest honest) ∙ ap bytes_in (sym (c.sync_folder_of.ensures.quiet.seen (log_of path))) in
+    let is : bytes ≡ bytes_in (d1.seen (log_of path)) = c.requires.log.same (c.sync_folder_of.ensures.quiet.honest honest) ∙ ap bytes_in (sym (c.sync_folder_of.ensures.quiet.seen (log_of path))) in
     let log_is : c.deref-then-is_shut.result.now ≡ log_of path = c.deref-then-is_shut.ensures.value ∙ c.requires.name in
     let some : 0 < length (bytes_in (d1.seen c.deref-then-is_shut.result.now)) = omega (arith, shut.0, ap length is, ap (λ (l : List ℕ). length (bytes_in (d1.seen l))) log_is) in
     some_there (d1.seen c.deref-then-is_shut.result.now) some
-
-pub make_log-requires-clause-named : goal.make_log-requires-clause-named
-make_log-requires-clause-named g c honest = subst (λ (p : List ℕ). AreNamed p (g.D.Disk.state c.sync_folder_of.new.disk)) c.deref.ensures.value c.in_ok-sync_folder_of.ensures.durable
-
-pub make_log-requires-clause-gone : goal.make_log-requires-clause-gone
-make_log-requires-clause-gone g c honest = subst (λ (p : List ℕ). StayGone p (g.D.Disk.state c.sync_folder_of.new.disk)) c.deref.ensures.value c.in_ok-sync_folder_of.ensures.gone
 
 pub make_log-requires-clause-new : goal.make_log-requires-clause-new
 make_log-requires-clause-new g c honest =
@@ -36,8 +30,12 @@ make_log-requires-clause-new g c honest =
     let d0 = g.D.Disk.state c.args.disk.now in
     let d1 = g.D.Disk.state c.sync_folder_of.new.disk in
     let quiet = c.sync_folder_of.ensures.quiet in
-    new_quiet d0 d1 path quiet
-    (⊎_elim (λ (shut : IsShutAt c.args.log.now.end.gate c.args.log.now.bytes.items). absurd (cc (c.is_shut.ensures.1 shut, c.if-is_shut.false))) (λ (new : IsNew path d0.seen). new) (c.requires.ended (quiet.honest honest)))
+    record {
+      named = subst (λ (p : List ℕ). AreNamed p d1) c.deref.ensures.value c.in_ok-sync_folder_of.ensures.durable;
+      gone = subst (λ (p : List ℕ). StayGone p d1) c.deref.ensures.value c.in_ok-sync_folder_of.ensures.gone;
+      new = new_quiet d0 d1 path quiet
+          (⊎_elim (λ (shut : IsShutAt c.args.log.now.end.gate c.args.log.now.bytes.items). absurd (cc (c.is_shut.ensures.1 shut, c.if-is_shut.false))) (λ (new : IsNew path d0.seen). new) (c.requires.ended (quiet.honest honest)));
+    }
 
 pub returns-in_err-sync_folder_of-clause-others : goal.returns-in_err-sync_folder_of-clause-others
 returns-in_err-sync_folder_of-clause-others g c =
@@ -71,10 +69,10 @@ returns-then-is_shut-clause-log g c honest =
     let log = c.args.log.now in
     let at = log_of path in
     let shut : IsShutAt log.end.gate log.bytes.items = c.is_shut.ensures.0 c.if-is_shut.true in
-    let is : log.bytes.items ≡ bytes_in (d2.seen at) = c.requires.log h0 ∙ ap bytes_in (sym (quiet2.seen at ∙ quiet1.seen at)) in
+    let is : log.bytes.items ≡ bytes_in (d2.seen at) = c.requires.log.same h0 ∙ ap bytes_in (sym (quiet2.seen at ∙ quiet1.seen at)) in
     let named = subst (λ (p : List ℕ). AreNamed p d1) c.deref.ensures.value c.in_ok-sync_folder_of.ensures.durable in
     let some : 0 < length (bytes_in (d2.seen at)) = omega (arith, shut.0, ap length is) in
-    shut_read log.bytes.items log.end c.requires.read d2 path is shut
+    shut_read log.bytes.items log.end c.requires.log.read d2 path is shut
     (record {
       there = some_there (d2.seen at) some;
       named = quiet2.named at (λ h. h) (named at (log_in path));
@@ -119,7 +117,7 @@ returns-clause-log g c honest =
     let log = c.args.log.now in
     let new = ⊎_elim (λ (shut : IsShutAt log.end.gate log.bytes.items). absurd (cc (c.is_shut.ensures.1 shut, c.if-is_shut.false))) (λ (new : IsNew path d0.seen). new) (c.requires.ended h0) in
     let made = c.in_ok-make_log.ensures in
-    made_read log.bytes.items log.end c.requires.read (g.D.Disk.state c.make_log.new.disk) path (new_few log.bytes.items log.end c.requires.read path d0.seen (c.requires.log h0) new) (made.made honest) (made.on_disk honest) (made.named honest)
+    made_read log.bytes.items log.end c.requires.log.read (g.D.Disk.state c.make_log.new.disk) path (new_few log.bytes.items log.end c.requires.log.read path d0.seen (c.requires.log.same h0) new) (made.made honest) (made.on_disk honest) (made.named honest)
 
 pub returns-clause-others : goal.returns-clause-others
 returns-clause-others g c =

@@ -12,24 +12,25 @@ pieces-init g c =
     record {
       growing = c.requires.growing;
       low = omega arith;
-      high = c.requires.order;
+      high = c.requires.part.order;
       more = λ honest. part_none (bytes_in (d.seen path)) (bytes_in (d.seen c.args.source.now)) c.args.from;
       named = λ m none is. is;
       changes = only_start (λ (m : List ℕ). m ≡ path) d;
       cause = omega arith;
     }
 
-pub copy_piece-requires-clause-there : goal.copy_piece-requires-clause-there
-copy_piece-requires-clause-there g c honest =
+pub copy_piece-requires-clause-part : goal.copy_piece-requires-clause-part
+copy_piece-requires-clause-part g c =
     let inv = c.pieces.invariant in
-    subst (λ f. IsSome f) (sym (inv.changes.seen c.args.source.now (λ e. c.requires.other (sym e)))) (c.requires.there (inv.changes.honest honest))
-
-pub copy_piece-requires-clause-within : goal.copy_piece-requires-clause-within
-copy_piece-requires-clause-within g c honest =
-    let inv = c.pieces.invariant in
-    let same = ap (λ f. length (bytes_in f)) (inv.changes.seen c.args.source.now (λ e. c.requires.other (sym e))) in
-    let room = c.requires.within (inv.changes.honest honest) in
-    omega (arith, same, room)
+    let seen = inv.changes.seen c.args.source.now (λ e. c.requires.other (sym e)) in
+    record {
+      there = λ honest. subst (λ f. IsSome f) (sym seen) (c.requires.part.there (inv.changes.honest honest));
+      order = omega arith;
+      within = λ honest.
+          let same = ap (λ f. length (bytes_in f)) seen in
+          let room = c.requires.part.within (inv.changes.honest honest) in
+          omega (arith, same, room);
+    }
 
 pub pieces-preserved : goal.pieces-preserved
 pieces-preserved g c =
@@ -48,7 +49,7 @@ pieces-preserved g c =
       more = λ honest.
           let before = now.changes.honest honest in
           let first = inv.changes.honest before in
-          let room = c.requires.within first in
+          let room = c.requires.part.within first in
           part_more (bytes_in (d0.seen path)) (bytes_in (d.seen path)) (bytes_in (e.seen path)) (bytes_in (d0.seen source)) c.args.from c.pieces.done next inv.low (omega arith) (omega (arith, room))
           (inv.more before)
           (c.in_ok-end.ensures.more honest ∙ ap (λ f. bytes_in (d.seen path) ++ drop c.pieces.done (take next (bytes_in f))) (inv.changes.seen source (λ x. c.requires.other (sym x))));

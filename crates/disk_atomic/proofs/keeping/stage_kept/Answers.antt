@@ -1,5 +1,4 @@
-use Rattle.std.proofs.Common.{◌≡◌, ◌∙◌, ℕ, List, ap, arith, length, refl, subst, sym}
-use Rattle.std.specs.Prelude.{IsSome}
+use Rattle.std.proofs.Common.{◌≡◌, ◌∙◌, ℕ, List, ap, refl, sym}
 use Rattle.std.proofs.lemmas.Result.{on_ok_weaker}
 use Rattle.disk_io.specs.Disk.{bytes_in}
 use Rattle.disk_io.specs.Steps.{TornMaking}
@@ -7,6 +6,7 @@ use Rattle.disk_atomic.specs.Changes.{ChangesOnly}
 use Rattle.disk_atomic.specs.Keeping.{kept_bytes}
 use Rattle.disk_atomic.proofs.Growing.{grows_from_none}
 use Rattle.disk_atomic.proofs.Changes.{only_call, only_nothing, then_only}
+use Rattle.disk_atomic.proofs.Parts.{part_still}
 use Rattle.disk_atomic.proofs.keeping.stage_kept.Given as given
 use Rattle.disk_atomic.proofs.keeping.stage_kept.Goals.{After-create, After-sync_folder_of-2}
 use Rattle.disk_atomic.proofs.keeping.stage_kept.Goals as goal
@@ -26,17 +26,10 @@ seen_still g c =
 first_honest : (g : given.Over) (c : After-sync_folder_of-2 g) → (g.D.Disk.state c.sync_folder_of-2.new.disk).is_honest → (g.D.Disk.state c.args.disk.now).is_honest
 first_honest g c honest = c.sync_folder_of.ensures.quiet.honest (c.create.ensures.time.honest (c.sync_folder_of-2.ensures.quiet.honest honest))
 
-pub fill_kept-requires-clause-there : goal.fill_kept-requires-clause-there
-fill_kept-requires-clause-there g c honest =
-    let a = (goal.at.fill_kept-requires-clause-there g c).After-sync_folder_of-2 in
-    subst (λ f. IsSome f) (sym (seen_still g a)) (c.requires.there (first_honest g a honest))
-
-pub fill_kept-requires-clause-within : goal.fill_kept-requires-clause-within
-fill_kept-requires-clause-within g c honest =
-    let a = (goal.at.fill_kept-requires-clause-within g c).After-sync_folder_of-2 in
-    let same = ap (λ f. length (bytes_in f)) (seen_still g a) in
-    let room = c.requires.within (first_honest g a honest) in
-    omega (arith, same, room)
+pub fill_kept-requires-clause-part : goal.fill_kept-requires-clause-part
+fill_kept-requires-clause-part g c =
+    let a = (goal.at.fill_kept-requires-clause-part g c).After-sync_folder_of-2 in
+    part_still (g.D.Disk.state c.args.disk.now) (g.D.Disk.state c.sync_folder_of-2.new.disk) c.args.path.now c.args.kept.from c.args.kept.to (seen_still g a) (first_honest g a) c.requires.part
 
 pub returns-in_err-sync_folder_of-clause-changes : goal.returns-in_err-sync_folder_of-clause-changes
 returns-in_err-sync_folder_of-clause-changes g c =

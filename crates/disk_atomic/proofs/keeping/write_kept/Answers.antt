@@ -1,21 +1,14 @@
-use Rattle.std.proofs.Common.{◌≡◌, ◌∙◌, ◌++◌, List, ℕ, ap, arith, drop, length, subst, sym, take}
-use Rattle.std.specs.Prelude.{IsSome}
+use Rattle.std.proofs.Common.{◌≡◌, ◌∙◌, ◌++◌, List, ℕ, ap, drop, sym, take}
 use Rattle.disk_io.specs.Disk.{bytes_in}
 use Rattle.disk_atomic.proofs.Changes.{then_only}
-use Rattle.disk_atomic.proofs.Parts.{all_kept}
+use Rattle.disk_atomic.proofs.Parts.{all_kept, part_still}
 use Rattle.disk_atomic.proofs.keeping.write_kept.Goals as goal
 
-pub copy_part-requires-clause-there : goal.copy_part-requires-clause-there
-copy_part-requires-clause-there g c honest =
+pub copy_part-requires-clause-part : goal.copy_part-requires-clause-part
+copy_part-requires-clause-part g c =
     let changes = c.append.ensures.changes in
-    subst (λ f. IsSome f) (sym (changes.seen c.args.source.now (λ e. c.requires.other (sym e)))) (c.requires.there (changes.honest honest))
-
-pub copy_part-requires-clause-within : goal.copy_part-requires-clause-within
-copy_part-requires-clause-within g c honest =
-    let changes = c.append.ensures.changes in
-    let same = ap (λ f. length (bytes_in f)) (changes.seen c.args.source.now (λ e. c.requires.other (sym e))) in
-    let room = c.requires.within (changes.honest honest) in
-    omega (arith, same, room)
+    part_still (g.D.Disk.state c.args.disk.now) (g.D.Disk.state c.append.new.disk) c.args.source.now c.args.kept.from c.args.kept.to (changes.seen c.args.source.now (λ e. c.requires.other (sym e))) changes.honest
+    c.requires.part
 
 pub returns-in_err-front-clause-changes : goal.returns-in_err-front-clause-changes
 returns-in_err-front-clause-changes g c = c.append.ensures.changes

@@ -15,7 +15,7 @@ pub remove-requires : goal.remove-requires
 remove-requires g c honest =
     let gives = c.give_path.ensures.gives in
     let quiet = c.sync_folder_of.ensures.quiet in
-    subst (λ f. IsSome f) (sym (quiet.seen c.args.staging.now ∙ gives.stays.seen)) (c.requires.there (gives.changes.honest (quiet.honest honest)))
+    subst (λ f. IsSome f) (sym (quiet.seen c.args.staging.now ∙ gives.stays.seen)) (c.requires.can.there (gives.changes.honest (quiet.honest honest)))
 
 -- up to the flush of the folder
 flushed : (g : given.Over) (c : After-sync_folder_of g) → Gives (g.D.Disk.state c.args.disk.now) (g.D.Disk.state c.sync_folder_of.new.disk) c.args.path.now c.args.staging.now
@@ -38,7 +38,7 @@ removed g c =
     let d3 = g.D.Disk.state c.remove.new.self in
     let now = c.remove.ensures in
     then_only both d0 d2 d3 (gives_quiet (g.D.Disk.state c.args.disk.now) (g.D.Disk.state c.give_path.new.disk) (g.D.Disk.state c.sync_folder_of.new.disk) c.args.path.now c.args.staging.now c.give_path.ensures.gives c.sync_folder_of.ensures.quiet).changes
-    (only_call both d2 d3 staging TornRemoval (inl refl) (c.in_ok-sync_folder_of.ensures.durable staging c.requires.staging_in) now.beside now.crash
+    (only_call both d2 d3 staging TornRemoval (inl refl) (c.in_ok-sync_folder_of.ensures.durable staging c.requires.inside.staging_in) now.beside now.crash
     (λ m out. now.named m (λ e. out (inl e))) (λ m out. now.flushed m (λ e. out (inl e))) (λ m out. now.alone m (λ e. out (inl e))) now.time)
 
 moments : (g : given.Over) (c : After-remove g) → Honestly (g.D.Disk.state c.remove.new.self)
@@ -50,9 +50,9 @@ moments g c honest =
     let quiet = c.sync_folder_of.ensures.quiet in
     let names = c.in_ok-sync_folder_of.ensures.durable in
     let given = c.in_ok-given.ensures in
-    moved_run path staging c.requires.other (g.D.Disk.state c.args.disk.now) (g.D.Disk.state c.sync_folder_of.new.disk) (g.D.Disk.state c.remove.new.self)
+    moved_run path staging c.requires.can.other (g.D.Disk.state c.args.disk.now) (g.D.Disk.state c.sync_folder_of.new.disk) (g.D.Disk.state c.remove.new.self)
     (gives_quiet (g.D.Disk.state c.args.disk.now) (g.D.Disk.state c.give_path.new.disk) (g.D.Disk.state c.sync_folder_of.new.disk) c.args.path.now c.args.staging.now c.give_path.ensures.gives c.sync_folder_of.ensures.quiet).any_moment
-    c.requires.staging_named c.requires.durable (names staging c.requires.staging_in) (names path c.requires.path_in) (quiet.flushed path (λ h. h) (given.durable c.if-not-given.false))
+    c.requires.can.staging_named c.requires.can.durable (names staging c.requires.inside.staging_in) (names path c.requires.inside.path_in) (quiet.flushed path (λ h. h) (given.durable c.if-not-given.false))
     (quiet.seen path ∙ given.given (quiet.honest (now.time.honest honest)) c.if-not-given.false) now.time now.crash
 
 pub returns-in_err-remove-clause-changes : goal.returns-in_err-remove-clause-changes
@@ -73,11 +73,11 @@ returns-clause-named g c honest is =
     let quiet = c.sync_folder_of.ensures.quiet in
     let now = c.remove.ensures in
     let given = c.in_ok-given.ensures in
-    let apart = λ (e : path ≡ c.args.staging.now). c.requires.other (sym e) in
+    let apart = λ (e : path ≡ c.args.staging.now). c.requires.can.other (sym e) in
     record {
       seen = now.beside path apart ∙ quiet.seen path ∙ given.given (quiet.honest (now.time.honest honest)) c.if-not-given.false;
       gone = c.in_ok-remove.ensures.gone;
-      named = now.named path apart (c.in_ok-sync_folder_of.ensures.durable path c.requires.path_in);
+      named = now.named path apart (c.in_ok-sync_folder_of.ensures.durable path c.requires.inside.path_in);
       flushed = now.flushed path apart (quiet.flushed path (λ h. h) (given.durable c.if-not-given.false));
     }
 
@@ -86,4 +86,4 @@ returns-clause-over_none g c honest some =
     let path = c.args.path.now in
     let quiet = c.sync_folder_of.ensures.quiet in
     let now = c.remove.ensures in
-    now.beside path (λ e. c.requires.other (sym e)) ∙ quiet.seen path ∙ c.in_ok-given.ensures.over_none (quiet.honest (now.time.honest honest)) some
+    now.beside path (λ e. c.requires.can.other (sym e)) ∙ quiet.seen path ∙ c.in_ok-given.ensures.over_none (quiet.honest (now.time.honest honest)) some

@@ -8,16 +8,24 @@ use Rattle.disk_atomic.proofs.trying.try_link.Given as given
 use Rattle.disk_atomic.proofs.trying.try_link.Goals.{After-remove}
 use Rattle.disk_atomic.proofs.trying.try_link.Goals as goal
 
-pub link_path-requires-clause-there : goal.link_path-requires-clause-there
-link_path-requires-clause-there g c honest =
+pub link_path-requires : goal.link_path-requires
+link_path-requires g c =
+    let from = c.args.from.now in
+    let can = c.requires.can in
     let run = c.clear_path.ensures.changes in
-    subst (λ f. IsSome f) (sym (run.seen c.args.from.now c.requires.other)) (c.requires.there (run.honest honest))
+    record {
+      other = can.other;
+      there = λ honest. subst (λ f. IsSome f) (sym (run.seen from can.other)) (can.there (run.honest honest));
+      durable = run.flushed from can.other can.durable;
+      staging_named = run.named from can.other can.staging_named;
+      path_named = c.in_ok-clear_path.ensures.named;
+    }
 
 removed : (g : given.Over) (c : After-remove g) → Tries (g.D.Disk.state c.args.disk.now) (g.D.Disk.state c.remove.new.self) c.args.trial.now c.args.from.now
 removed g c =
     let trial = c.args.trial.now in
     let from = c.args.from.now in
-    let other = c.requires.other in
+    let other = c.requires.can.other in
     let d0 = g.D.Disk.state c.args.disk.now in
     let d3 = g.D.Disk.state c.sync_folder_of.new.disk in
     let d4 = g.D.Disk.state c.remove.new.self in
@@ -29,15 +37,15 @@ removed g c =
 
 pub returns-in_err-clear_path-clause-tries : goal.returns-in_err-clear_path-clause-tries
 returns-in_err-clear_path-clause-tries g c =
-    tries_only c.args.trial.now c.args.from.now c.requires.other (g.D.Disk.state c.args.disk.now) (g.D.Disk.state c.clear_path.new.disk) c.clear_path.ensures.changes
+    tries_only c.args.trial.now c.args.from.now c.requires.can.other (g.D.Disk.state c.args.disk.now) (g.D.Disk.state c.clear_path.new.disk) c.clear_path.ensures.changes
 
 pub returns-in_err-link_path-clause-tries : goal.returns-in_err-link_path-clause-tries
 returns-in_err-link_path-clause-tries g c =
-    tries_linked c.args.trial.now c.args.from.now c.requires.other (g.D.Disk.state c.args.disk.now) (g.D.Disk.state c.clear_path.new.disk) (g.D.Disk.state c.link_path.new.disk) c.clear_path.ensures.changes c.link_path.ensures.gives
+    tries_linked c.args.trial.now c.args.from.now c.requires.can.other (g.D.Disk.state c.args.disk.now) (g.D.Disk.state c.clear_path.new.disk) (g.D.Disk.state c.link_path.new.disk) c.clear_path.ensures.changes c.link_path.ensures.gives
 
 pub returns-then-not-branch-clause-tries : goal.returns-then-not-branch-clause-tries
 returns-then-not-branch-clause-tries g c =
-    tries_linked c.args.trial.now c.args.from.now c.requires.other (g.D.Disk.state c.args.disk.now) (g.D.Disk.state c.clear_path.new.disk) (g.D.Disk.state c.link_path.new.disk) c.clear_path.ensures.changes c.link_path.ensures.gives
+    tries_linked c.args.trial.now c.args.from.now c.requires.can.other (g.D.Disk.state c.args.disk.now) (g.D.Disk.state c.clear_path.new.disk) (g.D.Disk.state c.link_path.new.disk) c.clear_path.ensures.changes c.link_path.ensures.gives
 
 pub returns-then-not-branch-clause-taken : goal.returns-then-not-branch-clause-taken
 returns-then-not-branch-clause-taken g c honest is =
@@ -46,7 +54,7 @@ returns-then-not-branch-clause-taken g c honest is =
 
 pub returns-in_err-sync_folder_of-clause-tries : goal.returns-in_err-sync_folder_of-clause-tries
 returns-in_err-sync_folder_of-clause-tries g c =
-    tries_flushed c.args.trial.now c.args.from.now c.requires.other (g.D.Disk.state c.args.disk.now) (g.D.Disk.state c.clear_path.new.disk) (g.D.Disk.state c.link_path.new.disk) c.clear_path.ensures.changes c.link_path.ensures.gives (g.D.Disk.state c.sync_folder_of.new.disk) c.sync_folder_of.ensures.quiet
+    tries_flushed c.args.trial.now c.args.from.now c.requires.can.other (g.D.Disk.state c.args.disk.now) (g.D.Disk.state c.clear_path.new.disk) (g.D.Disk.state c.link_path.new.disk) c.clear_path.ensures.changes c.link_path.ensures.gives (g.D.Disk.state c.sync_folder_of.new.disk) c.sync_folder_of.ensures.quiet
 
 pub returns-in_err-remove-clause-tries : goal.returns-in_err-remove-clause-tries
 returns-in_err-remove-clause-tries g c = removed g (goal.at.returns-in_err-remove-clause-tries g c).After-remove

@@ -10,11 +10,11 @@ returns-in_ok-push c = λ run is p at.
     let found = sym c.in-Some.is ∙ c.in_ok-found.ensures run is p at in
     c.in_ok-push.ensures.items
     ∙ ap (λ (t : List Crossing). c.args.all.now.items ++ t)
-    (crossing-there c.args.counts.now c.args.to c.in-Some.from (ById c.args.tag.now c.args.id.now) c.args.k c.step_of-step.result p for c.step_of-step.ensures found)
+    (crossing-there c.args.counts.now c.args.harmed.to c.in-Some.from (ById c.args.harmed.tag.now c.args.harmed.id.now) c.args.k c.step_of-step.result p for c.step_of-step.ensures found)
 
 pub returns-in_default : goal.returns-in_default
 returns-in_default c = λ run is p at.
     let none = c.in_default.is in
     let found = sym none ∙ c.in_ok-found.ensures run is p at in
     sym (append-nil c.args.all.now.items)
-    ∙ ap (λ (t : List Crossing). c.args.all.now.items ++ t) (sym (crossing-none c.args.counts.now c.args.to (ById c.args.tag.now c.args.id.now) c.args.k p found))
+    ∙ ap (λ (t : List Crossing). c.args.all.now.items ++ t) (sym (crossing-none c.args.counts.now c.args.harmed.to (ById c.args.harmed.tag.now c.args.harmed.id.now) c.args.k p found))

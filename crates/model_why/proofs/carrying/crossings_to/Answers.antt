@@ -7,5 +7,5 @@ pub packets-preserved : goal.packets-preserved
 packets-preserved c = λ run is.
     let size = c.packets-k-end.ensures run is in
     let below = c.packets-test.true in
-    crossings-more c.args.counts.now c.args.to (ById c.args.tag.now c.args.id.now) c.packets.k (c.packets.k + 1) run.packets c.packets.all.items c.add_crossing.new.all.items _
+    crossings-more c.args.counts.now c.args.harmed.to (ById c.args.harmed.tag.now c.args.harmed.id.now) c.packets.k (c.packets.k + 1) run.packets c.packets.all.items c.add_crossing.new.all.items _
     (omega (arith, size, below)) refl (c.in_ok-add_crossing.ensures run is) (c.packets.invariant run is)

@@ -2,24 +2,30 @@ use Rattle.std.proofs.Common.{◌≡◌, ◌≤◌, ℕ, List, true, length, dro
 use Rattle.std.specs.Prelude.{IsSome}
 use Rattle.base_file.specs.Pieces.{BeginsWith}
 use Rattle.disk_io.specs.Disk.{bytes_in}
-use Rattle.station_bases.specs.EntryOpening.{AreJudged}
+use Rattle.station_bases.specs.EntryOpening.{AreJudged, IsPartOf}
 use Rattle.station_bases.proofs.EntryJudged.{judged_holds, judged_none, piece_front}
 use Rattle.station_bases.proofs.Reach.{same_file}
 use Rattle.station_bases.proofs.entry_opening.open_entries.Goals as goal
 
-pub take_all-requires-clause-judged : goal.take_all-requires-clause-judged
-take_all-requires-clause-judged g c honest =
+pub take_all-requires-clause-so_far : goal.take_all-requires-clause-so_far
+take_all-requires-clause-so_far g c =
     let d1 = g.D.Disk.state c.len.new.self in
     let d2 = g.D.Disk.state c.read_piece.new.disk in
     let path = c.args.path.now in
     let file = bytes_in (d1.seen path) in
     let piece = c.in_ok-piece.piece in
     let head = c.in-Some.head in
+    let same = sym (same_file d1 d2 path c.read_piece.ensures.quiet) in
     let first : piece.begins ≡ 0 = omega (arith, c.in_ok-piece.ensures.begins) in
     let begins = subst (λ (l : List ℕ). BeginsWith head l) c.deref.ensures.value c.in-Some.ensures.begins in
-    subst (λ (l : List ℕ). AreJudged l head c.new-entries.result) (sym (same_file d1 d2 path c.read_piece.ensures.quiet))
-    (judged_none file piece.bytes.items (drop (length piece.bytes.items) file) head c.new-entries.result begins c.in-Some.ensures.second (piece_front file piece (c.in_ok-piece.ensures.part honest) first)
-    c.new-entries.ensures.end c.new-entries.ensures.keys c.new-entries.ensures.waiting)
+    record {
+      second = c.in-Some.ensures.second;
+      part = λ honest. subst (λ (l : List ℕ). IsPartOf l piece) same (c.in_ok-piece.ensures.part honest);
+      judged = λ honest.
+          subst (λ (l : List ℕ). AreJudged l head c.new-entries.result) same
+          (judged_none file piece.bytes.items (drop (length piece.bytes.items) file) head c.new-entries.result begins c.in-Some.ensures.second (piece_front file piece (c.in_ok-piece.ensures.part honest) first)
+          c.new-entries.ensures.end c.new-entries.ensures.keys c.new-entries.ensures.waiting);
+    }
 
 pub take_all-requires-clause-can : goal.take_all-requires-clause-can
 take_all-requires-clause-can g c = record {
@@ -55,4 +61,4 @@ returns-clause-held g c honest = λ base size loads.
     let all : c.in_ok-take_all.field-0 ≡ true = c.if-not-branch.false in
     let same : bytes_in (d2.seen path) ≡ file = same_file d1 d2 path c.read_piece.ensures.quiet ∙ same_file d0 d1 path c.len.ensures.quiet in
     let j = subst (λ (l : List ℕ). AreJudged l head f) same (c.in_ok-take_all.ensures.judged honest all) in
-    judged_holds file head f j c.take_all.ensures.indexed.fits (c.in_ok-take_all.ensures.enough all) (c.take_all.ensures.cursor ∙ c.new-entries.ensures.cursor) base size loads
+    judged_holds file head f j c.take_all.ensures.keeps.indexed.fits (c.in_ok-take_all.ensures.enough all) (c.take_all.ensures.keeps.cursor ∙ c.new-entries.ensures.cursor) base size loads

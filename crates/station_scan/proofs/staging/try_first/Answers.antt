@@ -10,41 +10,21 @@ use Rattle.station_scan.specs.Publishing.{IsTriedWith}
 use Rattle.station_scan.proofs.Staged.{at_staging, first_other, first_staged, still_staged, tried_after, tried_changes}
 use Rattle.station_scan.proofs.staging.try_first.Goals as goal
 
-pub try_link-requires-clause-other : goal.try_link-requires-clause-other
-try_link-requires-clause-other g c =
+pub try_link-requires-clause-can : goal.try_link-requires-clause-can
+try_link-requires-clause-can g c =
     let packets = c.args.packets.now in
     let x = get_or packets 0 nobody in
     let has = staged_in (g.D.Disk.state c.args.disk.now).seen in
     let some : 0 < length packets = let not : length packets ≢ 0 = eqb-false _ _ (sym c.is_empty.ensures ∙ c.if-is_empty.false) in omega arith in
     let is : x ≡ get_or packets 0 x = get_or_default packets 0 nobody x some in
-    first_other c.args.outbound.now c.args.trial.now packets c.requires.placed c.requires.trial has x is some
-
-pub try_link-requires-clause-there : goal.try_link-requires-clause-there
-try_link-requires-clause-there g c honest =
-    let packets = c.args.packets.now in
-    let x = get_or packets 0 nobody in
-    let has = staged_in (g.D.Disk.state c.args.disk.now).seen in
-    let some : 0 < length packets = let not : length packets ≢ 0 = eqb-false _ _ (sym c.is_empty.ensures ∙ c.if-is_empty.false) in omega arith in
-    let is : x ≡ get_or packets 0 x = get_or_default packets 0 nobody x some in
-    some_is_there _ _ (first_staged c.args.outbound.now c.args.trial.now packets c.requires.placed c.requires.trial has x is some (g.D.Disk.state c.args.disk.now) c.requires.staged).file.seen
-
-pub try_link-requires-clause-durable : goal.try_link-requires-clause-durable
-try_link-requires-clause-durable g c =
-    let packets = c.args.packets.now in
-    let x = get_or packets 0 nobody in
-    let has = staged_in (g.D.Disk.state c.args.disk.now).seen in
-    let some : 0 < length packets = let not : length packets ≢ 0 = eqb-false _ _ (sym c.is_empty.ensures ∙ c.if-is_empty.false) in omega arith in
-    let is : x ≡ get_or packets 0 x = get_or_default packets 0 nobody x some in
-    (first_staged c.args.outbound.now c.args.trial.now packets c.requires.placed c.requires.trial has x is some (g.D.Disk.state c.args.disk.now) c.requires.staged).file.flushed
-
-pub try_link-requires-clause-from_named : goal.try_link-requires-clause-from_named
-try_link-requires-clause-from_named g c =
-    let packets = c.args.packets.now in
-    let x = get_or packets 0 nobody in
-    let has = staged_in (g.D.Disk.state c.args.disk.now).seen in
-    let some : 0 < length packets = let not : length packets ≢ 0 = eqb-false _ _ (sym c.is_empty.ensures ∙ c.if-is_empty.false) in omega arith in
-    let is : x ≡ get_or packets 0 x = get_or_default packets 0 nobody x some in
-    (first_staged c.args.outbound.now c.args.trial.now packets c.requires.placed c.requires.trial has x is some (g.D.Disk.state c.args.disk.now) c.requires.staged).file.named
+    let first = first_staged c.args.outbound.now c.args.trial.now packets c.requires.placed c.requires.trial has x is some (g.D.Disk.state c.args.disk.now) c.requires.staged in
+    record {
+      other = first_other c.args.outbound.now c.args.trial.now packets c.requires.placed c.requires.trial has x is some;
+      there = λ honest. some_is_there _ _ first.file.seen;
+      durable = first.file.flushed;
+      staging_named = first.file.named;
+      path_named = c.requires.named;
+    }
 
 pub returns-then-is_empty-clause-tried : goal.returns-then-is_empty-clause-tried
 returns-then-is_empty-clause-tried g c is = inl (eqb-true _ _ (sym c.is_empty.ensures ∙ c.if-is_empty.true))

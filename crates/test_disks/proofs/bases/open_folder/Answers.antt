@@ -19,10 +19,13 @@ open-requires-clause-alone g c h2 =
     subst (λ (p : List ℕ). AreAlone p (g.D.Disk.state c.judge.new.disk)) (sym c.in_ok-names.ensures.folder) (λ m inside. quiet.alone m (λ h. h) (c.requires (quiet.honest h2) m inside))
 
 pub open-requires-clause-log : goal.open-requires-clause-log
-open-requires-clause-log g c h2 =
+open-requires-clause-log g c =
     let at = log_of c.args.folder.now in
-    subst (λ (p : List ℕ). IsLogIn p (g.D.Disk.state c.judge.new.disk).seen c.in_ok-log.log) (sym c.in_ok-names.ensures.folder)
-    (c.in_ok-log.ensures.log (c.judge.ensures.quiet.honest h2) ∙ ap bytes_in (sym (c.judge.ensures.quiet.seen at ∙ c.read_log.ensures.quiet.seen at)))
+    record {
+      same = λ h2. subst (λ (p : List ℕ). IsLogIn p (g.D.Disk.state c.judge.new.disk).seen c.in_ok-log.log) (sym c.in_ok-names.ensures.folder)
+          (c.in_ok-log.ensures.log (c.judge.ensures.quiet.honest h2) ∙ ap bytes_in (sym (c.judge.ensures.quiet.seen at ∙ c.read_log.ensures.quiet.seen at)));
+      read = c.in_ok-log.ensures.read;
+    }
 
 pub open-requires-clause-stands : goal.open-requires-clause-stands
 open-requires-clause-stands g c h2 =

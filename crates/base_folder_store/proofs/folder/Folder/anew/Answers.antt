@@ -42,7 +42,7 @@ made g c =
     let folder : folder_of c.in_ok-names.names ≡ path_of c.args.self.now = c.in_ok-names.ensures.folder ∙ c.deref.ensures.value in
     record {
       folder = folder;
-      run = subst (λ (p : List ℕ). StagesOnly p (base_at d p c.args.self.now.end.told) d e) folder (record { any_moment = c.stage_anew.ensures.any_moment; outside = c.stage_anew.ensures.outside });
+      run = subst (λ (p : List ℕ). StagesOnly p (base_at d p c.args.self.now.end.told) d e) folder c.stage_anew.ensures.run;
     }
 
 pub returns-in_err-told-clause-run : goal.returns-in_err-told-clause-run
@@ -93,7 +93,7 @@ returns-clause-paired g c =
       readable = λ honest.
           readable_beside (g.D.Disk.state c.args.disk.now) (g.D.Disk.state c.stage_anew.new.disk) f next beside
           (λ m messages keys. c.stage_anew.ensures.beside m (λ is. messages (is ∙ ap (λ (t : CommitRecord). messages_of path t.number) (sym told))) (λ is. keys (is ∙ ap (λ (t : CommitRecord). keys_of path t.number) (sym told))))
-          (c.requires.readable (c.stage_anew.ensures.outside.honest honest));
+          (c.requires.readable (c.stage_anew.ensures.run.outside.honest honest));
       beside = beside;
       named = subst (λ (t : CommitRecord). AreNames c.in_ok-names.names t.number) (sym told) c.in_ok-names.ensures.names;
     }

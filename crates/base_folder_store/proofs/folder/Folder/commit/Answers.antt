@@ -2,8 +2,8 @@ use Rattle.std.proofs.Common.{◌≢◌, ◌<◌, List, ℕ, subst, ◌∙◌}
 use Rattle.std.proofs.lemmas.Result.{on_ok_weaker}
 use Rattle.base_log.specs.AtRest.{IsAtRest}
 use Rattle.base_log.specs.Moments.{LeavesOutside}
+use Rattle.base_log.specs.Opening.{AreGone}
 use Rattle.base_log.proofs.LeftOutside.{left_twice}
-use Rattle.base_folder_store.specs.Left.{AreGone}
 use Rattle.base_folder_store.specs.Opened.{committed_by, held_by, path_of}
 use Rattle.base_folder_store.proofs.Beside.{rest_held, rest_open}
 use Rattle.base_folder_store.proofs.Causes.{handed_on, on_ok_from}

@@ -95,7 +95,7 @@ here g c h1 keyed base m =
     let stands = m.told.each c.args.place m.within in
     let left = c.in_ok-left.ensures.left of.s of.size of.alone of.same in
     let bytes = c.deref.ensures.value in
-    let long = c.in_ok-stored.ensures.long h1 stands.s stands.bytes in
+    let long = ap (λ (l : List ℕ). length l) (c.in_ok-stored.ensures.there h1 stands.s stands.bytes) in
     let shorter = left.shorter in
     record {
       s = of.s;

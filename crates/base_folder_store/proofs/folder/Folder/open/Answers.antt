@@ -14,7 +14,10 @@ pub open-requires-clause-alone : goal.open-requires-clause-alone
 open-requires-clause-alone g c honest = subst (λ (p : List ℕ). AreAlone p (g.D.Disk.state c.args.disk.now)) (sym c.in_ok-names.ensures.folder) (c.requires.alone honest)
 
 pub open-requires-clause-log : goal.open-requires-clause-log
-open-requires-clause-log g c honest = subst (λ (p : List ℕ). IsLogIn p (g.D.Disk.state c.args.disk.now).seen c.args.log.now) (sym c.in_ok-names.ensures.folder) (c.requires.log.same honest)
+open-requires-clause-log g c = record {
+  same = λ honest. subst (λ (p : List ℕ). IsLogIn p (g.D.Disk.state c.args.disk.now).seen c.args.log.now) (sym c.in_ok-names.ensures.folder) (c.requires.log.same honest);
+  read = c.requires.log.read;
+}
 
 pub open-requires-clause-stands : goal.open-requires-clause-stands
 open-requires-clause-stands g c honest =

@@ -1,8 +1,9 @@
-use Rattle.std.proofs.Common.{◌≡◌, ℕ, List, None, sym, subst, ◌∙◌, arith}
+use Rattle.std.proofs.Common.{◌≡◌, ℕ, List, sym, subst, ◌∙◌, arith}
 use Rattle.disk_io.specs.Disk.{DiskState, Honestly}
 use Rattle.base_log.specs.AtRest.{IsAtRest}
 use Rattle.base_log.specs.Moments.{LeavesOutside}
-use Rattle.base_log.specs.Names.{folder_of, keys_of, messages_of}
+use Rattle.base_log.specs.Names.{folder_of}
+use Rattle.base_log.specs.Opening.{AreGone}
 use Rattle.base_log.specs.Standing.{base_at}
 use Rattle.base_log.proofs.LeftOutside.{left_start}
 use Rattle.base_log.proofs.Renewed.{alone_first, alone_run}
@@ -37,7 +38,7 @@ removed g c =
     record {
       folder = folder;
       same = subst (λ (p : List ℕ). base_at e p end.told ≡ base_at d p end.told) folder c.remove_files.ensures.same;
-      run = subst (λ (p : List ℕ). StagesOnly p (base_at d p end.told) d e) folder (record { any_moment = c.remove_files.ensures.any_moment; outside = c.remove_files.ensures.outside });
+      run = subst (λ (p : List ℕ). StagesOnly p (base_at d p end.told) d e) folder c.remove_files.ensures.run;
       leaves = subst (λ (p : List ℕ). LeavesOutside p d e) folder c.remove_files.ensures.leaves;
     }
 
@@ -87,9 +88,4 @@ returns-then-former-self-clause-gone g c honest = λ digit other.
 
 pub returns-clause-gone : goal.returns-clause-gone
 returns-clause-gone g c honest = λ digit other.
-    let e = g.D.Disk.state c.remove_files.new.disk in
-    let folder = (removed g (goal.at.returns-clause-gone g c).After-remove_files).folder in
-    record {
-      messages = subst (λ (p : List ℕ). e.seen (messages_of p c.args.former) ≡ None) folder (c.in_ok-remove_files.ensures.messages honest);
-      keys = subst (λ (p : List ℕ). e.seen (keys_of p c.args.former) ≡ None) folder (c.in_ok-remove_files.ensures.keys honest);
-    }
+    subst (λ (p : List ℕ). AreGone (g.D.Disk.state c.remove_files.new.disk) p c.args.former) (removed g (goal.at.returns-clause-gone g c).After-remove_files).folder (c.in_ok-remove_files.ensures.gone honest)

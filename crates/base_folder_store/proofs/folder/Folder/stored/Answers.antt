@@ -95,13 +95,3 @@ returns-clause-digest g c honest =
     c.digest_of-digest.ensures
     ∙ ap (λ (l : List ℕ). digest_at l 0) (c.deref-2.ensures.value ∙ sym c.deref.ensures.value)
     ∙ first_digest (held_by d f).messages (held_by d f).keys c.deref.result.now c.args.place one.piece one.inside one.two
-
-pub returns-clause-long : goal.returns-clause-long
-returns-clause-long g c honest = λ s has.
-    let h1 = c.stored_by.ensures.quiet.honest honest in
-    let d = g.D.Disk.state c.args.disk.now in
-    let e = g.D.Disk.state c.entry_at.new.disk in
-    let f = c.args.self.now in
-    let one = entry g (goal.at.returns-clause-long g c).After-stored_by h1 in
-    let here = piece_has (held_by d f).messages (held_by d f).keys c.deref.result.now c.args.place one.piece one.inside one.two s has in
-    ap (λ (l : List ℕ). length l) (c.in_ok-bytes.ensures.stored honest s (subst (λ (b : BaseBytes). HasBytesOf b.messages c.deref.result.now 0 s) (sym (held_quiet d e f c.entry_at.ensures.quiet)) here))

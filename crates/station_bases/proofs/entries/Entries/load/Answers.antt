@@ -11,7 +11,7 @@ use Rattle.station_bases.proofs.entries.Entries.load.Goals as goal
 pub returns-in_err-whole-clause-same : goal.returns-in_err-whole-clause-same
 returns-in_err-whole-clause-same g c honest = λ base held.
     answers_whole {T = Vec _ Global} (λ (loaded : Base). base ≡ loaded) _ c.from_residual.result c.from_residual.ensures.1
-    (λ is. few_held (bytes_in ((g.D.Disk.state c.args.disk.now).seen c.args.path.now)) c.args.self.now base held (c.in_err-whole.ensures.damaged is))
+    (λ is. few_held (bytes_in ((g.D.Disk.state c.args.disk.now).seen c.args.path.now)) c.args.self.now base held (c.in_err-whole.ensures.refused.damaged is))
 
 pub returns-clause-same : goal.returns-clause-same
 returns-clause-same g c honest = λ base held.

@@ -35,7 +35,7 @@ returns-in-Apart-clause-cause g c =
     let d0 = g.D.Disk.state c.args.disk.now in
     let d1 = g.D.Disk.state c.commit.new.disk in
     subst (λ h. HasStoreCause (file_state d0 path s.own h s.place) (file_state {S = g.row.S.Denot} {T = g.row.S-Hasher.Denot} d1 path s.own (Apart c.commit.new.self) s.place) (g.D.Disk.failures c.args.disk.now) (g.D.Disk.failures c.commit.new.disk) c.commit.result) (sym c.in-Apart.is)
-    (apart_cause g.row.S.Denot g.row.S-Hasher.Denot path s.own c.in-Apart.entries c.commit.new.self d0 d1 s.place s.place c.commit.result (g.D.Disk.failures c.args.disk.now) (g.D.Disk.failures c.commit.new.disk) c.commit.ensures.cause c.commit.ensures.damaged)
+    (apart_cause g.row.S.Denot g.row.S-Hasher.Denot path s.own c.in-Apart.entries c.commit.new.self d0 d1 s.place s.place c.commit.result (g.D.Disk.failures c.args.disk.now) (g.D.Disk.failures c.commit.new.disk) c.commit.ensures.cause c.commit.ensures.refused.damaged)
 
 pub returns-in-Whole-clause-refused : goal.returns-in-Whole-clause-refused
 returns-in-Whole-clause-refused g c is =

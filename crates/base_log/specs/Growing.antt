@@ -1,0 +1,33 @@
+-- The two files of a number, which only grow.
+use Rattle.std.specs.Prelude.{◌+◌, ℕ, List}
+use Rattle.base_log.specs.Names.{keys_of, messages_of}
+use Rattle.base_log.specs.Standing.{BaseBytes, and_keys, and_messages}
+use Rattle.base_log.specs.declared.log.CommitRecord.{CommitRecord}
+use Rattle.base_log.specs.declared.names.Names.{Names}
+use Rattle.base_log.specs.declared.staging.GrowingFile.{GrowingFile}
+use Rattle.base_log.specs.declared.staging.GrowingFile.TheVariants as file
+
+-- its path among the names
+abbrev pub path_in : Names → GrowingFile → List ℕ
+path_in names file.Messages = names.messages.items
+path_in names file.Keys = names.keys.items
+
+-- its path in a folder
+abbrev pub file_of : List ℕ → ℕ → GrowingFile → List ℕ
+file_of path number file.Messages = messages_of path number
+file_of path number file.Keys = keys_of path number
+
+-- how many of its bytes a record counts
+abbrev pub counted : CommitRecord → GrowingFile → ℕ
+counted told file.Messages = told.messages
+counted told file.Keys = told.keys
+
+-- a record that counts more of its bytes
+abbrev pub with_more : CommitRecord → GrowingFile → ℕ → CommitRecord
+with_more told file.Messages more = record told { messages = told.messages + more }
+with_more told file.Keys more = record told { keys = told.keys + more }
+
+-- a base with more of its bytes behind them
+abbrev pub and_bytes : BaseBytes → GrowingFile → List ℕ → BaseBytes
+and_bytes base file.Messages bytes = and_messages base bytes
+and_bytes base file.Keys bytes = and_keys base bytes
