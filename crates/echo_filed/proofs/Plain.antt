@@ -1,12 +1,14 @@
 -- Lines without 00 and 0D.
-use Rattle.std.proofs.Common.{◌≡◌, ◌≢◌, ℕ, zero, suc, ◌^◌, ◌<◌, ◌==◌, ◌||◌, true, false, List, [], ◌∷◌, ◌++◌, take, drop, decimal, codes, refl, arith}
-use Rattle.std.specs.List.{AllByRecursion, list_all, list_any}
-use Rattle.std.proofs.lemmas.Bool.{and_parts, eqb-false, not-true, or_parts}
+use Rattle.std.proofs.Common.{◌≡◌, ◌≢◌, ℕ, zero, suc, ◌^◌, ◌<◌, ◌==◌, ◌||◌, true, false, List, [], ◌∷◌, ◌++◌, length, take, drop, decimal, codes, refl, sym, subst, arith, inl, inr}
+use Rattle.std.specs.List.{AllByRecursion, list_all, list_any, onto_first, slice_split}
+use Rattle.std.proofs.lemmas.Bool.{and_parts, cases_Bool, cond-false, cond-true, eqb-false, not-true, or_parts}
 use Rattle.std.proofs.lemmas.List.Elements.{All-from_recursion}
+use Rattle.std.proofs.lemmas.List.Splits.{slice_split-cons_no, slice_split-cons_yes}
 use Rattle.echo_packet.specs.Message.{HasNoZero}
 use Rattle.echo_addr.specs.declared.address.Address.{Address}
 use Rattle.echo_addr.specs.Address.{IsAddress, address_text}
 use Rattle.echo_addr.proofs.Decimals.{IsDigit, digits_of_decimal}
+use Rattle.echo_text.specs.Lines.{is_return, lines, without_empty_last}
 use Rattle.echo_text.specs.Echo.{IsLine}
 use Rattle.echo_text.specs.Ids.{is_line_byte, is_zero}
 use Rattle.echo_filed.proofs.Choices.{all_weaker}
@@ -42,6 +44,37 @@ plain_address a h =
     (all_append IsLineByte (codes ":") (decimal a.net ++ (codes "/" ++ decimal a.node)) (plain_if (codes ":") refl)
     (all_append IsLineByte (decimal a.net) (codes "/" ++ decimal a.node) (plain_digits a.net (omega (arith, h.net.1)))
     (all_append IsLineByte (codes "/") (decimal a.node) (plain_if (codes "/") refl) (plain_digits a.node (omega (arith, h.node.1))))))
+
+-- a byte before the first of some pieces
+onto_plain : (b : ℕ) → IsLineByte b → (pieces : List (List ℕ)) → AllByRecursion Plain pieces → AllByRecursion Plain (onto_first b pieces)
+onto_plain b h [] all = ((h, tt), tt)
+onto_plain b h (piece ∷ more) all = ((h, all.0), all.1)
+
+split_plain : (text : List ℕ) → AllByRecursion (λ b. b ≢ 0) text → AllByRecursion Plain (slice_split is_return text)
+split_plain [] h = (tt, tt)
+split_plain (b ∷ text) h =
+    let P : List (List ℕ) → Type 0 = AllByRecursion Plain in
+    elim (cases_Bool (is_return b)) [
+      | inl ends ↦ subst P (sym (slice_split-cons_yes is_return b text ends)) (tt, split_plain text h.1)
+      | inr inside ↦
+          subst P (sym (slice_split-cons_no is_return b text inside))
+          (onto_plain b (h.0, eqb-false b 13 inside) (slice_split is_return text) (split_plain text h.1))
+    ]
+
+last_plain : (pieces : List (List ℕ)) → AllByRecursion Plain pieces → AllByRecursion Plain (without_empty_last pieces)
+last_plain [] all = tt
+last_plain (piece ∷ []) all =
+    let P : List (List ℕ) → Type 0 = AllByRecursion Plain in
+    elim (cases_Bool (length piece == 0)) [
+      | inl empty ↦ subst P (sym (cond-true (length piece == 0) [] (piece ∷ []) empty)) tt
+      | inr some ↦ subst P (sym (cond-false (length piece == 0) [] (piece ∷ []) some)) all
+    ]
+last_plain (piece ∷ (next ∷ more)) all = (all.0, last_plain (next ∷ more) all.1)
+
+-- the lines of a text without 00
+pub lines_plain : (text : List ℕ) → AllByRecursion (λ b. b ≢ 0) text → AllByRecursion Plain (lines text)
+unfolding lines
+lines_plain text h = last_plain (slice_split is_return text) (split_plain text h)
 
 pub no_zero : (bytes : List ℕ) → list_any is_zero bytes ≡ false → AllByRecursion (λ b. b ≢ 0) bytes
 no_zero [] h = tt

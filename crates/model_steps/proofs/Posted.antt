@@ -1,29 +1,33 @@
 -- What a posting files.
-use Rattle.std.proofs.Common.{◌≡◌, ℕ, ◌==◌, ◌||◌, true, false, cond, not, List, [], ◌∷◌, ◌++◌, length, codes, refl, sym, ap, subst, ◌∙◌, Option, Some, None, is_none, arith, inl, inr}
+use Rattle.std.proofs.Common.{◌≡◌, ℕ, ◌==◌, ◌||◌, Bool, true, false, cond, not, List, [], ◌∷◌, ◌++◌, length, codes, refl, sym, ap, subst, ◌∙◌, Option, Some, None, is_none, arith, inl, inr}
 use Rattle.std.specs.Prelude.{bytes_eq, find, is_some}
-use Rattle.std.specs.List.{AllByRecursion, AllPass, list_any}
+use Rattle.std.specs.List.{AllByRecursion, AllPass, list_all, list_any}
 use Rattle.std.specs.Cmp.Lexicographic.{bytes_decides}
-use Rattle.std.proofs.lemmas.Bool.{and_right, cases_Bool, cond-false, not-false}
-use Rattle.std.proofs.lemmas.List.Elements.{All-from_recursion}
-use Rattle.echo_text.specs.Lines.{is_tag, lines, msgid_word}
+use Rattle.std.proofs.lemmas.Bool.{and_left, and_parts, and_right, cases_Bool, cond-false, cond-true, not-false, or_parts}
+use Rattle.std.proofs.lemmas.List.Elements.{All-from_recursion, recursion_from_All}
+use Rattle.echo_addr.specs.Address.{address_text}
+use Rattle.echo_text.specs.Lines.{begins, is_tag, lines, msgid_word, origin_word, reply_word, trimmed}
 use Rattle.echo_text.specs.Tail.{is_tail_line, tail}
 use Rattle.echo_text.specs.Echo.{IsEcho, IsLine, is_shed, msgid_of}
 use Rattle.echo_text.proofs.Tails.{all_tail, tail_later}
 use Rattle.model_steps.specs.declared.draft.Draft.{Draft}
 use Rattle.model_steps.specs.declared.stamp.Stamp.{Stamp}
 use Rattle.model_steps.specs.declared.fault.PostFault.TheVariants as fault
-use Rattle.echo_text.specs.Ids.{id_of, is_id}
+use Rattle.echo_text.specs.Ids.{id_of, is_id, is_zero, is_line_byte}
 use Rattle.echo_links.specs.Links.{Area, IsArea, IsFile, LinkFile, has_area}
 use Rattle.echo_filed.specs.Filed.{Filed}
 use Rattle.model_steps.specs.Stamps.{is_stamp}
 use Rattle.echo_links.specs.Links.{upper}
 use Rattle.echo_filed.specs.Filed.{id_line}
-use Rattle.model_steps.specs.Posting.{IsAllowed, has_id, holds_zero, is_too_long, post_refusal, posted, posted_lines, posting, reply_lines}
+use Rattle.model_steps.specs.Posting.{IsAllowed, has_id, holds_zero, is_too_long, origin_line, post_refusal, posted, posted_lines, posting, reply_lines}
 use Rattle.echo_filed.proofs.Choices.{all_weaker}
 use Rattle.echo_filed.proofs.Keys.{msgid_first}
 use Rattle.model_steps.proofs.OwnIds.{own_id_is_id, plain_id}
-use Rattle.echo_filed.proofs.Plain.{IsLineByte, Plain, all_append, plain_if, plain_line}
-use Rattle.echo_links.proofs.LinkFiles.{passed}
+use Rattle.echo_filed.proofs.Plain.{IsLineByte, Plain, all_append, lines_plain, no_zero, plain_address, plain_if, plain_line}
+
+passed : {F : Type 0} (b : Bool) (f : F) (rest : Option F) → cond b (Some f) rest ≡ None → (b ≡ false) × (rest ≡ None)
+passed true f rest h = absurd (cc)
+passed false f rest h = (refl, h)
 
 pub allowed : (file : LinkFile) (base : List Filed) (tag : List ℕ) (draft : Draft) (serial : ℕ) (stamp : Stamp)
     → post_refusal file base tag draft serial stamp ≡ None → IsAllowed file base tag draft serial stamp
@@ -79,6 +83,36 @@ area_tag_is_tag file h tag there = found_tag tag file.areas h.each_area there
 plain_id_line : (word id : List ℕ) → Plain word → Plain id → Plain (id_line word id)
 plain_id_line word id h g = all_append IsLineByte word (codes " " ++ id) h ((λ e. omega arith, λ e. omega arith), g)
 
+id_plain : (id : List ℕ) → is_id id ≡ true → Plain (trimmed id)
+unfolding is_id
+id_plain id h = plain_if (trimmed id) (and_parts (list_all is_line_byte (trimmed id)) _ h).0
+
+plain_reply : (reply : List ℕ) → ((length reply == 0) || is_id reply) ≡ true → AllByRecursion Plain (reply_lines reply)
+plain_reply reply h =
+    let P : List (List ℕ) → Type 0 = AllByRecursion Plain in
+    let line : List (List ℕ) = id_line reply_word (trimmed reply) ∷ [] in
+    elim (cases_Bool (length reply == 0)) [
+      | inl empty ↦ subst P (sym (cond-true (length reply == 0) [] line empty)) tt
+      | inr some ↦
+          let is : is_id reply ≡ true = sym (ap (λ b. b || is_id reply) some) ∙ h in
+          subst P (sym (cond-false (length reply == 0) [] line some)) (plain_id_line reply_word (trimmed reply) (plain_if reply_word refl) (id_plain reply is), tt)
+    ]
+
+plain_origin : (file : LinkFile) → IsFile file → Plain (origin_line file)
+plain_origin file h =
+    all_append IsLineByte origin_word (file.name ++ (codes " (" ++ (address_text file.system ++ codes ")"))) (plain_if origin_word refl)
+    (all_append IsLineByte file.name (codes " (" ++ (address_text file.system ++ codes ")")) (recursion_from_All IsLineByte file.name h.name_bytes)
+    (all_append IsLineByte (codes " (") (address_text file.system ++ codes ")") (plain_if (codes " (") refl)
+    (all_append IsLineByte (address_text file.system) (codes ")") (plain_address file.system h.address) (plain_if (codes ")") refl))))
+
+-- no zero in the body
+no_zero_body : (draft : Draft) → holds_zero draft ≡ false → list_any is_zero draft.body ≡ false
+no_zero_body draft h =
+    let p1 = or_parts (list_any is_zero draft.to_name) _ h in
+    let p2 = or_parts (list_any is_zero draft.from_name) _ p1.1 in
+    let p3 = or_parts (list_any is_zero draft.subject) _ p2.1 in
+    (or_parts (list_any is_zero draft.reply) (list_any is_zero draft.body) p3.1).1
+
 plain_lines : (file : LinkFile) → IsFile file → (draft : Draft) (serial : ℕ) → holds_zero draft ≡ false
     → ((length draft.reply == 0) || is_id draft.reply) ≡ true → AllByRecursion Plain (posted_lines file draft serial)
 unfolding posted_lines
@@ -93,6 +127,16 @@ plain_lines file h draft serial zero reply = (
 record HasNoTail (all : List (List ℕ)) : Type 0 where
   none : tail all ≡ []
   some : all_tail all ≡ false
+
+-- the origin line is no line of a tail
+origin_not_tail : (rest : List ℕ) → is_tail_line (origin_word ++ rest) ≡ false
+unfolding begins
+origin_not_tail rest = refl
+
+origin_last : (rest : List ℕ) → HasNoTail ((origin_word ++ rest) ∷ [])
+origin_last rest =
+    let some : all_tail ((origin_word ++ rest) ∷ []) ≡ false = and_left (is_tail_line (origin_word ++ rest)) true (origin_not_tail rest) in
+    record { none = tail_later (origin_word ++ rest) [] some; some = some }
 
 one_before : (line : List ℕ) (all : List (List ℕ)) → HasNoTail all → HasNoTail (line ∷ all)
 one_before line all h =
