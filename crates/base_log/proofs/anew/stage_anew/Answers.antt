@@ -35,16 +35,16 @@ keys_made g c =
 pub returns-in_err-create-clause-run : goal.returns-in_err-create-clause-run
 returns-in_err-create-clause-run g c = record {
   any_moment = λ honest.
-        let one = messages_made g (goal.at.returns-in_err-create-clause-run g c).After-create in
-        let path = folder_of c.args.names.now in
-        let d0 = g.D.Disk.state c.args.disk.now in
-        let d1 = g.D.Disk.state c.create.new.self in
-        let rest = c.requires.settled (one.time.honest honest) in
-        alone_run d0 path c.args.end rest d1 (messages_run d0 path c.args.end rest c.args.number c.requires.free.other d1 one);
-  outside = 
-        let one = messages_made g (goal.at.returns-in_err-create-clause-run g c).After-create in
-        let path = folder_of c.args.names.now in
-        outside_but_one path (g.D.Disk.state c.args.disk.now) (g.D.Disk.state c.create.new.self) (messages_of path c.args.number) (messages_in path c.args.number) one.kept;
+      let one = messages_made g (goal.at.returns-in_err-create-clause-run g c).After-create in
+      let path = folder_of c.args.names.now in
+      let d0 = g.D.Disk.state c.args.disk.now in
+      let d1 = g.D.Disk.state c.create.new.self in
+      let rest = c.requires.settled (one.time.honest honest) in
+      alone_run d0 path c.args.end rest d1 (messages_run d0 path c.args.end rest c.args.number c.requires.free.other d1 one);
+  outside =
+      let one = messages_made g (goal.at.returns-in_err-create-clause-run g c).After-create in
+      let path = folder_of c.args.names.now in
+      outside_but_one path (g.D.Disk.state c.args.disk.now) (g.D.Disk.state c.create.new.self) (messages_of path c.args.number) (messages_in path c.args.number) one.kept;
 }
 
 pub returns-in_err-create-clause-same : goal.returns-in_err-create-clause-same
@@ -62,18 +62,18 @@ returns-in_err-create-clause-beside g c m ne nk = (messages_made g (goal.at.retu
 pub returns-in_err-create-2-clause-run : goal.returns-in_err-create-2-clause-run
 returns-in_err-create-2-clause-run g c = record {
   any_moment = λ honest.
-        let one = messages_made g (goal.at.returns-in_err-create-2-clause-run g c).After-create in
-        let two = keys_made g (goal.at.returns-in_err-create-2-clause-run g c).After-create-2 in
-        let path = folder_of c.args.names.now in
-        let d0 = g.D.Disk.state c.args.disk.now in
-        let d1 = g.D.Disk.state c.create.new.self in
-        let d2 = g.D.Disk.state c.create-2.new.self in
-        let rest = c.requires.settled (one.time.honest (two.time.honest honest)) in
-        alone_run d0 path c.args.end rest d2 (keys_run d0 path c.args.end rest c.args.number c.requires.free.other d1 one d2 two);
-  outside = 
-        let one = messages_made g (goal.at.returns-in_err-create-2-clause-run g c).After-create in
-        let two = keys_made g (goal.at.returns-in_err-create-2-clause-run g c).After-create-2 in
-        outside_both (folder_of c.args.names.now) c.args.number (g.D.Disk.state c.args.disk.now) (g.D.Disk.state c.create.new.self) (g.D.Disk.state c.create-2.new.self) one two;
+      let one = messages_made g (goal.at.returns-in_err-create-2-clause-run g c).After-create in
+      let two = keys_made g (goal.at.returns-in_err-create-2-clause-run g c).After-create-2 in
+      let path = folder_of c.args.names.now in
+      let d0 = g.D.Disk.state c.args.disk.now in
+      let d1 = g.D.Disk.state c.create.new.self in
+      let d2 = g.D.Disk.state c.create-2.new.self in
+      let rest = c.requires.settled (one.time.honest (two.time.honest honest)) in
+      alone_run d0 path c.args.end rest d2 (keys_run d0 path c.args.end rest c.args.number c.requires.free.other d1 one d2 two);
+  outside =
+      let one = messages_made g (goal.at.returns-in_err-create-2-clause-run g c).After-create in
+      let two = keys_made g (goal.at.returns-in_err-create-2-clause-run g c).After-create-2 in
+      outside_both (folder_of c.args.names.now) c.args.number (g.D.Disk.state c.args.disk.now) (g.D.Disk.state c.create.new.self) (g.D.Disk.state c.create-2.new.self) one two;
 }
 
 pub returns-in_err-create-2-clause-same : goal.returns-in_err-create-2-clause-same
@@ -94,24 +94,24 @@ returns-in_err-create-2-clause-beside g c m ne nk =
 pub returns-in_err-sync_folder_of-clause-run : goal.returns-in_err-sync_folder_of-clause-run
 returns-in_err-sync_folder_of-clause-run g c = record {
   any_moment = λ honest.
-        let one = messages_made g (goal.at.returns-in_err-sync_folder_of-clause-run g c).After-create in
-        let two = keys_made g (goal.at.returns-in_err-sync_folder_of-clause-run g c).After-create-2 in
-        let quiet = c.sync_folder_of.ensures.quiet in
-        let path = folder_of c.args.names.now in
-        let d0 = g.D.Disk.state c.args.disk.now in
-        let d1 = g.D.Disk.state c.create.new.self in
-        let d2 = g.D.Disk.state c.create-2.new.self in
-        let d3 = g.D.Disk.state c.sync_folder_of.new.disk in
-        let rest = c.requires.settled (one.time.honest (two.time.honest (quiet.honest honest))) in
-        alone_run d0 path c.args.end rest d3 (then_nothing d0 d2 d3 (FilesAlone d0 path c.args.end rest) (keys_run d0 path c.args.end rest c.args.number c.requires.free.other d1 one d2 two) quiet);
-  outside = 
-        let one = messages_made g (goal.at.returns-in_err-sync_folder_of-clause-run g c).After-create in
-        let two = keys_made g (goal.at.returns-in_err-sync_folder_of-clause-run g c).After-create-2 in
-        let path = folder_of c.args.names.now in
-        let d0 = g.D.Disk.state c.args.disk.now in
-        let d2 = g.D.Disk.state c.create-2.new.self in
-        let d3 = g.D.Disk.state c.sync_folder_of.new.disk in
-        outside_twice path d0 d2 d3 (outside_both path c.args.number d0 (g.D.Disk.state c.create.new.self) d2 one two) (outside_quiet path d2 d3 c.sync_folder_of.ensures.quiet);
+      let one = messages_made g (goal.at.returns-in_err-sync_folder_of-clause-run g c).After-create in
+      let two = keys_made g (goal.at.returns-in_err-sync_folder_of-clause-run g c).After-create-2 in
+      let quiet = c.sync_folder_of.ensures.quiet in
+      let path = folder_of c.args.names.now in
+      let d0 = g.D.Disk.state c.args.disk.now in
+      let d1 = g.D.Disk.state c.create.new.self in
+      let d2 = g.D.Disk.state c.create-2.new.self in
+      let d3 = g.D.Disk.state c.sync_folder_of.new.disk in
+      let rest = c.requires.settled (one.time.honest (two.time.honest (quiet.honest honest))) in
+      alone_run d0 path c.args.end rest d3 (then_nothing d0 d2 d3 (FilesAlone d0 path c.args.end rest) (keys_run d0 path c.args.end rest c.args.number c.requires.free.other d1 one d2 two) quiet);
+  outside =
+      let one = messages_made g (goal.at.returns-in_err-sync_folder_of-clause-run g c).After-create in
+      let two = keys_made g (goal.at.returns-in_err-sync_folder_of-clause-run g c).After-create-2 in
+      let path = folder_of c.args.names.now in
+      let d0 = g.D.Disk.state c.args.disk.now in
+      let d2 = g.D.Disk.state c.create-2.new.self in
+      let d3 = g.D.Disk.state c.sync_folder_of.new.disk in
+      outside_twice path d0 d2 d3 (outside_both path c.args.number d0 (g.D.Disk.state c.create.new.self) d2 one two) (outside_quiet path d2 d3 c.sync_folder_of.ensures.quiet);
 }
 
 pub returns-in_err-sync_folder_of-clause-same : goal.returns-in_err-sync_folder_of-clause-same
@@ -134,24 +134,24 @@ returns-in_err-sync_folder_of-clause-beside g c m ne nk =
 pub returns-clause-run : goal.returns-clause-run
 returns-clause-run g c = record {
   any_moment = λ honest.
-        let one = messages_made g (goal.at.returns-clause-run g c).After-create in
-        let two = keys_made g (goal.at.returns-clause-run g c).After-create-2 in
-        let quiet = c.sync_folder_of.ensures.quiet in
-        let path = folder_of c.args.names.now in
-        let d0 = g.D.Disk.state c.args.disk.now in
-        let d1 = g.D.Disk.state c.create.new.self in
-        let d2 = g.D.Disk.state c.create-2.new.self in
-        let d3 = g.D.Disk.state c.sync_folder_of.new.disk in
-        let rest = c.requires.settled (one.time.honest (two.time.honest (quiet.honest honest))) in
-        alone_run d0 path c.args.end rest d3 (then_nothing d0 d2 d3 (FilesAlone d0 path c.args.end rest) (keys_run d0 path c.args.end rest c.args.number c.requires.free.other d1 one d2 two) quiet);
-  outside = 
-        let one = messages_made g (goal.at.returns-clause-run g c).After-create in
-        let two = keys_made g (goal.at.returns-clause-run g c).After-create-2 in
-        let path = folder_of c.args.names.now in
-        let d0 = g.D.Disk.state c.args.disk.now in
-        let d2 = g.D.Disk.state c.create-2.new.self in
-        let d3 = g.D.Disk.state c.sync_folder_of.new.disk in
-        outside_twice path d0 d2 d3 (outside_both path c.args.number d0 (g.D.Disk.state c.create.new.self) d2 one two) (outside_quiet path d2 d3 c.sync_folder_of.ensures.quiet);
+      let one = messages_made g (goal.at.returns-clause-run g c).After-create in
+      let two = keys_made g (goal.at.returns-clause-run g c).After-create-2 in
+      let quiet = c.sync_folder_of.ensures.quiet in
+      let path = folder_of c.args.names.now in
+      let d0 = g.D.Disk.state c.args.disk.now in
+      let d1 = g.D.Disk.state c.create.new.self in
+      let d2 = g.D.Disk.state c.create-2.new.self in
+      let d3 = g.D.Disk.state c.sync_folder_of.new.disk in
+      let rest = c.requires.settled (one.time.honest (two.time.honest (quiet.honest honest))) in
+      alone_run d0 path c.args.end rest d3 (then_nothing d0 d2 d3 (FilesAlone d0 path c.args.end rest) (keys_run d0 path c.args.end rest c.args.number c.requires.free.other d1 one d2 two) quiet);
+  outside =
+      let one = messages_made g (goal.at.returns-clause-run g c).After-create in
+      let two = keys_made g (goal.at.returns-clause-run g c).After-create-2 in
+      let path = folder_of c.args.names.now in
+      let d0 = g.D.Disk.state c.args.disk.now in
+      let d2 = g.D.Disk.state c.create-2.new.self in
+      let d3 = g.D.Disk.state c.sync_folder_of.new.disk in
+      outside_twice path d0 d2 d3 (outside_both path c.args.number d0 (g.D.Disk.state c.create.new.self) d2 one two) (outside_quiet path d2 d3 c.sync_folder_of.ensures.quiet);
 }
 
 pub returns-clause-same : goal.returns-clause-same

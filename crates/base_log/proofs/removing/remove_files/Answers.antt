@@ -44,14 +44,14 @@ returns-in_err-remove_one-clause-same g c =
 pub returns-in_err-remove_one-clause-run : goal.returns-in_err-remove_one-clause-run
 returns-in_err-remove_one-clause-run g c = record {
   any_moment = λ honest.
-        let end = c.args.end in
-        let d0 = g.D.Disk.state c.args.disk.now in
-        let d1 = g.D.Disk.state c.remove_one.new.disk in
-        subst (λ (p : List ℕ). LeavesOnly d0 d1 (StandsAlone p d0 (base_at d0 p end.told))) c.deref.ensures.value (c.remove_one.ensures.run.any_moment honest);
-  outside = 
-        let d0 = g.D.Disk.state c.args.disk.now in
-        let d1 = g.D.Disk.state c.remove_one.new.disk in
-        subst (λ (p : List ℕ). KeepsOutside p d0 d1) c.deref.ensures.value c.remove_one.ensures.run.outside;
+      let end = c.args.end in
+      let d0 = g.D.Disk.state c.args.disk.now in
+      let d1 = g.D.Disk.state c.remove_one.new.disk in
+      subst (λ (p : List ℕ). LeavesOnly d0 d1 (StandsAlone p d0 (base_at d0 p end.told))) c.deref.ensures.value (c.remove_one.ensures.run.any_moment honest);
+  outside =
+      let d0 = g.D.Disk.state c.args.disk.now in
+      let d1 = g.D.Disk.state c.remove_one.new.disk in
+      subst (λ (p : List ℕ). KeepsOutside p d0 d1) c.deref.ensures.value c.remove_one.ensures.run.outside;
 }
 
 pub remove_one-requires-2-clause-file : goal.remove_one-requires-2-clause-file
@@ -112,30 +112,30 @@ returns-clause-same g c =
 pub returns-clause-run : goal.returns-clause-run
 returns-clause-run g c = record {
   any_moment = λ honest.
-        let h1 = c.remove_one-2.ensures.run.outside.honest honest in
-        let path = folder_of c.args.names.now in
-        let end = c.args.end in
-        let number = c.args.number in
-        let n = end.told.number in
-        let d0 = g.D.Disk.state c.args.disk.now in
-        let messages : c.deref-2.result.now ≡ messages_of path number = c.deref-2.ensures.value ∙ c.requires.names.messages in
-        let m_beside = subst (λ (f : List ℕ). IsBeside path n f) (sym messages) (messages_beside path n number c.requires.other) in
-        let d1 = g.D.Disk.state c.remove_one.new.disk in
-        let d2 = g.D.Disk.state c.remove_one-2.new.disk in
-        let run_1 = subst (λ (p : List ℕ). LeavesOnly d0 d1 (StandsAlone p d0 (base_at d0 p end.told))) c.deref.ensures.value (c.remove_one.ensures.run.any_moment h1) in
-        let out_1 = subst (λ (p : List ℕ). KeepsOutside p d0 d1) c.deref.ensures.value c.remove_one.ensures.run.outside in
-        let same_1 = base_beside d0 d1 path end c.deref-2.result.now m_beside c.remove_one.ensures.beside in
-        let run_2 = subst (λ (p : List ℕ). LeavesOnly d1 d2 (StandsAlone p d1 (base_at d1 p end.told))) c.deref-3.ensures.value (c.remove_one-2.ensures.run.any_moment honest) in
-        then_run d0 d1 d2 (StandsAlone path d0 (base_at d0 path end.told)) (StandsAlone path d1 (base_at d1 path end.told)) run_1 run_2
-        (λ f left. alone_since d0 d1 path (base_at d0 path end.told) f out_1 (subst (λ (b : BaseBytes). StandsAlone path d1 b f) same_1 left));
-  outside = 
-        let path = folder_of c.args.names.now in
-        let d0 = g.D.Disk.state c.args.disk.now in
-        let d1 = g.D.Disk.state c.remove_one.new.disk in
-        let d2 = g.D.Disk.state c.remove_one-2.new.disk in
-        let out_1 = subst (λ (p : List ℕ). KeepsOutside p d0 d1) c.deref.ensures.value c.remove_one.ensures.run.outside in
-        let out_2 = subst (λ (p : List ℕ). KeepsOutside p d1 d2) c.deref-3.ensures.value c.remove_one-2.ensures.run.outside in
-        outside_twice path d0 d1 d2 out_1 out_2;
+      let h1 = c.remove_one-2.ensures.run.outside.honest honest in
+      let path = folder_of c.args.names.now in
+      let end = c.args.end in
+      let number = c.args.number in
+      let n = end.told.number in
+      let d0 = g.D.Disk.state c.args.disk.now in
+      let messages : c.deref-2.result.now ≡ messages_of path number = c.deref-2.ensures.value ∙ c.requires.names.messages in
+      let m_beside = subst (λ (f : List ℕ). IsBeside path n f) (sym messages) (messages_beside path n number c.requires.other) in
+      let d1 = g.D.Disk.state c.remove_one.new.disk in
+      let d2 = g.D.Disk.state c.remove_one-2.new.disk in
+      let run_1 = subst (λ (p : List ℕ). LeavesOnly d0 d1 (StandsAlone p d0 (base_at d0 p end.told))) c.deref.ensures.value (c.remove_one.ensures.run.any_moment h1) in
+      let out_1 = subst (λ (p : List ℕ). KeepsOutside p d0 d1) c.deref.ensures.value c.remove_one.ensures.run.outside in
+      let same_1 = base_beside d0 d1 path end c.deref-2.result.now m_beside c.remove_one.ensures.beside in
+      let run_2 = subst (λ (p : List ℕ). LeavesOnly d1 d2 (StandsAlone p d1 (base_at d1 p end.told))) c.deref-3.ensures.value (c.remove_one-2.ensures.run.any_moment honest) in
+      then_run d0 d1 d2 (StandsAlone path d0 (base_at d0 path end.told)) (StandsAlone path d1 (base_at d1 path end.told)) run_1 run_2
+      (λ f left. alone_since d0 d1 path (base_at d0 path end.told) f out_1 (subst (λ (b : BaseBytes). StandsAlone path d1 b f) same_1 left));
+  outside =
+      let path = folder_of c.args.names.now in
+      let d0 = g.D.Disk.state c.args.disk.now in
+      let d1 = g.D.Disk.state c.remove_one.new.disk in
+      let d2 = g.D.Disk.state c.remove_one-2.new.disk in
+      let out_1 = subst (λ (p : List ℕ). KeepsOutside p d0 d1) c.deref.ensures.value c.remove_one.ensures.run.outside in
+      let out_2 = subst (λ (p : List ℕ). KeepsOutside p d1 d2) c.deref-3.ensures.value c.remove_one-2.ensures.run.outside in
+      outside_twice path d0 d1 d2 out_1 out_2;
 }
 
 pub returns-in_err-remove_one-clause-leaves : goal.returns-in_err-remove_one-clause-leaves

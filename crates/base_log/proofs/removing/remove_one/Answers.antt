@@ -13,31 +13,31 @@ use Rattle.base_log.proofs.removing.remove_one.Goals as goal
 pub returns-in_err-exists-clause-run : goal.returns-in_err-exists-clause-run
 returns-in_err-exists-clause-run g c = record {
   any_moment = λ honest.
-        let h0 = c.exists.ensures.quiet.honest honest in
-        let d0 = g.D.Disk.state c.args.disk.now in
-        let d1 = g.D.Disk.state c.exists.new.self in
-        looked_run d0 c.args.folder.now c.args.end (c.requires.settled h0) d1 c.exists.ensures.quiet;
-  outside = 
-        let d0 = g.D.Disk.state c.args.disk.now in
-        let d1 = g.D.Disk.state c.exists.new.self in
-        let file = c.args.file.now in
-        let path = c.args.folder.now in
-        outside_but_one path d0 d1 file c.requires.file.inside (but_one_quiet d0 d1 file c.exists.ensures.quiet);
+      let h0 = c.exists.ensures.quiet.honest honest in
+      let d0 = g.D.Disk.state c.args.disk.now in
+      let d1 = g.D.Disk.state c.exists.new.self in
+      looked_run d0 c.args.folder.now c.args.end (c.requires.settled h0) d1 c.exists.ensures.quiet;
+  outside =
+      let d0 = g.D.Disk.state c.args.disk.now in
+      let d1 = g.D.Disk.state c.exists.new.self in
+      let file = c.args.file.now in
+      let path = c.args.folder.now in
+      outside_but_one path d0 d1 file c.requires.file.inside (but_one_quiet d0 d1 file c.exists.ensures.quiet);
 }
 
 pub returns-then-not-branch-clause-run : goal.returns-then-not-branch-clause-run
 returns-then-not-branch-clause-run g c = record {
   any_moment = λ honest.
-        let h0 = c.exists.ensures.quiet.honest honest in
-        let d0 = g.D.Disk.state c.args.disk.now in
-        let d1 = g.D.Disk.state c.exists.new.self in
-        looked_run d0 c.args.folder.now c.args.end (c.requires.settled h0) d1 c.exists.ensures.quiet;
-  outside = 
-        let d0 = g.D.Disk.state c.args.disk.now in
-        let d1 = g.D.Disk.state c.exists.new.self in
-        let file = c.args.file.now in
-        let path = c.args.folder.now in
-        outside_but_one path d0 d1 file c.requires.file.inside (but_one_quiet d0 d1 file c.exists.ensures.quiet);
+      let h0 = c.exists.ensures.quiet.honest honest in
+      let d0 = g.D.Disk.state c.args.disk.now in
+      let d1 = g.D.Disk.state c.exists.new.self in
+      looked_run d0 c.args.folder.now c.args.end (c.requires.settled h0) d1 c.exists.ensures.quiet;
+  outside =
+      let d0 = g.D.Disk.state c.args.disk.now in
+      let d1 = g.D.Disk.state c.exists.new.self in
+      let file = c.args.file.now in
+      let path = c.args.folder.now in
+      outside_but_one path d0 d1 file c.requires.file.inside (but_one_quiet d0 d1 file c.exists.ensures.quiet);
 }
 
 pub returns-then-not-branch-clause-settled : goal.returns-then-not-branch-clause-settled
@@ -59,29 +59,29 @@ returns-then-not-branch-clause-gone g c honest =
 pub returns-in_err-remove-clause-run : goal.returns-in_err-remove-clause-run
 returns-in_err-remove-clause-run g c = record {
   any_moment = λ honest.
-        let h1 = c.remove.ensures.time.honest honest in
-        let h0 = c.exists.ensures.quiet.honest h1 in
-        let d0 = g.D.Disk.state c.args.disk.now in
-        let d1 = g.D.Disk.state c.exists.new.self in
-        let d2 = g.D.Disk.state c.remove.new.self in
-        let file = c.args.file.now in
-        let path = c.args.folder.now in
-        removed_run d0 path c.args.end (c.requires.settled h0) d1 d2 file c.requires.file c.exists.ensures.quiet c.remove.ensures.time c.remove.ensures.crash;
-  outside = 
-        let d0 = g.D.Disk.state c.args.disk.now in
-        let d1 = g.D.Disk.state c.exists.new.self in
-        let d2 = g.D.Disk.state c.remove.new.self in
-        let file = c.args.file.now in
-        let path = c.args.folder.now in
-        let removed : KeepsButOne d1 d2 file = record {
-          seen = c.remove.ensures.beside;
-          named = c.remove.ensures.named;
-          flushed = c.remove.ensures.flushed;
-          alone = c.remove.ensures.alone;
-          honest = c.remove.ensures.time.honest;
-        } in
-        let kept_2 = but_one_twice d0 d1 d2 file (but_one_quiet d0 d1 file c.exists.ensures.quiet) removed in
-        outside_but_one path d0 d2 file c.requires.file.inside kept_2;
+      let h1 = c.remove.ensures.time.honest honest in
+      let h0 = c.exists.ensures.quiet.honest h1 in
+      let d0 = g.D.Disk.state c.args.disk.now in
+      let d1 = g.D.Disk.state c.exists.new.self in
+      let d2 = g.D.Disk.state c.remove.new.self in
+      let file = c.args.file.now in
+      let path = c.args.folder.now in
+      removed_run d0 path c.args.end (c.requires.settled h0) d1 d2 file c.requires.file c.exists.ensures.quiet c.remove.ensures.time c.remove.ensures.crash;
+  outside =
+      let d0 = g.D.Disk.state c.args.disk.now in
+      let d1 = g.D.Disk.state c.exists.new.self in
+      let d2 = g.D.Disk.state c.remove.new.self in
+      let file = c.args.file.now in
+      let path = c.args.folder.now in
+      let removed : KeepsButOne d1 d2 file = record {
+        seen = c.remove.ensures.beside;
+        named = c.remove.ensures.named;
+        flushed = c.remove.ensures.flushed;
+        alone = c.remove.ensures.alone;
+        honest = c.remove.ensures.time.honest;
+      } in
+      let kept_2 = but_one_twice d0 d1 d2 file (but_one_quiet d0 d1 file c.exists.ensures.quiet) removed in
+      outside_but_one path d0 d2 file c.requires.file.inside kept_2;
 }
 
 pub returns-in_err-remove-clause-beside : goal.returns-in_err-remove-clause-beside
@@ -103,34 +103,34 @@ returns-in_err-remove-clause-beside g c =
 pub returns-clause-run : goal.returns-clause-run
 returns-clause-run g c = record {
   any_moment = λ honest.
-        let h2 = c.sync_folder_of.ensures.quiet.honest honest in
-        let h1 = c.remove.ensures.time.honest h2 in
-        let h0 = c.exists.ensures.quiet.honest h1 in
-        let d0 = g.D.Disk.state c.args.disk.now in
-        let d1 = g.D.Disk.state c.exists.new.self in
-        let d2 = g.D.Disk.state c.remove.new.self in
-        let d3 = g.D.Disk.state c.sync_folder_of.new.disk in
-        let file = c.args.file.now in
-        let path = c.args.folder.now in
-        then_nothing d0 d2 d3 (StandsAlone path d0 (base_at d0 path c.args.end.told))
-        (removed_run d0 path c.args.end (c.requires.settled h0) d1 d2 file c.requires.file c.exists.ensures.quiet c.remove.ensures.time c.remove.ensures.crash) c.sync_folder_of.ensures.quiet;
-  outside = 
-        let d0 = g.D.Disk.state c.args.disk.now in
-        let d1 = g.D.Disk.state c.exists.new.self in
-        let d2 = g.D.Disk.state c.remove.new.self in
-        let d3 = g.D.Disk.state c.sync_folder_of.new.disk in
-        let file = c.args.file.now in
-        let path = c.args.folder.now in
-        let removed : KeepsButOne d1 d2 file = record {
-          seen = c.remove.ensures.beside;
-          named = c.remove.ensures.named;
-          flushed = c.remove.ensures.flushed;
-          alone = c.remove.ensures.alone;
-          honest = c.remove.ensures.time.honest;
-        } in
-        let kept_2 = but_one_twice d0 d1 d2 file (but_one_quiet d0 d1 file c.exists.ensures.quiet) removed in
-        let kept_3 = but_one_twice d0 d2 d3 file kept_2 (but_one_quiet d2 d3 file c.sync_folder_of.ensures.quiet) in
-        outside_but_one path d0 d3 file c.requires.file.inside kept_3;
+      let h2 = c.sync_folder_of.ensures.quiet.honest honest in
+      let h1 = c.remove.ensures.time.honest h2 in
+      let h0 = c.exists.ensures.quiet.honest h1 in
+      let d0 = g.D.Disk.state c.args.disk.now in
+      let d1 = g.D.Disk.state c.exists.new.self in
+      let d2 = g.D.Disk.state c.remove.new.self in
+      let d3 = g.D.Disk.state c.sync_folder_of.new.disk in
+      let file = c.args.file.now in
+      let path = c.args.folder.now in
+      then_nothing d0 d2 d3 (StandsAlone path d0 (base_at d0 path c.args.end.told))
+      (removed_run d0 path c.args.end (c.requires.settled h0) d1 d2 file c.requires.file c.exists.ensures.quiet c.remove.ensures.time c.remove.ensures.crash) c.sync_folder_of.ensures.quiet;
+  outside =
+      let d0 = g.D.Disk.state c.args.disk.now in
+      let d1 = g.D.Disk.state c.exists.new.self in
+      let d2 = g.D.Disk.state c.remove.new.self in
+      let d3 = g.D.Disk.state c.sync_folder_of.new.disk in
+      let file = c.args.file.now in
+      let path = c.args.folder.now in
+      let removed : KeepsButOne d1 d2 file = record {
+        seen = c.remove.ensures.beside;
+        named = c.remove.ensures.named;
+        flushed = c.remove.ensures.flushed;
+        alone = c.remove.ensures.alone;
+        honest = c.remove.ensures.time.honest;
+      } in
+      let kept_2 = but_one_twice d0 d1 d2 file (but_one_quiet d0 d1 file c.exists.ensures.quiet) removed in
+      let kept_3 = but_one_twice d0 d2 d3 file kept_2 (but_one_quiet d2 d3 file c.sync_folder_of.ensures.quiet) in
+      outside_but_one path d0 d3 file c.requires.file.inside kept_3;
 }
 
 pub returns-clause-beside : goal.returns-clause-beside

@@ -14,10 +14,17 @@ use Rattle.disk_atomic.proofs.finishing.finish_one.Given as given
 use Rattle.disk_atomic.proofs.finishing.finish_one.Goals.{After-remove}
 use Rattle.disk_atomic.proofs.finishing.finish_one.Goals as goal
 
-pub name_packet-requires-clause-there : goal.name_packet-requires-clause-there
-name_packet-requires-clause-there g c honest =
+pub name_packet-requires-clause-can : goal.name_packet-requires-clause-can
+name_packet-requires-clause-can g c =
+    let l = c.args.left.now in
     let quiet = c.sync.ensures.quiet in
-    subst (λ f. IsSome f) (sym (quiet.seen c.args.left.now.staging.now)) (c.requires.there (quiet.honest honest))
+    record {
+      other = c.requires.placed.other;
+      there = λ honest. subst (λ f. IsSome f) (sym (quiet.seen l.staging.now)) (c.requires.there (quiet.honest honest));
+      durable = c.in_ok-sync.ensures.durable;
+      staging_named = quiet.named l.staging.now (λ h. h) c.requires.named.staging;
+      path_named = quiet.named l.path.now (λ h. h) c.requires.named.path;
+    }
 
 removed : (g : given.Over) (c : After-remove g) → ChangesOnly (AtLeft c.args.left.now) (g.D.Disk.state c.args.disk.now) (g.D.Disk.state c.remove.new.self)
 removed g c =
