@@ -14,9 +14,9 @@ pub mod Seen
 mod Shorter
 mod Single
 pub mod Staged
-mod Stated
+pub mod Stated
 pub mod Stubbed
 pub mod Vouchings
 pub mod Waits
 mod WhereSo
-mod Whole
+pub mod Whole

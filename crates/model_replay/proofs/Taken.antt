@@ -1,10 +1,10 @@
 -- A packet that was delivered brings nothing new: each of its messages is refused or known, and stays so.
-use Rattle.std.proofs.Common.{◌≡◌, ℕ, Bool, true, false, not, List, [], ◌∷◌, ◌++◌, length, map, take, drop, refl, sym, ap, subst, ◌∙◌, Option, Some, None, inl, inr, arith}
+use Rattle.std.proofs.Common.{◌≡◌, ℕ, ◌||◌, Bool, true, false, not, List, [], ◌∷◌, ◌++◌, length, map, take, drop, refl, sym, ap, subst, ◌∙◌, Option, Some, None, inl, inr, arith}
 use Rattle.std.specs.Prelude.{if◌then◌else◌, option_to_list}
 use Rattle.std.specs.List.{list_any, position_or_len}
 use Rattle.std.proofs.lemmas.List.{append-nil, length-append}
 use Rattle.echo_addr.specs.declared.address.Address.{Address}
-use Rattle.model_graph.proofs.Members.{Among-append_left}
+use Rattle.model_graph.proofs.Members.{Among-append_left, Among-append_right}
 use Rattle.echo_packet.specs.Message.{Message}
 use Rattle.echo_text.specs.declared.fault.TextFault.{TextFault}
 use Rattle.echo_text.specs.declared.fault.TextFault.TheVariants as text
@@ -13,8 +13,9 @@ use Rattle.echo_links.specs.Links.{LinkFile, has_area, is_link, same_address}
 use Rattle.echo_filed.specs.declared.key.Key.{Key}
 use Rattle.echo_filed.specs.Filed.{Filed, key_of, same_key}
 use Rattle.echo_filed.specs.Stubs.{stub_of}
+use Rattle.echo_filed.proofs.Keys.{same_key_decides}
 use Rattle.base_file.specs.Base.{is_known}
-use Rattle.base_file.proofs.StubBases.{purged_keys, known_by_keys as by_keys}
+use Rattle.base_file.proofs.StubBases.{purged_keys}
 use Rattle.model_steps.specs.declared.outcome.Outcome.{Outcome}
 use Rattle.model_steps.specs.declared.outcome.Outcome.TheVariants as outcome
 use Rattle.model_steps.specs.declared.packet.Packet.{Packet}
@@ -25,17 +26,15 @@ use Rattle.model_steps.specs.Stamps.{is_stamp}
 use Rattle.model_steps.specs.SystemState.{SystemState}
 use Rattle.model_steps.specs.Tossing.{outcome_after, received, sender_of, toss_outcome, tossed, tossing, where_filed}
 use Rattle.model_run.specs.Event.{RunEvent, Posting, Scanning, Delivery, PartDelivery, Purging}
-use Rattle.model_run.specs.Run.{Run, System, after_event, after_events, change, changing, coming, delivery, destination, nth, part_delivery, posting_at, purging_at, receiver, run_of, scanning, scanning_at, start, taking}
+use Rattle.model_run.specs.Run.{Run, System, after_event, after_events, change, changing, coming, delivery, destination, filing, nth, part_delivery, posting_at, purging_at, receiver, run_of, scanning, scanning_at, start, taking, tossing_at}
 use Rattle.model_run.proofs.Lists as lists
 use Rattle.model_run.proofs.Lists.{any-from, any-to, nth-append, nth-change, with_index-from}
+use Rattle.model_run.proofs.Targets.{none_some, some_same}
+use Rattle.model_run.proofs.HarmLists.{nth-below as nth-within}
 use Rattle.model_replay.specs.Taken.{AreTaken, HasTaken, NoneIsFiled}
 use Rattle.model_replay.specs.Worlds.{state_of}
 use Rattle.model_replay.proofs.Exports.{below-with, within-nth}
 use Rattle.model_replay.proofs.Runs.{first-map, state-taking}
-use Rattle.model_run.proofs.Lacking.{known-new as known-last}
-use Rattle.model_run.proofs.Growing.{filing-grows, tossing-grows}
-use Rattle.model_run.proofs.HarmLists.{nth-below as nth-within}
-use Rattle.model_run.proofs.Targets.{some_same, none_some}
 
 -- what is known in the one base is known in the other
 abbrev Knows : List Filed → List Filed → Type 0
@@ -46,11 +45,20 @@ knows-append base more key h =
     let (n, i, e) = any-from (λ n. same_key (key_of n) key) base h in
     any-to (λ n. same_key (key_of n) key) n (base ++ more) (Among-append_left n base more i) e
 
+by_keys : (base : List Filed) (key : Key) → is_known base key ≡ list_any (λ k. same_key k key) (map key_of base)
+by_keys [] key = refl
+by_keys (m ∷ base) key = ap (λ b. same_key (key_of m) key || b) (by_keys base key)
+
 knows-purged : (base : List Filed) (cursor : ℕ) → Knows base (purged base cursor)
 unfolding purged
 knows-purged base cursor key h =
     by_keys (map stub_of (take cursor base) ++ drop cursor base) key
     ∙ ap (λ (keys : List Key). list_any (λ k. same_key k key) keys) (purged_keys cursor base) ∙ sym (by_keys base key) ∙ h
+
+known-last : (base : List Filed) (m : Filed) → is_known (base ++ m ∷ []) (key_of m) ≡ true
+known-last base m =
+    any-to (λ n. same_key (key_of n) (key_of m)) m (base ++ m ∷ []) (Among-append_right m base (m ∷ []) (inl refl))
+    ((same_key_decides (key_of m) (key_of m)).1 refl)
 
 -- what becomes of a message whose text is echomail, by the tests
 abbrev outcome_by : Bool → Bool → Bool → Outcome
@@ -153,6 +161,17 @@ none_tossed file base sender (packed ∷ ms) h =
 record Grows (s z : System) : Type 0 where
   file : z.file ≡ s.file
   knows : Knows s.base z.base
+
+filing-grows : (s : System) (o : Option Filed) → Grows s (filing s o)
+filing-grows s None = record { file = refl; knows = λ key h. h }
+filing-grows s (Some m) = record { file = refl; knows = knows-append s.base (m ∷ []) }
+
+tossing-grows : (sender : Address) (ms : List Message) (s : System) → Grows s (tossing_at sender ms s)
+tossing-grows sender [] s = record { file = refl; knows = λ key h. h }
+tossing-grows sender (packed ∷ ms) s =
+    let one = filing-grows s (tossing s.file s.base sender packed) in
+    let more = tossing-grows sender ms (filing s (tossing s.file s.base sender packed)) in
+    record { file = more.file ∙ one.file; knows = λ key h. more.knows key (one.knows key h) }
 
 still_taken : (s z : System) (p : Packet) → Grows s z → HasTaken s p → HasTaken z p
 still_taken s z p grows taken =

@@ -49,7 +49,7 @@ pub mod Filings
 pub mod WellFiled
 pub mod SentSoFar
 pub mod HarmLists
-mod HarmSteps
+pub mod HarmSteps
 mod Lacking
 mod Resting
 mod Spreads
