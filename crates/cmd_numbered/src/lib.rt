@@ -19,7 +19,9 @@ mod resending;
 mod telling;
 
 pub use adding::{Adding, JamBase, JamEnd, JamExport, export_jam, export_jam_of};
-pub use finding::{Answered, PostedWords, find_answered, is_posted, own_serial};
+pub use finding::{
+    Answered, PostedWords, find_answered, find_answered_of, is_posted, is_posted_of, own_serial,
+};
 pub use names::{is_left, number_in};
 pub use numbering::{Exported, MessageFile, export_files, export_files_of};
 pub use resending::resend;
