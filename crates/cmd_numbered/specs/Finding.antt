@@ -1,7 +1,8 @@
 -- The message of a base that has an id: what it gives to a mail that answers it, and whether it was posted here.
-use Rattle.std.specs.Prelude.{◌≡◌, ℕ, zero, suc, ◌⊎◌, ◌&&◌, not, bytes_eq, Bool, false, List, ◌∷◌, codes, length, take, if◌then◌else◌, slice_get, Option, Some, None, is_some, Result, Ok, Err}
+use Rattle.std.specs.Prelude.{◌≡◌, ℕ, zero, suc, ◌&&◌, not, bytes_eq, Bool, false, List, ◌∷◌, codes, length, take, if◌then◌else◌, slice_get, Option, Some, None, is_some, Result}
 use Rattle.std.specs.List.{prefix_len}
 use Rattle.std.specs.Option.{option_map}
+use Rattle.base_file.specs.Base.{Base}
 use Rattle.echo_addr.specs.Entries.{is_blank}
 use Rattle.echo_charset.specs.declared.charset.Charset.{Charset}
 use Rattle.echo_charset.specs.declared.charset.Charset.TheVariants.{Cp437}
@@ -10,10 +11,9 @@ use Rattle.echo_filed.specs.Filed.{Filed}
 use Rattle.echo_links.specs.Links.{upper}
 use Rattle.echo_text.specs.Echo.{first_after, msgid_of}
 use Rattle.cmd_status.specs.declared.fault.Fault.{Fault}
-use Rattle.cmd_status.specs.Ended.{IsOutOfMemory}
-use Rattle.cmd_status.specs.Inputs.{IsBaseFault, IsBaseGiven}
 use Rattle.cmd_numbered.specs.declared.finding.Answered.{Answered}
 use Rattle.cmd_numbered.specs.declared.finding.PostedWords.{PostedWords}
+use Rattle.cmd_numbered.specs.Reading.{AnswersFile}
 
 -- Whether a message has the id.
 abbrev pub is_id_of : List ℕ → Option (List ℕ) → Bool
@@ -52,17 +52,13 @@ charset_of m = charset_named (first_after charset_word m.echo.kept)
 abbrev pub answered_as : Filed → Answered
 answered_as m = record { tag = m.echo.tag; charset = charset_of m }
 
--- The base file has no fault, and this is what its last message with the id gives, if there is one.
-pub record IsAnswered (id base : List ℕ) (found : Option Answered) : Type 0 where
-  pub messages : List Filed
-  pub cursor : ℕ
-  pub given : IsBaseGiven (Some base) messages cursor
-  pub found_is : found ≡ option_map answered_as (last_with id messages (length messages))
+-- This is what the last message of a base with the id gives, if there is one.
+abbrev pub IsAnswered : List ℕ → Base → Option Answered → Type 0
+IsAnswered id base found = found ≡ option_map answered_as (last_with id base.messages (length base.messages))
 
--- The right answer if that message is looked for.
+-- The right answer if that message of a base file is looked for.
 abbrev pub AnsweredAnswers : List ℕ → List ℕ → Result (Option Answered) Fault → Type 0
-AnsweredAnswers id base (Ok found) = IsAnswered id base found
-AnsweredAnswers id base (Err fault) = IsOutOfMemory fault ⊎ IsBaseFault (Some base) fault
+AnsweredAnswers id file answer = AnswersFile (IsAnswered id) file answer
 
 -- Whether a message was posted here in this area, with these names and this subject.
 abbrev pub has_words : List ℕ → PostedWords → Filed → Bool
@@ -70,18 +66,14 @@ has_words tag words m =
     not (is_some m.sender)
     && (bytes_eq m.echo.tag tag && (bytes_eq m.to_name words.to_name.now && (bytes_eq m.from_name words.from_name.now && bytes_eq m.subject words.subject.now)))
 
-abbrev pub is_found_as : PostedWords → Option Filed → Bool
-is_found_as words None = false
-is_found_as words (Some m) = has_words (upper words.tag.now) words m
+abbrev pub is_found_as : List ℕ → PostedWords → Option Filed → Bool
+is_found_as tag words None = false
+is_found_as tag words (Some m) = has_words tag words m
 
--- The base file has no fault, and this is whether its last message with the id was posted here under these words.
-pub record IsPostedAs (words : PostedWords) (base : List ℕ) (posted : Bool) : Type 0 where
-  pub messages : List Filed
-  pub cursor : ℕ
-  pub given : IsBaseGiven (Some base) messages cursor
-  pub posted_is : posted ≡ is_found_as words (last_with words.id.now messages (length messages))
+-- This is whether the last message of a base with the id was posted here under these words.
+abbrev pub IsPostedAs : PostedWords → Base → Bool → Type 0
+IsPostedAs words base posted = posted ≡ is_found_as (upper words.tag.now) words (last_with words.id.now base.messages (length base.messages))
 
--- The right answer if that is asked.
+-- The right answer if that is asked of a base file.
 abbrev pub PostedAnswers : PostedWords → List ℕ → Result Bool Fault → Type 0
-PostedAnswers words base (Ok posted) = IsPostedAs words base posted
-PostedAnswers words base (Err fault) = IsOutOfMemory fault ⊎ IsBaseFault (Some base) fault
+PostedAnswers words file answer = AnswersFile (IsPostedAs words) file answer

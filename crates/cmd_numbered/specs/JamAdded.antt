@@ -1,5 +1,5 @@
 -- Messages of a base that are added to a JAM base: which ones, their numbers, and their bytes in its files.
-use Rattle.std.specs.Prelude.{◌≡◌, ℕ, zero, suc, ◌+◌, ◌&&◌, not, nat_lt, max, Bool, false, is_some, List, [], ◌∷◌, ◌++◌, length, if◌then◌else◌, slice_get, Option, Some, None, Result, Ok, Err}
+use Rattle.std.specs.Prelude.{◌≡◌, ℕ, zero, suc, ◌+◌, ◌&&◌, not, nat_lt, max, Bool, false, is_some, List, [], ◌∷◌, ◌++◌, length, if◌then◌else◌, slice_get, Option, Some, None, Result}
 use Rattle.echo_filed.specs.Filed.{Filed}
 use Rattle.echo_links.specs.Links.{upper}
 use Rattle.echo_jam.specs.Fields.{body_of, cuts_of}
@@ -9,11 +9,11 @@ use Rattle.echo_jam.specs.Unsent.{has_id}
 use Rattle.echo_text.specs.Echo.{msgid_of}
 use Rattle.cmd_status.specs.declared.fault.Fault.{Fault}
 use Rattle.base_file.specs.Base.{Base}
-use Rattle.base_folder.specs.Fetching.{IsUnread}
 use Rattle.cmd_numbered.specs.declared.adding.Adding.{Adding}
 use Rattle.cmd_numbered.specs.declared.adding.JamEnd.{JamEnd}
 use Rattle.cmd_numbered.specs.declared.adding.JamExport.{JamExport}
 use Rattle.cmd_numbered.specs.Numbered.{is_exported}
+use Rattle.cmd_numbered.specs.Reading.{AnswersFile}
 
 -- The bytes added to headers, texts and index; the numbers that the messages have in their base; how many subfields are cut.
 pub record Added : Type 0 where
@@ -91,7 +91,6 @@ pub record IsJamExport (area : List ℕ) (first : ℕ) (headers index : List ℕ
   pub added_is : added_in exported.adding ≡ added_of (upper area) from base.cursor headers index end base.messages (length base.messages)
   pub end_is : exported.end ≡ max from (length base.messages)
 
--- the right answer if the messages of the base with this path are to be added to a JAM base
-abbrev pub JamAnswers : List ℕ → ℕ → List ℕ → List ℕ → Option ℕ → List ℕ → JamEnd → Base → List ℕ → ℕ → ℕ → Result JamExport Fault → Type 0
-JamAnswers area first headers index last text end base path before now (Ok exported) = IsJamExport area first headers index last text end base exported
-JamAnswers area first headers index last text end base path before now (Err fault) = IsUnread path before now fault
+-- the right answer if the messages of a base file are to be added to a JAM base
+abbrev pub JamAnswers : List ℕ → ℕ → List ℕ → List ℕ → Option ℕ → List ℕ → JamEnd → List ℕ → Result JamExport Fault → Type 0
+JamAnswers area first headers index last text end file answer = AnswersFile (IsJamExport area first headers index last text end) file answer

@@ -1,3 +1,4 @@
+pub mod Reading
 pub mod Names
 pub mod Numbered
 pub mod Told

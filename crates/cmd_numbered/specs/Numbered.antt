@@ -1,16 +1,16 @@
 -- Messages of a base as numbered files of a folder: which of them, their bytes, and under which numbers.
-use Rattle.std.specs.Prelude.{◌≡◌, ℕ, zero, suc, ◌+◌, ◌&&◌, ◌||◌, not, nat_le, nat_lt, max, Bool, false, List, [], ◌∷◌, ◌++◌, length, take, drop, if◌then◌else◌, slice_get, bytes_eq, Option, Some, None, is_some, Result, Ok, Err}
+use Rattle.std.specs.Prelude.{◌≡◌, ℕ, zero, suc, ◌+◌, ◌&&◌, ◌||◌, not, nat_le, nat_lt, max, Bool, false, List, [], ◌∷◌, ◌++◌, length, take, drop, if◌then◌else◌, slice_get, bytes_eq, Option, Some, None, is_some, Result}
 use Rattle.echo_filed.specs.Filed.{Filed}
 use Rattle.echo_filed.specs.Stubs.{is_stub}
 use Rattle.echo_links.specs.Links.{upper}
 use Rattle.echo_text.specs.Echo.{msgid_of}
 use Rattle.cmd_status.specs.declared.fault.Fault.{Fault}
 use Rattle.base_file.specs.Base.{Base}
-use Rattle.base_folder.specs.Fetching.{IsUnread}
 use Rattle.echo_stored.specs.StoredMessage.{stored_bytes}
 use Rattle.cmd_numbered.specs.declared.numbering.Exported.{Exported}
 use Rattle.cmd_numbered.specs.declared.numbering.MessageFile.{MessageFile}
 use Rattle.cmd_numbered.specs.Names.{name_of}
+use Rattle.cmd_numbered.specs.Reading.{AnswersFile}
 
 -- Whether nothing is left of a message's text but its id.
 abbrev pub is_purged : Filed → Bool
@@ -70,7 +70,6 @@ pub record IsExport (area : List ℕ) (first greatest : ℕ) (last : Option (Lis
   pub files_are : exported.files ≡ files_of (upper area) from base.cursor (first_number greatest) base.messages (length base.messages)
   pub end_is : exported.end ≡ max from (length base.messages)
 
--- the right answer if the messages of the base with this path are to become files
-abbrev pub ExportAnswers : List ℕ → ℕ → ℕ → Option (List ℕ) → Base → List ℕ → ℕ → ℕ → Result Exported Fault → Type 0
-ExportAnswers area first greatest last base path before now (Ok exported) = IsExport area first greatest last base exported
-ExportAnswers area first greatest last base path before now (Err fault) = IsUnread path before now fault
+-- the right answer if the messages of a base file are to become files
+abbrev pub ExportAnswers : List ℕ → ℕ → ℕ → Option (List ℕ) → List ℕ → Result Exported Fault → Type 0
+ExportAnswers area first greatest last file answer = AnswersFile (IsExport area first greatest last) file answer

@@ -3,14 +3,17 @@ ghost use Rattle.std.specs.Prelude.{◌≡◌, ◌≤◌, ◌+◌, ◌&&◌, not
 ghost use Rattle.base_file.specs.Base.{Base};
 ghost use Rattle.base_folder.specs.Fetching.{IsUnread};
 ghost use Rattle.base_folder.specs.Source.{LooksAt};
-ghost use Rattle.cmd_numbered.specs.JamAdded.{JamAnswers, added_at, added_in, added_of, is_added, is_last_jam, is_written_there, nothing_added, resumed_jam, with_message};
+ghost use Rattle.cmd_numbered.specs.JamAdded.{IsJamExport, JamAnswers, added_at, added_in, added_of, is_added, is_last_jam, is_written_there, nothing_added, resumed_jam, with_message};
+ghost use Rattle.cmd_numbered.specs.Reading.{AnswersReading};
 
 use crate::numbering::is_exported;
+use crate::reading::messages_of;
 use base_folder::{MessageSource, fetch_message};
 use cmd_status::Fault;
 use echo_filed::Filed;
 use echo_jam::{Jam, has_id, is_same, push_jam};
 use std::alloc::{AllocError, Global};
+use std::hash::BuildHasher;
 
 /// The end of a JAM base: the number of its next message, and the length of its headers and texts.
 #[derive(Clone, Copy, Debug)]
@@ -47,8 +50,23 @@ pub struct JamExport {
 
 /// `export --jam PATH --area TAG [--from I] BASE`: what the messages of the area add to a JAM base, from the number
 /// `first` on, or from behind the one that is its last: a run that was stopped goes on there. What the JAM base has from an
-/// editor is not added. The messages are those of the base with this path.
-pub fn export_jam<'a, M: MessageSource>(
+/// editor is not added.
+pub fn export_jam<'a, S: BuildHasher + Drop>(
+    alloc: Global,
+    area: &[u8],
+    first: u64,
+    jam: JamBase<'_>,
+    base: &[u8],
+    hasher: S,
+) -> Result<JamExport, Fault<'a>>
+    ensures { JamAnswers area.now first jam.entry.headers.now jam.entry.index.now jam.entry.last jam.entry.text.now jam.entry.end base.now result }
+{
+    let mut messages = messages_of(alloc, base, hasher)?;
+    export_jam_of(alloc, area, first, jam, "", &mut messages)
+}
+
+/// The same of messages that are read one by one, of the base with this path.
+pub fn export_jam_of<'a, M: MessageSource>(
     alloc: Global,
     area: &[u8],
     first: u64,
@@ -58,7 +76,7 @@ pub fn export_jam<'a, M: MessageSource>(
 ) -> Result<JamExport, Fault<'a>>
     requires { (M.state messages.old).is_ready }
     ensures { (M.state messages.new).is_honest → (base : Base) → (M.state messages.old).holds base
-        → JamAnswers area.now first jam.entry.headers.now jam.entry.index.now jam.entry.last jam.entry.text.now jam.entry.end base path.now (M.state messages.old).failures (M.state messages.new).failures result }
+        → AnswersReading (IsJamExport area.now first jam.entry.headers.now jam.entry.index.now jam.entry.last jam.entry.text.now jam.entry.end base) path.now (M.state messages.old).failures (M.state messages.new).failures result }
 {
     let area = area.to_ascii_uppercase(alloc)?;
     let count = messages.count();

@@ -1,12 +1,15 @@
 //! The message of a base that has an id.
-ghost use Rattle.std.specs.Prelude.{List, ℕ, Some, ◌≡◌, ◌≢◌, ◌≤◌, ◌<◌, ◌⊎◌, ◌^◌, not, IfErr, IfOk, MatchOption, length, option_copied, take_while};
-ghost use Rattle.echo_text.specs.Ids.{id_of};
-ghost use Rattle.cmd_status.specs.Ended.{IsOutOfMemory};
-ghost use Rattle.cmd_status.specs.Inputs.{IsBaseFault, IsBaseGiven};
+ghost use Rattle.std.specs.Prelude.{ℕ, Option, ◌≡◌, ◌≢◌, ◌≤◌, ◌<◌, ◌^◌, not, IfOk, MatchOption, OnOk, length, option_copied, take_while};
+ghost use Rattle.std.specs.Option.{option_map};
+ghost use Rattle.base_file.specs.Base.{Base};
 ghost use Rattle.echo_addr.specs.Entries.{is_blank};
-ghost use Rattle.cmd_numbered.specs.Finding.{AnsweredAnswers, PostedAnswers, answered_as, charset_of, has_id, has_words, label_name, last_with};
+ghost use Rattle.echo_filed.specs.Filed.{Filed};
+ghost use Rattle.echo_text.specs.Ids.{id_of};
+ghost use Rattle.cmd_numbered.specs.Finding.{AnsweredAnswers, IsAnswered, IsPostedAs, PostedAnswers, answered_as, charset_of, has_id, has_words, is_found_as, label_name, last_at};
+ghost use Rattle.cmd_numbered.specs.Reading.{AnswersReading};
 
-use base_file::Base;
+use crate::reading::messages_of;
+use base_folder::{MessageSource, fetch_message};
 use cmd_status::Fault;
 use echo_addr::{Address, Items, is_blank};
 use echo_charset::Charset;
@@ -33,34 +36,47 @@ pub fn find_answered<'a, S: BuildHasher + Drop>(
 ) -> Result<Option<Answered>, Fault<'a>>
     ensures { AnsweredAnswers id.now base.now result }
 {
-    let base = base_read(alloc, base, hasher)?;
-    answered_in(alloc, id, &base)
+    let mut messages = messages_of(alloc, base, hasher)?;
+    find_answered_of(alloc, id, "", &mut messages)
 }
 
-// The base of the file.
-fn base_read<'a, S: BuildHasher + Drop>(
-    alloc: Global,
-    base: &[u8],
-    hasher: S,
-) -> Result<Base<S>, Fault<'a>>
-    ensures ok { IfOk result (λ b. IsBaseGiven (Some base.now) b.messages b.cursor) }
-    ensures err { IfErr result (λ fault. IsOutOfMemory fault ⊎ IsBaseFault (Some base.now) fault) }
-{
-    Ok(Base::load(alloc, &mut &*base, hasher)?)
-}
-
-// The same of a base that is read.
-fn answered_in<'a, S: BuildHasher>(
+/// The same of messages that are read one by one, of the base with this path.
+pub fn find_answered_of<'a, M: MessageSource>(
     alloc: Global,
     id: &[u8],
-    base: &Base<S>,
+    path: &'a str,
+    messages: &mut M,
 ) -> Result<Option<Answered>, Fault<'a>>
-    ensures { (bytes : List ℕ) → IsBaseGiven (Some bytes) base.now.messages base.now.cursor → AnsweredAnswers id.now bytes result }
+    requires { (M.state messages.old).is_ready }
+    ensures { (M.state messages.new).is_honest → (base : Base) → (M.state messages.old).holds base
+        → AnswersReading (IsAnswered id.now base) path.now (M.state messages.old).failures (M.state messages.new).failures result }
 {
-    match last_with(id, base) {
-        Some(message) => Ok(Some(answered_as(alloc, message)?)),
-        None => Ok(None),
+    let count = messages.count();
+    let mut found = None;
+    'messages: for i in 0..count {
+        fetch_message(messages, path, i)?;
+        note_answered(alloc, id, &mut found, messages.at_hand())?;
     }
+    Ok(found)
+}
+
+// What the message gives replaces what an earlier one gave, if it has the id.
+fn note_answered(
+    alloc: Global,
+    id: &[u8],
+    found: &mut Option<Answered>,
+    message: Option<&Filed>,
+) -> Result<(), AllocError>
+    ensures { (before : Option Filed) → found.old ≡ option_map answered_as before
+        → OnOk result (found.new ≡ option_map answered_as (last_at id.now (option_copied message.entry) before)) }
+{
+    let Some(message) = message else {
+        return Ok(());
+    };
+    if has_id(message, id) {
+        *found = Some(answered_as(alloc, message)?);
+    }
+    Ok(())
 }
 
 fn answered_as(alloc: Global, message: &Filed) -> Result<Answered, AllocError>
@@ -70,21 +86,6 @@ fn answered_as(alloc: Global, message: &Filed) -> Result<Answered, AllocError>
         tag: Items::new(Vec::from_slice(alloc, message.echo.tag.as_slice())?),
         charset: charset_of(message),
     })
-}
-
-// The last message with the id.
-fn last_with<'b, S: BuildHasher>(id: &[u8], base: &'b Base<S>) -> Option<&'b Filed>
-    ensures { option_copied result ≡ last_with id.now base.now.messages (length base.now.messages) }
-{
-    let mut found = None;
-    'messages: for i in 0..base.len() {
-        if let Some(message) = base.message(i) {
-            if has_id(message, id) {
-                found = Some(message);
-            }
-        }
-    }
-    found
 }
 
 fn has_id(message: &Filed, id: &[u8]) -> bool
@@ -138,23 +139,44 @@ pub fn is_posted<'a, S: BuildHasher + Drop>(
 ) -> Result<bool, Fault<'a>>
     ensures { PostedAnswers words.entry base.now result }
 {
-    let base = base_read(alloc, base, hasher)?;
-    is_posted_in(alloc, words, &base)
+    let mut messages = messages_of(alloc, base, hasher)?;
+    is_posted_of(alloc, words, "", &mut messages)
 }
 
-// The same of a base that is read.
-fn is_posted_in<'a, S: BuildHasher>(
+/// The same of messages that are read one by one, of the base with this path.
+pub fn is_posted_of<'a, M: MessageSource>(
     alloc: Global,
     words: PostedWords<'_>,
-    base: &Base<S>,
+    path: &'a str,
+    messages: &mut M,
 ) -> Result<bool, Fault<'a>>
-    ensures { (bytes : List ℕ) → IsBaseGiven (Some bytes) base.now.messages base.now.cursor → PostedAnswers words.entry bytes result }
+    requires { (M.state messages.old).is_ready }
+    ensures { (M.state messages.new).is_honest → (base : Base) → (M.state messages.old).holds base
+        → AnswersReading (IsPostedAs words.entry base) path.now (M.state messages.old).failures (M.state messages.new).failures result }
 {
     let tag = words.tag.to_ascii_uppercase(alloc)?;
-    Ok(match last_with(words.id, base) {
-        Some(message) => has_words(message, &tag, words),
-        None => false,
-    })
+    let count = messages.count();
+    let mut posted = false;
+    'messages: for i in 0..count {
+        fetch_message(messages, path, i)?;
+        posted = is_posted_now(&tag, words, posted, messages.at_hand());
+    }
+    Ok(posted)
+}
+
+// The answer for the message, if it has the id, else that for the ones before.
+fn is_posted_now(tag: &[u8], words: PostedWords<'_>, before: bool, message: Option<&Filed>) -> bool
+    ensures { (last : Option Filed) → before ≡ is_found_as tag.now words.entry last
+        → result ≡ is_found_as tag.now words.entry (last_at words.entry.id.now (option_copied message.entry) last) }
+{
+    let Some(message) = message else {
+        return before;
+    };
+    if has_id(message, words.id) {
+        has_words(message, tag, words)
+    } else {
+        before
+    }
 }
 
 // Whether it was posted here in this area, with these names and this subject.

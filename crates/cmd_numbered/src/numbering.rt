@@ -5,15 +5,18 @@ ghost use Rattle.base_folder.specs.Fetching.{IsUnread};
 ghost use Rattle.base_folder.specs.Source.{LooksAt};
 ghost use Rattle.echo_links.specs.Links.{upper};
 ghost use Rattle.echo_stored.specs.StoredMessage.{stored_bytes};
-ghost use Rattle.cmd_numbered.specs.Numbered.{ExportAnswers, before_numbers, behind_numbers, file_at, file_of, files_of, first_number, is_exported, is_last, is_purged, is_same_stored, resumed};
+ghost use Rattle.cmd_numbered.specs.Numbered.{ExportAnswers, IsExport, before_numbers, behind_numbers, file_at, file_of, files_of, first_number, is_exported, is_last, is_purged, is_same_stored, resumed};
+ghost use Rattle.cmd_numbered.specs.Reading.{AnswersReading};
 
 use crate::names::file_name;
+use crate::reading::messages_of;
 use base_folder::{MessageSource, fetch_message};
 use cmd_status::Fault;
 use echo_addr::Items;
 use echo_filed::{Filed, is_stub};
 use echo_stored::push_stored;
 use std::alloc::{AllocError, Global};
+use std::hash::BuildHasher;
 
 /// A file that is to be made: its name in the folder, the number of its message in the base, and its bytes.
 #[derive(Debug, Drop)]
@@ -30,10 +33,26 @@ pub struct Exported {
     pub end: u64,
 }
 
-/// `export --msg DIR --area TAG [--from I] BASE`: the messages of the area as files, from the number `first` on, of
-/// the base with this path. If the last file of the folder is one of these messages, they start after it: so a stopped
-/// run continues. `greatest` is the number of that file, 0 if there is none.
-pub fn export_files<'a, M: MessageSource>(
+/// `export --msg DIR --area TAG [--from I] BASE`: the messages of the area as files, from the number `first` on. If
+/// the last file of the folder is one of these messages, they start after it: so a stopped run continues. `greatest`
+/// is the number of that file, 0 if there is none.
+pub fn export_files<'a, S: BuildHasher + Drop>(
+    alloc: Global,
+    area: &[u8],
+    first: u64,
+    greatest: u32,
+    last: Option<&[u8]>,
+    base: &[u8],
+    hasher: S,
+) -> Result<Exported, Fault<'a>>
+    ensures { ExportAnswers area.now first greatest (option_copied last.entry) base.now result }
+{
+    let mut messages = messages_of(alloc, base, hasher)?;
+    export_files_of(alloc, area, first, greatest, last, "", &mut messages)
+}
+
+/// The same of messages that are read one by one, of the base with this path.
+pub fn export_files_of<'a, M: MessageSource>(
     alloc: Global,
     area: &[u8],
     first: u64,
@@ -44,7 +63,7 @@ pub fn export_files<'a, M: MessageSource>(
 ) -> Result<Exported, Fault<'a>>
     requires { (M.state messages.old).is_ready }
     ensures { (M.state messages.new).is_honest → (base : Base) → (M.state messages.old).holds base
-        → ExportAnswers area.now first greatest (option_copied last.entry) base path.now (M.state messages.old).failures (M.state messages.new).failures result }
+        → AnswersReading (IsExport area.now first greatest (option_copied last.entry) base) path.now (M.state messages.old).failures (M.state messages.new).failures result }
 {
     let area = area.to_ascii_uppercase(alloc)?;
     let count = messages.count();
@@ -169,6 +188,14 @@ fn behind_numbers(bytes: &[u8]) -> &[u8]
     }
 }
 
+// Which messages become files: those of the area from the number `first` on. Those before the cursor were scanned.
+#[derive(Clone, Copy)]
+struct Wanted<'a> {
+    area: &'a [u8],
+    first: u64,
+    cursor: usize,
+}
+
 // The files of the messages.
 fn files_of<'a, M: MessageSource>(
     alloc: Global,
@@ -188,12 +215,16 @@ fn files_of<'a, M: MessageSource>(
 {
     let count = messages.count();
     let cursor = messages.cursor();
+    let wanted = Wanted {
+        area,
+        first,
+        cursor,
+    };
     let mut files = Vec::new(alloc);
     'messages: for i in 0..count {
         fetch_message(messages, path, i)?;
         let next = u128::from(number) + files.len() as u128;
-        let message = messages.at_hand();
-        push_file(alloc, &mut files, area, first, cursor, next, i, message)?;
+        push_file(alloc, &mut files, wanted, next, i, messages.at_hand())?;
     }
     Ok(files)
 }
@@ -202,22 +233,20 @@ fn files_of<'a, M: MessageSource>(
 fn push_file(
     alloc: Global,
     files: &mut Vec<MessageFile>,
-    area: &[u8],
-    first: u64,
-    cursor: usize,
+    wanted: Wanted<'_>,
     number: u128,
     i: usize,
     message: Option<&Filed>,
 ) -> Result<(), AllocError>
-    ensures { OnOk result (files.new.items ≡ files.old.items ++ file_at area.now first cursor number i (option_copied message.entry)) }
+    ensures { OnOk result (files.new.items ≡ files.old.items ++ file_at wanted.entry.area.now wanted.entry.first wanted.entry.cursor number i (option_copied message.entry)) }
 {
     let Some(message) = message else {
         return Ok(());
     };
-    if !is_exported(area, first, cursor, i, message) {
+    if !is_exported(wanted.area, wanted.first, wanted.cursor, i, message) {
         return Ok(());
     }
-    let file = file_of(alloc, cursor, number, i, message)?;
+    let file = file_of(alloc, wanted.cursor, number, i, message)?;
     files.push(file)?;
     Ok(())
 }

@@ -11,7 +11,7 @@ use crate::locked::{begun_again, locked_headers};
 use crate::named::{bytes_of, jam_fault, open_file, open_or_make, write_at};
 use base_folder::MessageSource;
 use cmd_input::{is_folder, load_base, look_into};
-use cmd_numbered::{JamBase, JamEnd, JamExport, export_jam, tell_added, tell_cuts};
+use cmd_numbered::{JamBase, JamEnd, JamExport, export_jam_of, tell_added, tell_cuts};
 use cmd_status::{Fault, Status, ended, number_of};
 use cmd_words::ExportWords;
 use disk_io::Sink;
@@ -112,7 +112,7 @@ fn jam_under<'a, M: MessageSource>(
         end: files.end,
     };
     let area = words.area.unwrap_or("").as_bytes();
-    let exported = export_jam(rt.alloc(), area, first, jam, words.base, messages)?;
+    let exported = export_jam_of(rt.alloc(), area, first, jam, words.base, messages)?;
     Ok((files, exported))
 }
 

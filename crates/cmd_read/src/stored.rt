@@ -6,7 +6,7 @@ use base_folder::MessageSource;
 use cmd_input::{
     folder_fault, is_folder, load_base, locked_folder, look_into, output_fault, read_file,
 };
-use cmd_numbered::{Exported, MessageFile, export_files, is_left, number_in, tell_exported};
+use cmd_numbered::{Exported, MessageFile, export_files_of, is_left, number_in, tell_exported};
 use cmd_status::{Fault, Status, ended, number_of};
 use cmd_words::ExportWords;
 use disk_io::Sink;
@@ -89,7 +89,7 @@ fn files_under<'a, M: MessageSource>(
     requires { (M.state messages.old).is_ready }
 {
     let (greatest, last) = last_stored(rt, folder)?;
-    let exported = export_files(
+    let exported = export_files_of(
         rt.alloc(),
         words.area.unwrap_or("").as_bytes(),
         first,

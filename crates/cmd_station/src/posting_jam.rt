@@ -4,8 +4,8 @@ ghost use Rattle.std.specs.Prelude.{◌≡◌, None};
 use crate::changing::{Asked, PostEnd, post_at};
 use crate::place::Place;
 use base_file::BaseFault;
-use cmd_input::{LinkLock, base_bytes, moment_of, serial_from};
-use cmd_numbered::{PostedWords, is_posted, own_serial};
+use cmd_input::{LinkLock, is_folder, look_into, moment_of, read_file, serial_from};
+use cmd_numbered::{PostedWords, is_posted, is_posted_of, own_serial};
 use cmd_report::NewMessage;
 use cmd_status::{Fault, FileLock};
 use cmd_store::Post;
@@ -125,9 +125,14 @@ impl<'a> JamPoster<'a> {
             from_name: draft.from_name,
             subject: draft.subject,
         };
+        let base = self.place.base;
+        if is_folder(self.rt, base) {
+            let mut messages = look_into(self.rt, base, 0, None)?;
+            return is_posted_of(self.rt.alloc(), words, base, &mut messages);
+        }
         let hasher = RandomState::new(self.rt).map_err(|_| Fault::Base(BaseFault::Read))?;
-        let base = base_bytes(self.rt, self.place.base)?;
-        is_posted(self.rt.alloc(), words, &base, hasher)
+        let bytes = read_file(self.rt, base, usize::MAX)?;
+        is_posted(self.rt.alloc(), words, &bytes, hasher)
     }
 }
 

@@ -5,8 +5,11 @@ ghost use Rattle.std.specs.Prelude.{◌≡◌, None};
 use crate::changing::{Asked, change};
 use crate::place::Place;
 use base_file::BaseFault;
-use cmd_input::{LinkLock, MAX_TEXT_FILE, base_bytes, moment_of, read_standard_input, serial_from};
-use cmd_numbered::{Answered, find_answered};
+use cmd_input::{
+    LinkLock, MAX_TEXT_FILE, is_folder, look_into, moment_of, read_file, read_standard_input,
+    serial_from,
+};
+use cmd_numbered::{Answered, find_answered, find_answered_of};
 use cmd_status::{Fault, FileLock, Status};
 use cmd_store::{LetterFault, MailDefaults, MailWords, PostMail};
 use cmd_words::PostMailWords;
@@ -99,8 +102,12 @@ fn answered_message<'a>(
     if !fs::exists(rt, base).unwrap_or(true) {
         return Ok(None);
     }
+    if is_folder(rt, base) {
+        let mut messages = look_into(rt, base, 0, None)?;
+        return find_answered_of(rt.alloc(), id.as_slice(), base, &mut messages);
+    }
     let hasher = RandomState::new(rt).map_err(|_| Fault::Base(BaseFault::Read))?;
-    let bytes = base_bytes(rt, base)?;
+    let bytes = read_file(rt, base, usize::MAX)?;
     find_answered(rt.alloc(), id.as_slice(), &bytes, hasher)
 }
 

@@ -1,9 +1,9 @@
-use Rattle.std.proofs.Common.{◌≡◌, ◌∙◌, ◌+◌, ◌≤◌, ℕ, add-one, ap, arith, length, refl, subst, sym}
+use Rattle.std.proofs.Common.{◌≡◌, ◌∙◌, ℕ, add-one, arith, length, subst, sym}
 use Rattle.base_folder.proofs.Fetchings.{unread_since}
 use Rattle.base_folder.proofs.Lookings.{err_is}
 use Rattle.base_folder.proofs.Readings.{looks_on}
 use Rattle.base_folder.specs.Fetching.{IsUnread}
-use Rattle.cmd_numbered.specs.JamAdded.{Added, added_at, added_in, added_of}
+use Rattle.cmd_numbered.specs.JamAdded.{added_at, added_in, added_of}
 use Rattle.cmd_numbered.proofs.adding.added_of.Goals as goal
 
 pub messages-init : goal.messages-init

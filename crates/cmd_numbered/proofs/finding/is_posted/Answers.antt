@@ -1,4 +1,9 @@
+use Rattle.std.proofs.Common.{refl}
+use Rattle.cmd_numbered.specs.Finding.{IsPostedAs}
+use Rattle.cmd_numbered.proofs.Readings.{of_file}
 use Rattle.cmd_numbered.proofs.finding.is_posted.Goals as goal
 
 pub returns : goal.returns
-returns g c = c.is_posted_in.ensures _ c.in_ok-base.ensures.ok
+returns g c =
+    let base = c.in_ok-messages.messages.base in
+    of_file (IsPostedAs c.args.words) _ c.args.base.now base c.is_posted_of.result c.in_ok-messages.ensures.ok (c.is_posted_of.ensures tt base (refl, refl))

@@ -1,4 +1,4 @@
-use Rattle.std.proofs.Common.{◌≡◌, ◌∙◌, ◌+◌, ◌++◌, ◌≤◌, ℕ, List, add-one, ap, arith, length, option_copied, refl, rules, subst, sym}
+use Rattle.std.proofs.Common.{◌≡◌, ◌∙◌, ◌+◌, ◌++◌, ℕ, List, add-one, ap, arith, length, option_copied, rules, subst, sym}
 use Rattle.base_folder.proofs.Fetchings.{unread_since}
 use Rattle.base_folder.proofs.Lookings.{err_is}
 use Rattle.base_folder.proofs.Readings.{looks_on}
@@ -51,12 +51,12 @@ messages-preserved g c =
       later = omega (arith, c.messages.invariant.later, c.fetch_message.ensures.later);
       so_far = λ honest base held.
           let before = c.messages.invariant.so_far (looks.honest honest) base held in
-          let here = c.at_hand-message.ensures ∙ c.in_ok-fetch_message.ensures.fetched honest base (c.messages.invariant.held base held) in
+          let here = c.at_hand.ensures ∙ c.in_ok-fetch_message.ensures.fetched honest base (c.messages.invariant.held base held) in
           let at = c.cursor-cursor.ensures base held in
           let many : c.len.result ≡ length c.messages.files.items = search rules in
           let number : c.from.result ≡ c.args.number = search rules in
           let next = (λ k. number k + many k) ∙ ap (λ (l : List MessageFile). c.args.number + length l) before in
-          rw add-one (c.in_ok-push_file.ensures ∙ ap (λ (l : List MessageFile). l ++ file_at c.args.area.now c.args.first c.cursor-cursor.result (c.from.result + c.len.result) i (option_copied c.at_hand-message.result)) before
+          rw add-one (c.in_ok-push_file.ensures ∙ ap (λ (l : List MessageFile). l ++ file_at c.args.area.now c.args.first c.cursor-cursor.result (c.from.result + c.len.result) i (option_copied c.at_hand.result)) before
           ∙ (λ k. files_of c.args.area.now c.args.first base.cursor c.args.number base.messages i ++ file_at c.args.area.now c.args.first (at k) (next k) i (here k)));
     }
 

@@ -1,0 +1,16 @@
+-- What the last message so far with the id gives.
+use Rattle.std.proofs.Common.{◌≡◌, ◌≤◌}
+use Rattle.std.specs.Option.{option_map}
+use Rattle.base_file.specs.Base.{Base}
+use Rattle.cmd_numbered.specs.Finding.{answered_as, last_with}
+use Rattle.cmd_numbered.proofs.finding.find_answered_of.Given as goal
+
+abbrev pub invariant-messages : goal.invariant-messages
+invariant-messages g l = record {
+  ready : (g.M.MessageSource.state l.messages).is_ready;
+  many : (g.M.MessageSource.state l.messages).count ≡ l.count;
+  honest : (g.M.MessageSource.state l.messages).is_honest → (g.M.MessageSource.state l.fn.messages).is_honest;
+  held : (base : Base) → (g.M.MessageSource.state l.fn.messages).holds base → (g.M.MessageSource.state l.messages).holds base;
+  later : (g.M.MessageSource.state l.fn.messages).failures ≤ (g.M.MessageSource.state l.messages).failures;
+  so_far : (g.M.MessageSource.state l.messages).is_honest → (base : Base) → (g.M.MessageSource.state l.fn.messages).holds base → l.found ≡ option_map answered_as (last_with l.id base.messages l.i);
+}
