@@ -25,12 +25,12 @@ use Rattle.station.specs.Place.{KeepsElsewhere, Place, StandsOrWasLeft}
 use Rattle.station.specs.Running.{IsNotRun, IsStopped}
 use Rattle.station_scan.specs.Left.{IsLeftOf}
 use Rattle.station_scan.specs.Publishing.{UnchangedExcept}
-use Rattle.station_scan.specs.Scanning.{AreSentOut, IsOnItsWay, IsPutAs, IsPutIn, IsTaken, IsTouched, MayLeave, ScansIn}
+use Rattle.station_scan.specs.Scanning.{AreSentOut, IsOnItsWay, IsPreparing, IsPutAs, IsPutIn, IsTaken, IsTouched, MayLeave, ScansIn, StopsScanIn, TellsStop, packets_in}
 use Rattle.station_scan.specs.Sending.{HasBytes, IsStagingOfPacket, IsOfPacket, StandsWhole}
 use Rattle.station_scan.specs.Sends.{IsOfThese}
 use Rattle.station_scan.specs.Stops.{IsOfPlacing, as_scan, most}
 use Rattle.station_scan.specs.declared.scan_error.ScanError.{ScanError}
-use Rattle.station_scan.specs.declared.scan_error.ScanError.TheVariants.{Command}
+use Rattle.station_scan.specs.declared.scan_error.ScanError.TheVariants.{Command, Staying}
 use Rattle.law_stations.specs.Nets.{Station, bytes_of, with_base, with_left}
 use Rattle.law_stations.specs.Disks.{Disks, HasCursor, cursor_of}
 use Rattle.law_stations.specs.Stopping.{EndsSome, HasNoneStaged, Moves, staging_of}
@@ -110,6 +110,25 @@ module _ (stamp : Stamp) (place : Place) (links outbound : List ℕ) (i : ℕ) (
   was-left c (inl alone) = inr (as-it-was c (same-links-in c (opened-away c (inl alone))) alone.stands)
   was-left c (inr was) = inl was
 
+  -- the steps before the commit
+  module _ (own : List ℕ) (files : List PacketFile) (found : List Left) (is_true : Type 0) (each : All (IsLeftOf is_true place.is_own outbound own) found) where
+    prepares-away : (c : Files) → IsPreparing place outbound own old base found files c → SameAway c
+    prepares-away c (before, opens, prepares) m off named flushed =
+        prepares.writes m (staging-away place.is_own outbound own files m off)
+        ∙ prepares.ends.others m (left-away is_true place.is_own outbound own found each m off)
+        ∙ opened-away before opens m off named flushed
+
+    prepares-shows : (c : Files) → IsPreparing place outbound own old base found files c → ShowsStation place links i c d
+    prepares-shows c prepares = as-it-was c (same-links-in c (prepares-away c prepares)) prepares.2.stands
+
+    may-prepare-away : (c : Files) → old.may_leave c ⊎ IsPreparing place outbound own old base found files c → SameAway c
+    may-prepare-away c (inl was) m off named flushed = old.on_disk m named flushed c was
+    may-prepare-away c (inr prepares) m off named flushed = prepares-away c prepares m off named flushed
+
+    may-prepare : (c : Files) → old.may_leave c ⊎ IsPreparing place outbound own old base found files c → old.may_leave c ⊎ ShowsStation place links i c d
+    may-prepare c (inl was) = inl was
+    may-prepare c (inr prepares) = inr (prepares-shows c prepares)
+
   module _ (file : LinkFile) (says : LinksOf at.shows.station.links (Ok file)) (files : List PacketFile) (out out_now : Output) (answers : ScansOn stamp (state_in file base) out out_now (Ok files)) where
     abbrev own : List ℕ
     own = dotted file.system
@@ -170,10 +189,7 @@ module _ (stamp : Stamp) (place : Place) (links outbound : List ℕ) (i : ℕ) (
     module _ (IsTrue : Files → Type 0) (failed : Type 0) (result : Result (Unit {0}) ScanError) (put : IsPutIn place outbound own IsTrue failed old new base files result) where
       -- files on the way
       way-away : (c : Files) → IsOnItsWay place outbound own old base put.found files put.opened c → SameAway c
-      way-away c (inl (before, opens, prepares)) m off named flushed =
-          prepares.writes m (staging-away place.is_own outbound own files m off)
-          ∙ prepares.ends.others m (left-away (IsTrue put.opened) place.is_own outbound own put.found put.each m off)
-          ∙ opened-away before opens m off named flushed
+      way-away c (inl prepares) m off named flushed = prepares-away own files put.found (IsTrue put.opened) put.each c prepares m off named flushed
       way-away c (inr commits) m off named flushed =
           let off_left = left-away (IsTrue put.opened) place.is_own outbound own put.found put.each m off in
           commits.others m (these-away place.is_own outbound own files m off) (inl ((named, flushed), off_left))
@@ -181,7 +197,7 @@ module _ (stamp : Stamp) (place : Place) (links outbound : List ℕ) (i : ℕ) (
           ∙ put.elsewhere m (λ of. off (inl of))
 
       on-way : (c : Files) → IsOnItsWay place outbound own old base put.found files put.opened c → ShowsStation place links i c d ⊎ AreAfterScan stamp place links outbound i d ended base c
-      on-way c (inl prepares) = inl (as-it-was c (same-links-in c (way-away c (inl prepares))) prepares.2.stands)
+      on-way c (inl prepares) = inl (prepares-shows own files put.found (IsTrue put.opened) put.each c prepares)
       on-way c (inr commits) =
           let linked = same-links-in c (way-away c (inr commits)) in
           elim commits.either [
@@ -249,31 +265,46 @@ module _ (stamp : Stamp) (place : Place) (links outbound : List ℕ) (i : ℕ) (
   abbrev Lasts : Result (Unit {0}) ScanError → Type 0
   Lasts result = ((fault : Fault) → result ≡ Err (Command (Met fault)) → ⊥) → (c : Files) → new.may_leave c → ShowsStation place links i c d ⊎ AreAfterScan stamp place links outbound i d ended base c
 
-  stopped-so : (result : Result (Unit {0}) ScanError) (why : ScanError) → result ≡ Err why → LeavesOnly old new (StandsOrWasLeft place old base) → Lasts result
-      → ScansAsEvent stamp place links outbound i d ended base old new result
-  stopped-so result why is leaves lasts = record {
-    crash = λ c since. ⊎_elim (λ was. inl was) (λ shows. inr (inl shows)) (was-left c (leaves.each c since));
+  stopped-so : (result : Result (Unit {0}) ScanError) (why : ScanError) (P : Files → Type 0) → result ≡ Err why → LeavesOnly old new P → ((c : Files) → P c → SameAway c)
+      → ((c : Files) → P c → old.may_leave c ⊎ ShowsStation place links i c d) → Lasts result → ScansAsEvent stamp place links outbound i d ended base old new result
+  stopped-so result why P is leaves same shows lasts = record {
+    crash = λ c since. ⊎_elim (λ was. inl was) (λ as_was. inr (inl as_was)) (shows c (leaves.each c since));
     done = λ ok. absurd (cc (sym ok ∙ is));
     on_disk = λ ok. absurd (cc (sym ok ∙ is));
     lasts = lasts;
-    stopped = λ fault met c since. was-left c (leaves.each c since);
+    stopped = λ fault met c since. shows c (leaves.each c since);
     same_links = same-links;
     linked = still-linked;
-    elsewhere = record { crash = λ c since. inr (opened-away c (leaves.each c since)); keeps = keeps-elsewhere };
+    elsewhere = record { crash = λ c since. inr (same c (leaves.each c since)); keeps = keeps-elsewhere };
   }
 
+  -- what it reported
+  told-as : (own : List ℕ) (files : List PacketFile) (failed : Type 0) (before after : Files) (why : CommandError) (result : Result (Unit {0}) ScanError) → TellsStop failed outbound own files before after why result
+      → (cause : ScanError) × (result ≡ Err cause)
+  told-as own files failed before after why result (inl (is, gone)) = (Command why, is)
+  told-as own files failed before after why result (inr (left, is, cause)) = (Staying left, is)
+
+  -- where it stopped while its packets were made
+  stopped-in : (own : List ℕ) (files : List PacketFile) (IsTrue : Files → Type 0) (failed : Type 0) (why : CommandError) (result : Result (Unit {0}) ScanError) → StopsScanIn place outbound own IsTrue failed old new base files why result
+      → ScansAsEvent stamp place links outbound i d ended base old new result
+  stopped-in own files IsTrue failed why result stops =
+      let is_true = IsTrue stops.opened in
+      let (cause, is) = told-as own files failed stops.opened new.seen why result stops.told in
+      stopped-so result cause (λ c. old.may_leave c ⊎ IsPreparing place outbound own old base stops.found files c) is stops.crash (may-prepare-away own files stops.found is_true stops.each) (may-prepare own files stops.found is_true stops.each)
+      (λ met c left. inl (prepares-shows own files stops.found is_true stops.each c (stops.lasts c left)))
+
   made-so : (file : LinkFile) → LinksOf at.shows.station.links (Ok file) → (out out_now : Output) (IsTrue : Files → Type 0) (failed : Type 0) (result : Result (Unit {0}) ScanError) (made : Result (List PacketFile) CommandError)
-      → ScansOn stamp (state_in file base) out out_now made → IsPutAs place outbound (dotted file.system) IsTrue failed old new base made result → ScansAsEvent stamp place links outbound i d ended base old new result
+      → ScansOn stamp (state_in file base) out out_now made → IsPutAs place outbound (dotted file.system) IsTrue failed old new base (packets_in stamp file base) made result → ScansAsEvent stamp place links outbound i d ended base old new result
   made-so file says out out_now IsTrue failed result (Ok files) answers put = put-so file says files out out_now answers IsTrue failed result put
-  made-so file says out out_now IsTrue failed result (Err why) answers put = stopped-so result (Command why) put.0 put.1.crash (λ met c left. inl (as-it-was c (left-links c left) (put.1.stands c left)))
+  made-so file says out out_now IsTrue failed result (Err why) answers put = stopped-in (dotted file.system) (packets_in stamp file base) IsTrue failed why result put
 
   -- where it was not run
   not-run : (IsShut Stops : Fault → Type 0) (out out_now : Output) (result : Result (Unit {0}) ScanError) (stopped : Result (Unit {0}) CommandError) → result ≡ as_scan stopped
       → IsNotRun place IsShut old new out out_now stopped ⊎ IsStopped place Stops old new out out_now stopped → ScansAsEvent stamp place links outbound i d ended base old new result
   not-run IsShut Stops out out_now result stopped is (inl shut) =
-      let shut_by = is ∙ ap as_scan shut.is in stopped-so result (Command (Met shut.fault)) shut_by (shut.crash base at.shows.stands) (λ met. absurd (met shut.fault shut_by))
+      let shut_by = is ∙ ap as_scan shut.is in stopped-so result (Command (Met shut.fault)) (StandsOrWasLeft place old base) shut_by (shut.crash base at.shows.stands) opened-away was-left (λ met. absurd (met shut.fault shut_by))
   not-run IsShut Stops out out_now result stopped is (inr by) =
-      let stopped_by = is ∙ ap as_scan by.is in stopped-so result (Command (Met by.fault)) stopped_by (by.stands base at.shows.stands).crash (λ met. absurd (met by.fault stopped_by))
+      let stopped_by = is ∙ ap as_scan by.is in stopped-so result (Command (Met by.fault)) (StandsOrWasLeft place old base) stopped_by (by.stands base at.shows.stands).crash opened-away was-left (λ met. absurd (met by.fault stopped_by))
 
   ran : (Reads : LinkFile → Type 0) (IsShut Stops : Fault → Type 0) (out out_now : Output) (IsTrue : Files → Type 0) (failed : Type 0) (result : Result (Unit {0}) ScanError) → ReadsLinks Reads links old
       → ScansIn stamp place outbound IsTrue Reads IsShut Stops failed old new out out_now result → ScansAsEvent stamp place links outbound i d ended base old new result

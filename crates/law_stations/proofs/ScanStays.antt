@@ -10,7 +10,7 @@ use Rattle.model_steps.specs.declared.stamp.Stamp.{Stamp}
 use Rattle.cmd_store.specs.declared.command_error.CommandError.{CommandError}
 use Rattle.cmd_store.specs.declared.command_error.CommandError.TheVariants.{Met}
 use Rattle.station.specs.Place.{Place}
-use Rattle.station.specs.Running.{IsNotRun, IsStopped, StandsAsBefore}
+use Rattle.station.specs.Running.{IsNotRun, IsStopped}
 use Rattle.station_scan.specs.Publishing.{UnchangedExcept}
 use Rattle.station_scan.specs.Scanning.{IsPutAs, IsTaken, IsTouched, ScansIn}
 use Rattle.station_scan.specs.Stops.{IsOfPlacing, as_scan, most}
@@ -28,17 +28,17 @@ module _ (place : Place) (outbound links : List ℕ) (i : ℕ) (d : Disks) (old 
   shows : (c : Files) → c links ≡ old.seen links → place.stands_for at.shows.station.base c → ShowsStation place links i c d
   shows c same stands = record { station = at.shows.station; there = at.shows.there; of_links = same ∙ at.shows.of_links; stands = stands }
 
-  as-before : StandsAsBefore place old new at.shows.station.base → IsAsBefore place links i d new
-  as-before it = record {
-    at = record { shows = shows new.seen (kept.seen links away) it.seen; linked = linked; outside = at.outside };
-    on_disk = λ c left. shows c (new.on_disk links linked.named linked.flushed c left ∙ kept.seen links away) (it.stands c left);
+  as-before : place.stands_for at.shows.station.base new.seen → ((c : Files) → new.may_leave c → place.stands_for at.shows.station.base c) → IsAsBefore place links i d new
+  as-before seen stands = record {
+    at = record { shows = shows new.seen (kept.seen links away) seen; linked = linked; outside = at.outside };
+    on_disk = λ c left. shows c (new.on_disk links linked.named linked.flushed c left ∙ kept.seen links away) (stands c left);
   }
 
   module _ (IsTrue : Files → Type 0) (IsShut Stops : Fault → Type 0) (failed : Type 0) (result : Result (Unit {0}) ScanError) (fault : Fault) (is : result ≡ Err (Command (Met fault))) where
     -- no placing meets a fault
-    put-so : (own : List ℕ) (made : Result (List PacketFile) CommandError) → IsPutAs place outbound own IsTrue failed old new at.shows.station.base made result → StandsAsBefore place old new at.shows.station.base
-    put-so own (Ok files) put = absurd (subst (λ (r : Result (Unit {0}) ScanError). IfErr r (IsOfPlacing failed (IsTaken place.is_own outbound own at.shows.station.base.cursor put.found files put.opened) (most < at.shows.station.base.cursor))) is put.why)
-    put-so own (Err why) put = put.1
+    put-so : (own : List ℕ) (packets : List PacketFile) (made : Result (List PacketFile) CommandError) → IsPutAs place outbound own IsTrue failed old new at.shows.station.base packets made result → IsAsBefore place links i d new
+    put-so own packets (Ok files) put = absurd (subst (λ (r : Result (Unit {0}) ScanError). IfErr r (IsOfPlacing failed (IsTaken place.is_own outbound own at.shows.station.base.cursor put.found files put.opened) (most < at.shows.station.base.cursor))) is put.why)
+    put-so own packets (Err why) put = as-before put.shown (λ c left. (put.lasts c left).2.stands)
 
     abbrev is-shut-by : ScanError → Type 0
     is-shut-by (Command (Met why)) = IsShut why
@@ -48,11 +48,11 @@ module _ (place : Place) (outbound links : List ℕ) (i : ℕ) (d : Disks) (old 
         → IsAsBefore place links i d new ⊎ IsShut fault
     not-run out out_now stopped one (inl shut) =
         inr (subst (λ (r : Result (Unit {0}) ScanError). IfErr r is-shut-by) (sym (one ∙ ap as_scan shut.is) ∙ is) shut.cause)
-    not-run out out_now stopped one (inr by) = inl (as-before (by.stands at.shows.station.base at.shows.stands))
+    not-run out out_now stopped one (inr by) = let was = by.stands at.shows.station.base at.shows.stands in inl (as-before was.seen was.stands)
 
     stays : (stamp : Stamp) (Reads : LinkFile → Type 0) (out out_now : Output) → ScansIn stamp place outbound IsTrue Reads IsShut Stops failed old new out out_now result → IsAsBefore place links i d new ⊎ IsShut fault
     stays stamp Reads out out_now (inl run) =
-        let on = run.runs at.shows.station.base at.shows.stands in inl (as-before (put-so _ on.made on.put))
+        let on = run.runs at.shows.station.base at.shows.stands in inl (put-so _ _ on.made on.put)
     stays stamp Reads out out_now (inr not) = not-run out out_now not.stopped not.is not.not_run
 
 pub scan-stays : (stamp : Stamp) (place : Place) (outbound : List ℕ) (IsTrue : Files → Type 0) (Reads : LinkFile → Type 0) (IsShut Stops : Fault → Type 0) (failed : Type 0) (old new : DiskState) (out out_now : Output) (result : Result (Unit {0}) ScanError)

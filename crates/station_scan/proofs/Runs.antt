@@ -4,7 +4,7 @@ use Rattle.std.specs.Prelude.{OnOk, get_or}
 use Rattle.base_file.specs.Base.{Base}
 use Rattle.disk_io.specs.Disk.{DiskState, Files}
 use Rattle.disk_io.specs.Runs.{ChangesNothing, LeavesOnly, OneStepOn}
-use Rattle.disk_io.proofs.Moments.{left_now, nothing_twice, then_nothing, then_run, weaker_run}
+use Rattle.disk_io.proofs.Moments.{left_now, then_nothing, then_run, weaker_run}
 use Rattle.echo_links.specs.Links.{LinkFile}
 use Rattle.disk_atomic.specs.declared.finishing.Left.{Left}
 use Rattle.disk_atomic.specs.StagingPaths.{dotted, staging_path}
@@ -15,13 +15,13 @@ use Rattle.base_store.specs.Store.{StoreState, all_scanned}
 use Rattle.cmd_store.specs.declared.command_error.CommandError.{CommandError}
 use Rattle.station.specs.Opening.{IsOpenFor}
 use Rattle.station.specs.Place.{IsOfPlace, KeepsElsewhere, Place, StandsAlone, StandsOrWasLeft}
-use Rattle.station.proofs.Ran.{stopped_on}
 use Rattle.station_scan.specs.Fitting.{AreFit}
 use Rattle.station_scan.specs.Left.{AreAllLeft, IsLeftOf}
 use Rattle.station_scan.specs.Publishing.{IsOnDisk, UnchangedExcept, KeepsStoreBut}
-use Rattle.station_scan.specs.Scanning.{AreSentOut, CommitsScan, IsPutAs, IsOnItsWay, IsPutIn, IsPutOn, IsScanOn, IsTaken, IsTouched, MayLeave, PreparesScan, ScansOnStore, SendsOut}
+use Rattle.station_scan.specs.Scanning.{AreSentOut, CommitsScan, IsPutAs, IsOnItsWay, IsPreparing, IsPutIn, IsPutOn, IsScanOn, IsTaken, IsTouched, MayLeave, PreparesScan, ScansOnStore, SendsOut, StopsScan, StopsScanIn, TellsStop, packets_in}
 use Rattle.station_scan.specs.Sends.{IsOfThese}
 use Rattle.station_scan.specs.declared.scan_error.ScanError.{ScanError}
+use Rattle.station_scan.specs.declared.scan_error.ScanError.TheVariants.{Staying}
 use Rattle.station_scan.proofs.Lefts.{finishes_none}
 use Rattle.station_scan.proofs.Looked.{same_seen}
 use Rattle.station_scan.proofs.Published.{keeps_nothing, keeps_then, keeps_wider}
@@ -85,6 +85,56 @@ module _ (place : Place) (d0 d2 : DiskState) (s1 s2 : StoreState) (begun : IsOpe
     abbrev Comes : Files → Type 0
     Comes = place.stands_for (all_scanned base)
 
+    -- the steps before the commit
+    module _ (files : List PacketFile) (found : List Left) where
+      abbrev Prepares : Files → Type 0
+      Prepares = IsPreparing place outbound own d0 base found files
+
+      abbrev Prepares_on : Files → Type 0
+      Prepares_on = OneStepOn (PreparesScan outbound own (s1.stands base) base.cursor found files) s1.disk
+
+      opened_prepares : (c : Files) → StandsOrWasLeft place d0 base c → d0.may_leave c ⊎ Prepares c
+      opened_prepares c left =
+          ⊎_elim
+          (λ (alone : StandsAlone place d0 base c). inr (c, inl alone, record { between = c; ends = finishes_none base.cursor found c; writes = λ m other. refl; stands = alone.stands }))
+          (λ was. inl was)
+          left
+
+      prepared_on : (c : Files) → Prepares_on c → Prepares c
+      prepared_on c step =
+          let prep = step.2 in (
+            step.0,
+            left_now d0 s1.disk (StandsOrWasLeft place d0 base) (begun.run base stands) step.0 step.1,
+            record { between = prep.between; ends = prep.ends; writes = prep.writes; stands = (of.stands base c).0 prep.stands },
+          )
+
+      stopped_crash : LeavesOnly s1.disk s2.disk Prepares_on → LeavesOnly d0 d2 (λ c. d0.may_leave c ⊎ Prepares c)
+      stopped_crash crash =
+          let May : Files → Type 0 = λ c. d0.may_leave c ⊎ Prepares c in
+          then_nothing d0 s2.disk d2 May
+          (then_run d0 s1.disk s2.disk May Prepares_on (weaker_run d0 s1.disk (StandsOrWasLeft place d0 base) May (begun.run base stands) opened_prepares) crash (λ c on. inr (prepared_on c on)))
+          quiet
+
+    -- what is reported where it stopped
+    stopped_told : (files : List PacketFile) (some failed : Type 0) (why : CommandError) (result : Result (Unit {0}) ScanError) → (some → failed) → TellsStop some outbound own files s1.disk.seen s2.disk.seen why result
+        → TellsStop failed outbound own files s1.disk.seen d2.seen why result
+    stopped_told files some failed why result wider (inl (is, gone)) = inl (is, λ m at. ⊎_elim (λ none. inl (quiet.seen m ∙ none)) (λ same. inr (quiet.seen m ∙ same)) (gone m at))
+    stopped_told files some failed why result wider (inr (left, is, cause)) = inr (left, is, put_wider some failed ⊥ ⊥ ⊥ (Err (Staying left)) wider (λ none. none) cause)
+
+    stopped_in : (files : List PacketFile) (IsTrue : Files → Type 0) (some failed : Type 0) (why : CommandError) (result : Result (Unit {0}) ScanError) → (some → failed)
+        → StopsScan (IsTrue s1.disk.seen) some Own outbound own (s1.stands base) base.cursor files s1.disk s2.disk why result → StopsScanIn place outbound own IsTrue failed d0 d2 base files why result
+    stopped_in files IsTrue some failed why result wider stops = record {
+      opened = s1.disk.seen;
+      elsewhere = of.elsewhere.seen;
+      found = stops.found;
+      each = λ k z lt. left_as Own place.is_own in_own outbound own (IsTrue s1.disk.seen) (get_or stops.found k z) (stops.each k z lt);
+      crash = stopped_crash files stops.found stops.crash;
+      lasts = λ c left. prepared_on files stops.found c (left_now s1.disk s2.disk (Prepares_on files stops.found) stops.crash c (quiet.no_more c left));
+      shown = subst Stays (sym (same_seen s2.disk d2 quiet)) ((of.stands base s2.disk.seen).0 stops.shown);
+      others = λ m other. quiet.seen m ∙ stops.others m other;
+      told = stopped_told files some failed why result wider stops.told;
+    }
+
     module _ (files : List PacketFile) (is_true : Type 0) (some : Type 0) (result : Result (Unit {0}) ScanError) (sends : SendsOut is_true some Own outbound own (s1.stands base) (s1.stands (all_scanned base)) base.cursor files s1.disk s2.disk result) where
       abbrev found : List Left
       found = sends.found
@@ -96,27 +146,16 @@ module _ (place : Place) (d0 d2 : DiskState) (s1 s2 : StoreState) (begun : IsOpe
       On_way = IsOnItsWay place outbound own d0 base found files s1.disk.seen
 
       abbrev Sends : Files → Type 0
-      Sends c = OneStepOn (PreparesScan outbound own (s1.stands base) base.cursor found files) s1.disk c
-          ⊎ CommitsScan Own outbound own (IsOnDisk s1.disk) (s1.stands base) (s1.stands (all_scanned base)) base.cursor found files s1.disk.seen c
+      Sends c = Prepares_on files found c ⊎ CommitsScan Own outbound own (IsOnDisk s1.disk) (s1.stands base) (s1.stands (all_scanned base)) base.cursor found files s1.disk.seen c
 
       opened_may : (c : Files) → StandsOrWasLeft place d0 base c → May c
-      opened_may c left =
-          ⊎_elim
-          (λ (alone : StandsAlone place d0 base c). inr (inl (c, inl alone, record { between = c; ends = finishes_none base.cursor found c; writes = λ m other. refl; stands = alone.stands })))
-          (λ was. inl was)
-          left
+      opened_may c left = ⊎_elim (λ was. inl was) (λ prepares. inr (inl prepares)) (opened_prepares files found c left)
 
       on_disk_still : (m : List ℕ) → (place.is_own m → ⊥) → IsOnDisk d0 m → IsOnDisk s1.disk m
       on_disk_still m out on = (of.elsewhere.named m out on.0, of.elsewhere.flushed m out on.1)
 
       sent_on : (c : Files) → Sends c → On_way c
-      sent_on c (inl step) =
-          let prep = step.2 in
-          inl (
-            step.0,
-            left_now d0 s1.disk (StandsOrWasLeft place d0 base) (begun.run base stands) step.0 step.1,
-            record { between = prep.between; ends = prep.ends; writes = prep.writes; stands = (of.stands base c).0 prep.stands },
-          )
+      sent_on c (inl step) = inl (prepared_on files found c step)
       sent_on c (inr with) = inr (record {
         between = with.between;
         ended = with.ended;
@@ -168,19 +207,18 @@ module _ (place : Place) (d0 d2 : DiskState) (s1 s2 : StoreState) (begun : IsOpe
       why = put_wider some failed _ _ _ result wider (taken_as Own place.is_own in_own outbound own base.cursor sends.found files s1.disk.seen own_in) sends.why;
     }
 
-    put_as : (IsTrue : Files → Type 0) (some failed : Type 0) (made : Result (List PacketFile) CommandError) (result : Result (Unit {0}) ScanError) → (some → failed) → s1.is_ready → s1.disk.is_honest
-        → IsPutOn Own outbound own IsTrue some s1 s2 base made result → IsPutAs place outbound own IsTrue failed d0 d2 base made result
-    put_as IsTrue some failed (Ok files) result wider ready honest sent = put_in files IsTrue some failed result wider sent
-    put_as IsTrue some failed (Err why) result wider ready honest sent =
-        (sent.0, stopped_on place d0 d2 s1 begun of (nothing_twice s1.disk s2.disk d2 sent.1 quiet) ready honest base stands)
+    put_as : (IsTrue : Files → Type 0) (some failed : Type 0) (packets : List PacketFile) (made : Result (List PacketFile) CommandError) (result : Result (Unit {0}) ScanError) → (some → failed)
+        → IsPutOn Own outbound own IsTrue some s1 s2 base packets made result → IsPutAs place outbound own IsTrue failed d0 d2 base packets made result
+    put_as IsTrue some failed packets (Ok files) result wider sent = put_in files IsTrue some failed result wider sent
+    put_as IsTrue some failed packets (Err why) result wider stops = stopped_in packets IsTrue some failed why result wider stops
 
   -- what is so of the scan
   pub scanned_on : (stamp : Stamp) (IsTrue : Files → Type 0) (some failed : Type 0) (out now : Output) (file : LinkFile) (base : Base) (result : Result (Unit {0}) ScanError) → place.stands_for base d0.seen → (some → failed)
-      → s1.is_ready → s1.disk.is_honest → ScansOnStore stamp Own outbound IsTrue some s1 s2 out now file base result → IsScanOn stamp place outbound IsTrue failed d0 d2 out now file base result
-  scanned_on stamp IsTrue some failed out now file base result stands wider ready honest scans = record {
+      → ScansOnStore stamp Own outbound IsTrue some s1 s2 out now file base result → IsScanOn stamp place outbound IsTrue failed d0 d2 out now file base result
+  scanned_on stamp IsTrue some failed out now file base result stands wider scans = record {
     made = scans.made;
     answer = scans.answer;
-    put = put_as (dotted file.system) base stands IsTrue some failed scans.made result wider ready honest scans.put;
+    put = put_as (dotted file.system) base stands IsTrue some failed (packets_in stamp file base) scans.made result wider scans.put;
     whole = scans.whole;
   }
 

@@ -1,23 +1,27 @@
 -- A scan of a store.
-use Rattle.std.proofs.Common.{◌≡◌, ◌<◌, ℕ, List, [], Result, Ok, arith, inl, refl, subst}
-use Rattle.std.specs.Prelude.{Err}
+use Rattle.std.proofs.Common.{◌≡◌, ◌<◌, ℕ, List, [], Result, Ok, arith, inl, inr, refl, subst, sym}
+use Rattle.std.specs.Prelude.{Err, IsErrOf}
 use Rattle.base_file.specs.Base.{Base}
 use Rattle.disk_io.specs.Disk.{DiskState, Files}
 use Rattle.disk_io.specs.Runs.{ChangesNothing}
-use Rattle.disk_io.proofs.Moments.{no_call}
+use Rattle.disk_io.proofs.Moments.{no_call, weaker_run}
 use Rattle.echo_links.specs.Links.{LinkFile}
 use Rattle.disk_atomic.specs.StagingPaths.{dotted}
 use Rattle.cmd_status.specs.Devices.{Output}
 use Rattle.model_steps.specs.PacketFiles.{PacketFile}
 use Rattle.model_steps.specs.declared.stamp.Stamp.{Stamp}
 use Rattle.base_store.specs.Store.{IsSameStore, StoreState, all_scanned}
+use Rattle.base_store.specs.declared.store_error.StoreError.TheVariants.{Damaged}
 use Rattle.cmd_store.specs.Scanned.{ScansOn}
+use Rattle.cmd_store.specs.declared.command_error.CommandError.{CommandError}
+use Rattle.cmd_store.specs.declared.command_error.CommandError.TheVariants.{Store}
 use Rattle.echo_toss.specs.PacketsIn.{state_in}
-use Rattle.station_scan.specs.Scanning.{IsTaken, ScansOnStore, SendsOut}
+use Rattle.station_scan.specs.Scanning.{IsTaken, ScansOnStore, SendsOut, StopsScan}
 use Rattle.station_scan.specs.Stops.{IsOfPlacing, most}
 use Rattle.station_scan.specs.declared.scan_error.ScanError.{ScanError}
+use Rattle.station_scan.specs.declared.scan_error.ScanError.TheVariants.{Command}
 use Rattle.station_scan.proofs.Lefts.{finishes_none}
-use Rattle.station_scan.proofs.Looked.{looked_out}
+use Rattle.station_scan.proofs.Looked.{looked_out, same_seen}
 use Rattle.station_scan.proofs.Stops.{put_whole}
 
 -- nothing was sent
@@ -48,3 +52,27 @@ scans_ok stamp Own outbound IsTrue some failed wider s1 sA s2 out now file base 
           (subst (λ (n : ℕ). SendsOut (IsTrue sA.disk.seen) some Own outbound own (sA.stands base) (sA.stands next) n files sA.disk s2.disk result) at sends);
       whole = put_whole some _ _ result sends.why;
     }
+
+-- it stopped, and nothing was written
+stops_quiet : (is_true failed : Type 0) (Own : List ℕ → Type 0) (outbound own : List ℕ) (cursor : ℕ) (files : List PacketFile) (s1 : StoreState) (new : DiskState) (base : Base) (why : CommandError)
+    → s1.disk.is_honest → s1.is_ready → s1.committed base → ChangesNothing s1.disk new → StopsScan is_true failed Own outbound own (s1.stands base) cursor files s1.disk new why (Err (Command why))
+stops_quiet is_true failed Own outbound own cursor files s1 new base why honest ready is quiet = record {
+  found = [];
+  each = λ k z lt. absurd (omega (arith, lt));
+  crash =
+      weaker_run s1.disk new s1.disk.may_leave _ quiet.run
+      (λ c left. (c, left, record { between = c; ends = finishes_none cursor [] c; writes = λ m other. refl; stands = s1.stays honest ready base is c left }));
+  shown = subst (λ (c : Files). s1.stands base c) (sym (same_seen s1.disk new quiet)) (s1.shown honest ready base is);
+  others = λ m other. quiet.seen m;
+  told = inl (refl, λ m of. inr (quiet.seen m));
+}
+
+pub scans_stopped : (stamp : Stamp) (Own : List ℕ → Type 0) (outbound : List ℕ) (IsTrue : Files → Type 0) (failed : Type 0) (s1 s2 : StoreState) (out now : Output) (file : LinkFile) (base : Base) (why : CommandError) → s1.disk.is_honest → s1.is_ready
+    → s1.committed base → ChangesNothing s1.disk s2.disk → ScansOn stamp (state_in file base) out now (Err why) → (IsErrOf {T = Unit {0}} (Err (Command why)) (Command (Store Damaged)) → ⊥)
+    → ScansOnStore stamp Own outbound IsTrue failed s1 s2 out now file base (Err (Command why))
+scans_stopped stamp Own outbound IsTrue failed s1 s2 out now file base why honest ready is quiet answer whole = record {
+  made = Err why;
+  answer = answer;
+  put = stops_quiet (IsTrue s1.disk.seen) failed Own outbound (dotted file.system) base.cursor _ s1 s2.disk base why honest ready is quiet;
+  whole = whole;
+}

@@ -4,6 +4,7 @@ use Rattle.std.specs.Prelude.{Err, IfErr, IsErrOf, Ok, Result}
 use Rattle.disk_io.specs.declared.disk_error.DiskError.TheVariants as disk
 use Rattle.disk_atomic.specs.declared.placing_error.PlacingError.{PlacingError}
 use Rattle.disk_atomic.specs.declared.placing_error.PlacingError.TheVariants as placing
+use Rattle.base_store.specs.declared.store_error.StoreError.{StoreError}
 use Rattle.base_store.specs.declared.store_error.StoreError.TheVariants as error
 use Rattle.cmd_store.specs.Stops.{store_answer}
 use Rattle.cmd_store.specs.declared.command_error.CommandError.{CommandError}
@@ -82,6 +83,7 @@ sent_many P (Err (Staging cause)) result same reading base is = absurd (cc (same
 sent_many P (Err (Reading cause)) result same reading base is = reading (cc (same, is))
 sent_many P (Err (OfBase cause)) result same reading base is = base (cc (same, is))
 
-pub taken_many : {A : Type 0} (P : Type 0) (planned : Result A CommandError) (stop : CommandError) → planned ≡ Err stop → (IsErrOf (store_answer planned) error.TooMany → P)
-    → IsErrOf {T = Unit {0}} (Err (Command stop)) (Command (Store error.TooMany)) → P
-taken_many P planned stop same gives is = let why : stop ≡ Store error.TooMany = cc (is) in gives (ap store_answer (same ∙ ap (λ (e : CommandError). Err e) why))
+-- what the store answered while packets were made
+pub taken_by : {A : Type 0} (P : Type 0) (cause : StoreError) (planned : Result A CommandError) (stop : CommandError) → planned ≡ Err stop → (IsErrOf (store_answer planned) cause → P)
+    → IsErrOf {T = Unit {0}} (Err (Command stop)) (Command (Store cause)) → P
+taken_by P cause planned stop same gives is = let why : stop ≡ Store cause = cc (is) in gives (ap store_answer (same ∙ ap (λ (e : CommandError). Err e) why))

@@ -1,8 +1,9 @@
 -- A scan is run on a station.
-use Rattle.std.specs.Prelude.{◌≡◌, ◌⊎◌, ◌<◌, ℕ, List, length, Result, Ok, Err, All, IfErr, IsErrOf, OnOk}
+use Rattle.std.specs.Prelude.{◌≡◌, ◌⊎◌, ◌<◌, ℕ, List, length, map, None, Result, Ok, Err, All, IfErr, IsErrOf, OnOk}
 use Rattle.base_file.specs.Base.{Base}
 use Rattle.disk_io.specs.Disk.{DiskState, Files}
-use Rattle.disk_io.specs.Runs.{ChangesNothing, LeavesOnly, OneStepOn}
+use Rattle.disk_io.specs.Runs.{LeavesOnly, OneStepOn}
+use Rattle.disk_io.specs.declared.disk_error.DiskError.{DiskError}
 use Rattle.echo_links.specs.Links.{LinkFile}
 use Rattle.disk_atomic.specs.Changes.{DifferAt}
 use Rattle.disk_atomic.specs.Finishing.{FinishesEach, IsOfLeft}
@@ -11,7 +12,9 @@ use Rattle.disk_atomic.specs.declared.finishing.Left.{Left}
 use Rattle.disk_atomic.specs.StagingPaths.{dotted, staging_path}
 use Rattle.cmd_status.specs.declared.fault.Fault.{Fault}
 use Rattle.cmd_status.specs.Devices.{Output}
+use Rattle.cmd_report.specs.Scanned.{file_sent}
 use Rattle.model_steps.specs.PacketFiles.{PacketFile}
+use Rattle.model_steps.specs.Scanning.{scanned}
 use Rattle.model_steps.specs.declared.stamp.Stamp.{Stamp}
 use Rattle.base_store.specs.Store.{StoreState, all_scanned}
 use Rattle.base_store.specs.declared.store_error.StoreError.TheVariants.{Damaged, Device}
@@ -20,7 +23,7 @@ use Rattle.cmd_store.specs.declared.command_error.CommandError.{CommandError}
 use Rattle.cmd_store.specs.declared.command_error.CommandError.TheVariants.{Store}
 use Rattle.echo_toss.specs.PacketsIn.{state_in}
 use Rattle.station.specs.Place.{Place, StandsOrWasLeft}
-use Rattle.station.specs.Running.{IsNotRun, IsStopped, StandsAsBefore}
+use Rattle.station.specs.Running.{IsNotRun, IsStopped}
 use Rattle.station_scan.specs.Fitting.{AreTaken}
 use Rattle.station_scan.specs.Left.{AreAllLeft, AreFreeLeft, IsEnded, IsEndedAt, IsLeftOf, IsOfName}
 use Rattle.station_scan.specs.Publishing.{IsOnDisk}
@@ -28,7 +31,7 @@ use Rattle.station_scan.specs.Sending.{HasBytes, IsAtItsPath, IsStagingOfPacket,
 use Rattle.station_scan.specs.Sends.{IsOfThese, WasTriedFor}
 use Rattle.station_scan.specs.Stops.{IsOfPlacing, as_scan, most}
 use Rattle.station_scan.specs.declared.scan_error.ScanError.{ScanError}
-use Rattle.station_scan.specs.declared.scan_error.ScanError.TheVariants.{Command}
+use Rattle.station_scan.specs.declared.scan_error.ScanError.TheVariants.{Command, Staying}
 
 -- one of the station's own paths, or the path or staging path of a packet's name in the folder of packets
 abbrev pub IsTouched : (List ℕ → Type 0) → List ℕ → List ℕ → Type 0
@@ -84,17 +87,39 @@ pub record SendsOut (is_true failed : Type 0) (Own : List ℕ → Type 0) (outbo
   pub crash : LeavesOnly old new (λ c. OneStepOn (PreparesScan outbound own Stays cursor found files) old c ⊎ CommitsScan Own outbound own (IsOnDisk old) Stays Comes cursor found files old.seen c)
   pub why : IfErr result (IsOfPlacing failed (IsTaken Own outbound own cursor found files old.seen) (most < cursor))
 
--- The packets that a scan of a store returned are sent out, once the store was looked through. If the scan stopped, nothing has changed.
-abbrev pub IsPutOn : (List ℕ → Type 0) → List ℕ → List ℕ → (Files → Type 0) → Type 0 → StoreState → StoreState → Base → Result (List PacketFile) CommandError → Result (Unit {0}) ScanError → Type 0
-IsPutOn Own outbound own IsTrue failed old new base (Ok files) result =
+-- The files of the packets that a scan of this base makes.
+abbrev pub packets_in : Stamp → LinkFile → Base → List PacketFile
+packets_in stamp file base = map (file_sent base.cursor) (scanned file base.messages base.cursor stamp)
+
+-- It is reported why the scan stopped. Then each of its staging files is gone, or that path is as before. Or it is reported that staging files
+-- may be left, and a device failed, or there was no memory.
+abbrev pub TellsStop : Type 0 → List ℕ → List ℕ → List PacketFile → Files → Files → CommandError → Result (Unit {0}) ScanError → Type 0
+TellsStop failed outbound own files before after why result =
+    ((result ≡ Err (Command why)) × ((m : List ℕ) → IsStagingOfPacket outbound own files m → (after m ≡ None) ⊎ (after m ≡ before m)))
+    ⊎ ((left : DiskError) × (result ≡ Err (Staying left)) × IsOfPlacing failed ⊥ ⊥ (Staying left))
+
+-- A scan stopped while its packets were made. A crash at any time leaves the base that was committed before, and no packet of this scan at its
+-- path. Except for leftover packets and staging files of this scan, all is as it was.
+pub record StopsScan (is_true failed : Type 0) (Own : List ℕ → Type 0) (outbound own : List ℕ) (Stays : Files → Type 0) (cursor : ℕ) (files : List PacketFile) (old new : DiskState) (why : CommandError) (result : Result (Unit {0}) ScanError) : Type 0 where
+  pub found : List Left
+  pub each : All (IsLeftOf is_true Own outbound own) found
+  pub crash : LeavesOnly old new (OneStepOn (PreparesScan outbound own Stays cursor found files) old)
+  pub shown : Stays new.seen
+  pub others : DifferAt (λ m. IsOfLeft found m ⊎ IsStagingOfPacket outbound own files m) old.seen new.seen
+  pub told : TellsStop failed outbound own files old.seen new.seen why result
+
+-- The packets that a scan of a store returned are sent out. Or the scan stopped while these packets were made.
+abbrev pub IsPutOn : (List ℕ → Type 0) → List ℕ → List ℕ → (Files → Type 0) → Type 0 → StoreState → StoreState → Base → List PacketFile → Result (List PacketFile) CommandError → Result (Unit {0}) ScanError → Type 0
+IsPutOn Own outbound own IsTrue failed old new base packets (Ok files) result =
     SendsOut (IsTrue old.disk.seen) failed Own outbound own (old.stands base) (old.stands (all_scanned base)) base.cursor files old.disk new.disk result
-IsPutOn Own outbound own IsTrue failed old new base (Err why) result = (result ≡ Err (Command why)) × ChangesNothing old.disk new.disk
+IsPutOn Own outbound own IsTrue failed old new base packets (Err why) result =
+    StopsScan (IsTrue old.disk.seen) failed Own outbound own (old.stands base) base.cursor packets old.disk new.disk why result
 
 -- The result of a scan of a store that held this base, and had committed it.
 pub record ScansOnStore (stamp : Stamp) (Own : List ℕ → Type 0) (outbound : List ℕ) (IsTrue : Files → Type 0) (failed : Type 0) (old new : StoreState) (old_out new_out : Output) (file : LinkFile) (base : Base) (result : Result (Unit {0}) ScanError) : Type 0 where
   pub made : Result (List PacketFile) CommandError
   pub answer : ScansOn stamp (state_in file base) old_out new_out made
-  pub put : IsPutOn Own outbound (dotted file.system) IsTrue failed old new base made result
+  pub put : IsPutOn Own outbound (dotted file.system) IsTrue failed old new base (packets_in stamp file base) made result
   pub whole : IsErrOf result (Command (Store Damaged)) → ⊥
 
 -- A store that held this base, or the same with the cursor at its end, was full. The base was committed, and no other since.
@@ -104,10 +129,15 @@ pub record IsScanFull {S : Type 0} (state : S → StoreState) (base : Base) : Ty
   pub committed : (state store).committed base
   pub full : (state store).is_full
 
--- The steps of a scan of this base before the commit, or from the commit on. These files were seen once the station was open.
+-- The steps of a scan of this base before the commit.
+abbrev pub IsPreparing : Place → List ℕ → List ℕ → DiskState → Base → List Left → List PacketFile → Files → Type 0
+IsPreparing place outbound own old base found files c =
+    (before : Files) × StandsOrWasLeft place old base before × PreparesScan outbound own (place.stands_for base) base.cursor found files before c
+
+-- These steps, or those from the commit on. These files were seen once the station was open.
 abbrev pub IsOnItsWay : Place → List ℕ → List ℕ → DiskState → Base → List Left → List PacketFile → Files → Files → Type 0
 IsOnItsWay place outbound own old base found files opened c =
-    ((before : Files) × StandsOrWasLeft place old base before × PreparesScan outbound own (place.stands_for base) base.cursor found files before c)
+    IsPreparing place outbound own old base found files c
     ⊎ CommitsScan place.is_own outbound own (IsOnDisk old) (place.stands_for base) (place.stands_for (all_scanned base)) base.cursor found files opened c
 
 -- What a crash during the scan may leave: a state of these steps, or one that a crash before could have left.
@@ -127,16 +157,29 @@ pub record IsPutIn (place : Place) (outbound own : List ℕ) (IsTrue : Files →
   pub lasts : (c : Files) → new.may_leave c → IsOnItsWay place outbound own old base found files opened c
   pub why : IfErr result (IsOfPlacing failed (IsTaken place.is_own outbound own base.cursor found files opened) (most < base.cursor))
 
--- The packets that the scan returned get their paths. If the scan stopped, that is returned, and the files hold the base from before.
-abbrev pub IsPutAs : Place → List ℕ → List ℕ → (Files → Type 0) → Type 0 → DiskState → DiskState → Base → Result (List PacketFile) CommandError → Result (Unit {0}) ScanError → Type 0
-IsPutAs place outbound own IsTrue failed old new base (Ok files) result = IsPutIn place outbound own IsTrue failed old new base files result
-IsPutAs place outbound own IsTrue failed old new base (Err why) result = (result ≡ Err (Command why)) × StandsAsBefore place old new base
+-- The scan of this base stopped while its packets were made. The files hold the base from before, as they are seen and after any crash.
+pub record StopsScanIn (place : Place) (outbound own : List ℕ) (IsTrue : Files → Type 0) (failed : Type 0) (old new : DiskState) (base : Base) (files : List PacketFile) (why : CommandError) (result : Result (Unit {0}) ScanError) : Type 0 where
+  -- The files once the station was open.
+  pub opened : Files
+  pub elsewhere : (m : List ℕ) → (place.is_own m → ⊥) → opened m ≡ old.seen m
+  pub found : List Left
+  pub each : All (IsLeftOf (IsTrue opened) place.is_own outbound own) found
+  pub crash : LeavesOnly old new (λ c. old.may_leave c ⊎ IsPreparing place outbound own old base found files c)
+  pub lasts : (c : Files) → new.may_leave c → IsPreparing place outbound own old base found files c
+  pub shown : place.stands_for base new.seen
+  pub others : DifferAt (λ m. IsOfLeft found m ⊎ IsStagingOfPacket outbound own files m) opened new.seen
+  pub told : TellsStop failed outbound own files opened new.seen why result
+
+-- The packets that the scan returned get their paths. Or the scan stopped while these packets were made.
+abbrev pub IsPutAs : Place → List ℕ → List ℕ → (Files → Type 0) → Type 0 → DiskState → DiskState → Base → List PacketFile → Result (List PacketFile) CommandError → Result (Unit {0}) ScanError → Type 0
+IsPutAs place outbound own IsTrue failed old new base packets (Ok files) result = IsPutIn place outbound own IsTrue failed old new base files result
+IsPutAs place outbound own IsTrue failed old new base packets (Err why) result = StopsScanIn place outbound own IsTrue failed old new base packets why result
 
 -- The result of a scan of a station that held this base.
 pub record IsScanOn (stamp : Stamp) (place : Place) (outbound : List ℕ) (IsTrue : Files → Type 0) (failed : Type 0) (old new : DiskState) (old_out new_out : Output) (file : LinkFile) (base : Base) (result : Result (Unit {0}) ScanError) : Type 0 where
   pub made : Result (List PacketFile) CommandError
   pub answer : ScansOn stamp (state_in file base) old_out new_out made
-  pub put : IsPutAs place outbound (dotted file.system) IsTrue failed old new base made result
+  pub put : IsPutAs place outbound (dotted file.system) IsTrue failed old new base (packets_in stamp file base) made result
   pub whole : IsErrOf result (Command (Store Damaged)) → ⊥
 
 -- The scan was run with this link file, for each base that the files held.

@@ -50,7 +50,7 @@ returns-in-Ok-prepare-clause-runs g c = λ honest.
       runs = λ base stands.
           scanned_on place d0 d2 s1 s2 begun of quiet (g.P.Paths.OwnPaths.is_own c.paths-paths.result) (λ m o. (own m).0 o) (λ m o. (own m).1 o) c.args.scan.now.outbound.now c.args.scan.now.stamp
           (g.G.ListStaged.is_true c.scan_kept-store.new.scan.listing) (Failed f2 f3 ⊎ listed) (HaveFailed f0 f4 l0 l1 k0 k1 ⊎ listed) out now c.in-Ok.opened.links base c.scan_kept-store.result.done stands (failed_too (Failed f2 f3) (Failed f0 f4) (Failed l0 l1 ⊎ Failed k0 k1) listed wider)
-          looked.looks.ready honest1 (did.scans honest2 base (begun.keeps base stands) (begun.committed base stands));
+          (did.scans honest2 base (begun.keeps base stands) (begun.committed base stands));
       cause = λ is. inl (inl (wider (did.device is)));
     })
 

@@ -6,6 +6,7 @@ use Rattle.cmd_report.specs.Scanned.{file_with}
 use Rattle.cmd_report.specs.declared.scanning.PlannedPacket.{PlannedPacket}
 use Rattle.echo_toss.specs.Counts.{bytes_for}
 use Rattle.base_store.specs.Store.{GoesOn, all_scanned}
+use Rattle.base_store.specs.declared.store_error.StoreError.TheVariants.{Damaged, TooMany}
 use Rattle.echo_toss.specs.Bounds.{IsFullWhenRead}
 use Rattle.station.proofs.Failures.{failed_wider}
 use Rattle.station.specs.Beneath.{HoldsAsBefore}
@@ -15,8 +16,8 @@ use Rattle.cmd_store.specs.declared.command_error.CommandError.{CommandError}
 use Rattle.echo_toss.specs.PacketsIn.{state_in}
 use Rattle.station_scan.specs.Scanning.{SendsOut}
 use Rattle.station_scan.specs.Sends.{WasTriedFor}
-use Rattle.station_scan.proofs.Scans.{scans_ok}
-use Rattle.station_scan.proofs.Stops.{taken_many}
+use Rattle.station_scan.proofs.Scans.{scans_ok, scans_stopped}
+use Rattle.station_scan.proofs.Stops.{taken_by}
 use Rattle.station_scan.proofs.Tries.{tries_on}
 use Rattle.station_scan.proofs.scanning.scan_kept.Goals as goal
 
@@ -86,7 +87,19 @@ returns-in-Ok-clause-many g c = λ honest base keeps committed is.
     let way = put.many is in
     record { store = way.store; keeps = inr (way.holds.keeps (all_scanned base) moved); committed = way.holds.committed base (on.committed honestA base committed); full = way.full }
 
+pub returns-in-Err-clause-scans : goal.returns-in-Err-clause-scans
+returns-in-Err-clause-scans g c = λ honest base keeps committed.
+    let s1 = g.P.Kept.Store.state c.args.store in
+    let s2 = g.P.Kept.Store.state c.take_waiting-store.result.store in
+    let took = c.take_waiting-store.ensures in
+    let content = bytes_for c.args.links.now c.args.scan.now.stamp base.cursor base.messages in
+    let out = output_of g.W.Write.contents g.W.Sink.failures g.W.Sink.holds c.args.out.now in
+    let now = output_of g.W.Write.contents g.W.Sink.failures g.W.Sink.holds c.take_waiting-store.new.out in
+    let answer = subst (λ (r : Result (List PlannedPacket) CommandError). ScansOn c.args.scan.now.stamp (state_in c.args.links.now base) out now (files_made content r)) c.in-Err.is (took.answers honest base keeps) in
+    scans_stopped c.args.scan.now.stamp (g.P.Paths.OwnPaths.is_own c.args.paths.now) c.args.scan.now.outbound.now _ _ s1 s2 out now c.args.links.now base c.in-Err.stop (took.quiet.honest honest) c.requires.ready committed took.quiet answer
+    (taken_by ⊥ Damaged c.take_waiting-store.result.planned c.in-Err.stop c.in-Err.is (λ is. took.cause.damaged honest is base keeps))
+
 pub returns-in-Err-clause-many : goal.returns-in-Err-clause-many
 returns-in-Err-clause-many g c = λ honest base keeps committed is.
-    let past = taken_many (IsFullWhenRead g.P.Kept.Store.state (g.P.Kept.Store.state c.args.store)) c.take_waiting-store.result.planned c.in-Err.stop c.in-Err.is c.take_waiting-store.ensures.many is in
+    let past = taken_by (IsFullWhenRead g.P.Kept.Store.state (g.P.Kept.Store.state c.args.store)) TooMany c.take_waiting-store.result.planned c.in-Err.stop c.in-Err.is c.take_waiting-store.ensures.many is in
     record { store = past.store; keeps = inl (past.looks.keeps base keeps); committed = past.looks.committed base committed; full = past.full }
