@@ -3,10 +3,12 @@
 use crate::notes::{Met, is_there, tell};
 use crate::reasons::{LongField, Reason, WordForm, WrongWord};
 use base_file::Base;
-use cmd_input::base_bytes;
+use base_folder::{BaseReader, MessageSource, fetch_message};
+use cmd_input::{is_folder, load_base, look_into, read_file};
 use cmd_status::{Fault, number_of};
 use cmd_words::ReplyWords;
 use disk_io::Sink;
+use echo_filed::Filed;
 use echo_packet::{Field, MAX_NAME, MAX_SUBJECT};
 use memchr::memmem;
 use model_steps::PostFault;
@@ -97,17 +99,12 @@ fn count_of(rt: &HostRuntime, path: &str) -> Option<u64> {
     if !is_there(rt, path) {
         return Some(0);
     }
-    Some(base_at(rt, path)?.len() as u64)
-}
-
-fn base_at(rt: &HostRuntime, path: &str) -> Option<Base<RandomState>> {
-    base_of(rt, &base_bytes(rt, path).ok()?)
-}
-
-// The base of a base file.
-fn base_of(rt: &HostRuntime, bytes: &[u8]) -> Option<Base<RandomState>> {
-    let hasher = RandomState::new(rt).ok()?;
-    Base::load(rt.alloc(), &mut &*bytes, hasher).ok()
+    if is_folder(rt, path) {
+        let messages = look_into(rt, path, u64::MAX, None).ok()?;
+        return Some(messages.count() as u64);
+    }
+    let messages = load_base(rt, path).ok()?;
+    Some(messages.count() as u64)
 }
 
 /// Whether a base that can be read has no message of an area, whose tag is in letters of either case.
@@ -115,15 +112,27 @@ pub(crate) fn has_none_of(rt: &HostRuntime, path: &str, tag: &str) -> bool {
     matches!(none_of(rt, path, tag), Some(true))
 }
 
-// The same. Most often the bytes have a line of the area, and the base is not read whole.
+// The same. A message of a folder is in memory alone.
 fn none_of(rt: &HostRuntime, path: &str, tag: &str) -> Option<bool> {
     let tag = tag.as_bytes().to_ascii_uppercase(rt.alloc()).ok()?;
-    let bytes = base_bytes(rt, path).ok()?;
-    let line = area_line(rt.alloc(), &tag).ok()?;
+    if is_folder(rt, path) {
+        let mut messages = look_into(rt, path, u64::MAX, None).ok()?;
+        return lacks_area(&mut messages, path, &tag);
+    }
+    none_in_file(rt, path, &tag)
+}
+
+// The same of a base file. Most often the bytes have a line of the area, and the base is not read whole.
+fn none_in_file(rt: &HostRuntime, path: &str, tag: &[u8]) -> Option<bool> {
+    let bytes = read_file(rt, path, usize::MAX).ok()?;
+    let line = area_line(rt.alloc(), tag).ok()?;
     if memmem::find(&bytes, &line).is_some() {
         return Some(false);
     }
-    Some(lacks_area(&base_of(rt, &bytes)?, &tag))
+    let hasher = RandomState::new(rt).ok()?;
+    let base = Base::load(rt.alloc(), &mut &*bytes, hasher).ok()?;
+    let mut messages = BaseReader::new(base);
+    lacks_area(&mut messages, path, tag)
 }
 
 // The line of a message that names its area.
@@ -134,13 +143,24 @@ fn area_line(alloc: Global, tag: &[u8]) -> Result<Vec<u8>, AllocError> {
     Ok(line)
 }
 
-fn lacks_area(base: &Base<RandomState>, tag: &[u8]) -> bool {
-    'messages: for i in 0..base.len() {
-        if let Some(message) = base.message(i) {
-            if message.echo.tag.as_slice() == tag {
-                return false;
-            }
+// Whether no message has the tag. None where one is not read.
+fn lacks_area<M: MessageSource>(messages: &mut M, path: &str, tag: &[u8]) -> Option<bool>
+    requires { (M.state messages.old).is_ready }
+{
+    let count = messages.count();
+    'messages: for i in 0..count {
+        fetch_message(messages, path, i).ok()?;
+        if is_of_area(messages.at_hand(), tag) {
+            return Some(false);
         }
     }
-    true
+    Some(true)
+}
+
+// Whether there is a message, and it has the tag.
+fn is_of_area(message: Option<&Filed>, tag: &[u8]) -> bool {
+    match message {
+        Some(message) => message.echo.tag.as_slice() == tag,
+        None => false,
+    }
 }
