@@ -17,11 +17,14 @@ use Rattle.station_scan.specs.Left.{AreAllLeft, EndsLeft, IsEndedAt, IsLeftOf}
 use Rattle.station_scan.specs.Publishing.{AreOpen, AreStaged}
 use Rattle.station_scan.proofs.Lefts.{finishes_none, on_ok_over, over_still}
 use Rattle.station_scan.proofs.Looked.{same_seen}
-use Rattle.echo_export.proofs.Joins.{on_ok as on_ok_gives}
 
 pub ok_gives : {T E : Type 0} (r : Result T E) (P Q : T → Type 0) → ((value : T) → P value → Q value) → IfOk r P → IfOk r Q
 ok_gives (Ok value) P Q gives is = gives value is
 ok_gives (Err cause) P Q gives is = tt
+
+pub on_ok_gives : {T E P Q : Type 0} (r : Result T E) → (P → Q) → OnOk r P → OnOk r Q
+on_ok_gives (Ok value) gives is = gives is
+on_ok_gives (Err cause) gives is = tt
 
 module _ (d e : DiskState) (quiet : ChangesNothing d e) where
   file_through : (path bytes : List ℕ) → HasOnDisk d path bytes → HasOnDisk e path bytes

@@ -4,8 +4,8 @@ use Rattle.disk_atomic.specs.declared.outgoing.Outgoing.{Outgoing}
 use Rattle.station_scan.specs.Fitting.{AreFitting}
 use Rattle.station_scan.proofs.Sends.{fit_going, fit_keeps, fit_moments, fit_sent, fit_taken, fit_tried}
 use Rattle.station_scan.proofs.Sent.{unfit_taken}
+use Rattle.station_scan.proofs.Through.{on_ok_gives}
 use Rattle.station_scan.proofs.outgoing.publish_packets.Goals as goal
-use Rattle.echo_export.proofs.Joins.{on_ok as on_ok_gives}
 
 pub publish-requires : goal.publish-requires
 publish-requires g c κs =
