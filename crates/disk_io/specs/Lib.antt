@@ -7,3 +7,4 @@ pub mod Disk
 pub mod Runs
 pub mod Steps
 pub mod Synced
+pub mod Part

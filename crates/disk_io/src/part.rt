@@ -1,6 +1,7 @@
 //! Reads a part of a file.
-ghost use Rattle.std.specs.Prelude.{◌≡◌, ◌≤◌, ◌<◌, ◌+◌, ◌^◌, length, take, drop, IfOk, OnOk, IsSome};
+ghost use Rattle.std.specs.Prelude.{◌≡◌, ◌≤◌, ◌<◌, length, take, drop, IfOk, OnOk, IsSome};
 ghost use Rattle.disk_io.specs.Disk.{Honestly, bytes_in};
+ghost use Rattle.disk_io.specs.Part.{HasBytesAt};
 ghost use Rattle.disk_io.specs.Runs.{ChangesNothing, HasCause};
 
 use crate::disk::Disk;
@@ -15,9 +16,7 @@ fn read_more<D: Disk>(
     part: &mut [u8],
     done: usize,
 ) -> Result<usize, DiskError>
-    requires there { Honestly (D.state disk.old) (IsSome ((D.state disk.old).seen path.now)) }
-    requires within { Honestly (D.state disk.old) (from + length part.old ≤ length (bytes_in ((D.state disk.old).seen path.now))) }
-    requires fits { from + length part.old < 2 ^ 64 }
+    requires part { HasBytesAt (D.state disk.old) path.now from (length part.old) }
     requires open { done < length part.old }
     requires front { Honestly (D.state disk.old) (take done part.old ≡ take done (drop from (bytes_in ((D.state disk.old).seen path.now)))) }
     ensures within { IfOk result (λ now. (done ≤ now) × (now ≤ length part.new)) }
@@ -37,9 +36,7 @@ fn fill_part<D: Disk>(
     from: usize,
     part: &mut [u8],
 ) -> Result<(), DiskError>
-    requires there { Honestly (D.state disk.old) (IsSome ((D.state disk.old).seen path.now)) }
-    requires within { Honestly (D.state disk.old) (from + length part.old ≤ length (bytes_in ((D.state disk.old).seen path.now))) }
-    requires fits { from + length part.old < 2 ^ 64 }
+    requires { HasBytesAt (D.state disk.old) path.now from (length part.old) }
     ensures filled { Honestly (D.state disk.new) (OnOk result (part.new ≡ take (length part.new) (drop from (bytes_in ((D.state disk.old).seen path.now))))) }
     ensures quiet { ChangesNothing (D.state disk.old) (D.state disk.new) }
     ensures cause { HasCause (D.failures disk.old) (D.failures disk.new) result }
