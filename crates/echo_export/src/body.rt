@@ -1,11 +1,11 @@
 //! The body of a mail.
-ghost use Rattle.std.specs.Prelude.{◌≡◌, ◌++◌, ◌≤◌, [], codes, if◌then◌else◌, length, take_while, true, OnOk};
-ghost use Rattle.echo_text.specs.Lines.{after_feeds, is_control, is_feed, lines};
+ghost use Rattle.std.specs.Prelude.{◌≡◌, ◌++◌, [], codes, if◌then◌else◌, true, OnOk};
+ghost use Rattle.echo_text.specs.Lines.{lines};
 ghost use Rattle.echo_export.specs.MailText.{body_line, body_text, quoted_body};
 
 use crate::header::{mail_bytes, push_bytes};
 use echo_charset::Charset;
-use echo_text::split_line;
+use echo_text::{after_feeds, is_control, split_line};
 use std::alloc::{AllocError, Global};
 
 /// The word that no line of a mailbox may begin with.
@@ -70,25 +70,4 @@ fn push_mark(mail: &mut Vec<u8>, wanted: bool) -> Result<(), AllocError>
     } else {
         Ok(())
     }
-}
-
-#[tactic(auto, unfolding(echo_text::specs::Lines::begins))]
-fn is_control(line: &[u8]) -> bool
-    ensures { result ≡ is_control line.now }
-{
-    after_feeds(line).starts_with(b"\x01")
-}
-
-// The line without the line feeds at its front.
-fn after_feeds(line: &[u8]) -> &[u8]
-    ensures { result.now ≡ after_feeds line.now }
-{
-    &line[feed_count(line)..]
-}
-
-fn feed_count(line: &[u8]) -> usize
-    ensures exact { result ≡ length (take_while is_feed line.now) }
-    ensures within { result ≤ length line.now }
-{
-    line.iter().take_while(|b| **b == b'\n').count()
 }

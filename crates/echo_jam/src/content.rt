@@ -4,8 +4,8 @@ ghost use Rattle.echo_text.specs.Lines.{lines};
 ghost use Rattle.echo_jam.specs.Fields as contents;
 ghost use Rattle.echo_jam.specs.Fields.{content_cut, content_of, cuts_in};
 
-use echo_stored::{after_word, behind_mark, is_control};
-use echo_text::{split_line, trimmed};
+use echo_stored::behind_mark;
+use echo_text::{after_word, is_control, split_line, trimmed};
 use std::alloc::AllocError;
 
 /// How many bytes the subfield of an id has at most.

@@ -11,8 +11,8 @@ use crate::long::{count_of, push_long};
 use echo_addr::Address;
 use echo_charset::written;
 use echo_filed::Filed;
-use echo_stored::{address_in_origin, is_control, is_seen};
-use echo_text::{push_line, split_line};
+use echo_stored::{address_in_origin, is_seen};
+use echo_text::{is_control, push_line, split_line};
 use std::alloc::{AllocError, Global};
 use std::io::Write;
 

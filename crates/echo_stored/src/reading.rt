@@ -1,12 +1,14 @@
 //! A stored message that an editor wrote, read for posting.
-ghost use Rattle.std.specs.Prelude.{◌≡◌, ◌==◌, ◌||◌, ◌≤◌, ◌++◌, false, true, not, drop, length, option_copied, take, take_while, IsTrue, IfOk, MatchOption, OnOk};
+ghost use Rattle.std.specs.Prelude.{◌≡◌, ◌==◌, ◌||◌, ◌≤◌, ◌++◌, true, not, drop, length, option_copied, take, take_while, IsTrue, IfOk, OnOk};
 ghost use Rattle.echo_text.specs.Echo.{first_after, id_in};
-ghost use Rattle.echo_text.specs.Lines.{after_feeds, after_word, begins, is_control, is_feed, is_origin, is_path, is_seen, is_tear, lines, msgid_word, reply_word};
+ghost use Rattle.echo_text.specs.Lines.{after_feeds, begins, is_control, is_origin, is_path, is_seen, lines, msgid_word, reply_word};
 ghost use Rattle.echo_stored.specs.StoredReading.{ReadAnswers, body_of, field_at, is_local, is_made, is_sent, is_to_post, own_line, reply_in, text_in, until_zero};
 ghost use Rattle.echo_stored.specs.declared.reading.StoredFault.TheVariants.{Memory};
 
 use echo_addr::Items;
-use echo_text::{push_line, split_line, trimmed};
+use echo_text::{
+    after_feeds, after_word, begins, is_control, is_tear, push_line, split_line, trimmed,
+};
 use std::alloc::{AllocError, Global};
 
 /// Why bytes are not to be posted.
@@ -162,21 +164,6 @@ fn is_origin(line: &[u8]) -> bool
     begins(b" * Origin: ", line)
 }
 
-// Three hyphens, alone or followed by a blank 20.
-#[tactic(auto, unfolding(echo_text::specs::Lines::is_tear))]
-fn is_tear(line: &[u8]) -> bool
-    ensures { result ≡ is_tear line.now }
-{
-    begins(b"--- ", line) || (begins(b"---", line) && after_feeds(line).len() == 3)
-}
-
-/// Whether the line is a control line: it begins with 01, after line feeds.
-pub fn is_control(line: &[u8]) -> bool
-    ensures { result ≡ is_control line.now }
-{
-    begins(b"\x01", line)
-}
-
 /// The bytes after the 01 of a control line.
 pub fn behind_mark(line: &[u8]) -> &[u8]
     requires { is_control line.now ≡ true }
@@ -193,28 +180,6 @@ pub fn is_seen(line: &[u8]) -> bool
     ensures { result ≡ is_seen line.now }
 {
     begins(b"SEEN-BY:", line)
-}
-
-// Whether the line begins with the word, after line feeds.
-fn begins(word: &[u8], line: &[u8]) -> bool
-    ensures value { result ≡ begins word.now line.now }
-    ensures fits { IsTrue result → length word.now ≤ length (after_feeds line.now) }
-{
-    after_feeds(line).starts_with(word)
-}
-
-// The line without the line feeds at its front.
-fn after_feeds(line: &[u8]) -> &[u8]
-    ensures { result.now ≡ after_feeds line.now }
-{
-    &line[feed_count(line)..]
-}
-
-fn feed_count(line: &[u8]) -> usize
-    ensures exact { result ≡ length (take_while is_feed line.now) }
-    ensures within { result ≤ length line.now }
-{
-    line.iter().take_while(|b| **b == b'\n').count()
 }
 
 // The id of the message that is replied to, or no bytes.
@@ -248,15 +213,4 @@ fn value_of_line<'a>(word: &[u8], line: &'a [u8]) -> Option<&'a [u8]>
 {
     let value = trimmed(after_word(word, line)?);
     if value.is_empty() { None } else { Some(value) }
-}
-
-/// The bytes after the word, if the line begins with it after line feeds.
-pub fn after_word<'a>(word: &[u8], line: &'a [u8]) -> Option<&'a [u8]>
-    ensures { MatchOption result (begins word.now line.now ≡ false) (λ rest. (begins word.now line.now ≡ true) × (rest.now ≡ after_word word.now line.now)) }
-{
-    if begins(word, line) {
-        Some(&after_feeds(line)[word.len()..])
-    } else {
-        None
-    }
 }

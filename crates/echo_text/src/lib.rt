@@ -46,5 +46,5 @@ pub use laws::{
 pub use lines::{push_line, push_lines, split_line};
 pub use msgid::{MsgId, serial_of};
 pub use reading::{read_text, view_front, view_text};
-pub use words::trimmed;
+pub use words::{after_feeds, after_word, begins, is_control, is_tear, trimmed};
 pub use writing::{write_parts, write_text};

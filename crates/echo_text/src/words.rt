@@ -1,6 +1,6 @@
 ghost use Rattle.std.specs.Prelude.{◌≡◌, ◌+◌, ◌≤◌, true, false, length, reverse, take_while, IsTrue, MatchOption};
 ghost use Rattle.echo_addr.specs.Entries.{is_blank};
-ghost use Rattle.echo_text.specs.Lines.{after_feeds, after_word, begins, is_blank_line, is_feed, is_tear, trimmed};
+ghost use Rattle.echo_text.specs.Lines.{after_feeds, after_word, begins, is_blank_line, is_control, is_feed, is_tear, trimmed};
 ghost use Rattle.echo_text.specs.Tail.{is_kept_control, is_tail_line};
 
 use echo_addr::is_blank;
@@ -21,7 +21,7 @@ pub(crate) const AREA: &[u8] = b"AREA:";
 const CONTROL: &[u8] = b"\x01";
 
 /// The line without the line feeds at its front.
-pub(crate) fn after_feeds(line: &[u8]) -> &[u8]
+pub fn after_feeds(line: &[u8]) -> &[u8]
     ensures { result.now ≡ after_feeds line.now }
 {
     &line[feed_count(line)..]
@@ -36,7 +36,7 @@ fn feed_count(line: &[u8]) -> usize
 }
 
 /// Whether the line begins with the word, after line feeds.
-pub(crate) fn begins(word: &[u8], line: &[u8]) -> bool
+pub fn begins(word: &[u8], line: &[u8]) -> bool
     ensures value { result ≡ begins word.now line.now }
     ensures fits { IsTrue result → length word.now ≤ length (after_feeds line.now) }
 {
@@ -44,7 +44,7 @@ pub(crate) fn begins(word: &[u8], line: &[u8]) -> bool
 }
 
 /// The bytes after the word, if the line begins with it after line feeds.
-pub(crate) fn after_word<'a>(word: &[u8], line: &'a [u8]) -> Option<&'a [u8]>
+pub fn after_word<'a>(word: &[u8], line: &'a [u8]) -> Option<&'a [u8]>
     ensures { MatchOption result (begins word.now line.now ≡ false) (λ rest. (begins word.now line.now ≡ true) × (rest.now ≡ after_word word.now line.now)) }
 {
     if begins(word, line) {
@@ -52,6 +52,13 @@ pub(crate) fn after_word<'a>(word: &[u8], line: &'a [u8]) -> Option<&'a [u8]>
     } else {
         None
     }
+}
+
+/// Whether the line is a control line: it begins with 01, after line feeds.
+pub fn is_control(line: &[u8]) -> bool
+    ensures { result ≡ is_control line.now }
+{
+    begins(CONTROL, line)
 }
 
 pub(crate) fn is_blank_line(line: &[u8]) -> bool
@@ -83,7 +90,7 @@ fn back_blanks(bytes: &[u8]) -> usize
 }
 
 /// Whether the line is a tear line: three hyphens, alone or followed by a blank 20.
-pub(crate) fn is_tear(line: &[u8]) -> bool
+pub fn is_tear(line: &[u8]) -> bool
     ensures { result ≡ is_tear line.now }
 {
     begins(b"--- ", line) || (begins(b"---", line) && after_feeds(line).len() == 3)
