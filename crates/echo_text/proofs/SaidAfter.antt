@@ -3,7 +3,7 @@ use Rattle.std.proofs.Common.{◌≡◌, ℕ, ◌+◌, ◌^◌, ◌<◌, List, �
 use Rattle.std.specs.List.{filter}
 use Rattle.std.specs.Prelude.{MatchResult}
 use Rattle.std.specs.Result.{IsErrAnd}
-use Rattle.std.proofs.Common.{Bool, true, false, cond, not, Some, None, Option, Result, Ok, Err, inl, inr}
+use Rattle.std.proofs.Common.{Bool, true, false, cond, not, Some, None, Option, Result, Ok, Err, inr}
 use Rattle.echo_addr.specs.declared.address.NetNode.{NetNode}
 use Rattle.echo_addr.specs.ShortLines.{path_prefix, seen_prefix}
 use Rattle.echo_text.specs.declared.fault.TextFault.{TextFault}

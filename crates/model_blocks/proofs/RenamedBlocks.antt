@@ -1,5 +1,5 @@
 -- The loops of blocks of a graph whose members get other names, where the names keep the order.
-use Rattle.std.proofs.Common.{◌≡◌, ◌⊎◌, inl, inr, sym, ap, subst, ◌∙◌, Bool, IsTrue, List, ◌∷◌, map}
+use Rattle.std.proofs.Common.{inl, inr, sym, ap, subst, ◌∙◌, Bool, IsTrue, List, ◌∷◌, map}
 use Rattle.model_graph.specs.Walk.{Among, Simple}
 use Rattle.model_blocks.specs.BlockLoops.{AreInOneBlock, FirstInBlockBy, IsLoopOfBlockBy}
 use Rattle.model_graph.specs.Renaming.{IsRenaming, KeepsOrder}

@@ -1,9 +1,9 @@
 //! The members of each block, ascending.
 
-ghost use Rattle.std.specs.Prelude.{◌≡◌, ◌<◌, ◌⊎◌, ◌↔◌, ℕ, None, Contains, IfOk, IsTrue, length, slice_index, slice_index_or};
+ghost use Rattle.std.specs.Prelude.{◌≡◌, ◌<◌, ◌⊎◌, ◌↔◌, ℕ, Contains, IfOk, IsTrue, length};
 ghost use Rattle.model_graph.specs.Rows.{IsAscending};
 ghost use Rattle.model_graph.specs.Blocks.{block_of, top_of, LastMembers};
-ghost use Rattle.model_blocks.specs.BlockLoops.{HaveOneTop, InBlock};
+ghost use Rattle.model_blocks.specs.BlockLoops.{HaveOneTop};
 
 use model_graph::{BlockLists, Blocks};
 use std::alloc::{AllocError, Global};
