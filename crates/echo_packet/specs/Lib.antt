@@ -1,6 +1,7 @@
 pub mod Header
 pub mod Message
 pub mod Packed
+pub mod Parts
 pub mod Packet
 pub mod Fault
 pub mod Field

@@ -54,6 +54,11 @@ GoesOn old new (Ok (Some m)) = (new.given ≡ old.given + 1) × IsReading new
 GoesOn old new (Ok None) = (new.given ≡ old.given) × IsEnded new
 GoesOn old new (Err f) = (new.given ≡ old.given) × (new.place ≡ old.place) × IsStopped new
 
+-- after the terminator each call answers none, after an error `Stopped`, and nothing changes
+pub record StaysOver {R : Type 0} (old new : PacketReader R) (result : Result (Option Message) PacketFault) : Type 0 where
+  pub ended : IsEnded old → (result ≡ Ok None) × (new ≡ old)
+  pub stopped : IsStopped old → (result ≡ Err fault.Stopped) × (new ≡ old)
+
 -- the fault of bytes that do not begin with a header of type 2, or that the device failed
 abbrev pub FrontFault : List ℕ → PacketFault → Type 0
 FrontFault bs (fault.Truncated at) = (at ≡ 0) × (length bs < 58)

@@ -39,7 +39,7 @@ pub use header::{HEADER_BYTES, Header};
 pub use laws::{header_laws, one_answer, one_next_fault, whole_runs, written_packet_reads_back};
 pub use limits::{Limits, MAX_NAME, MAX_SUBJECT, no_limits};
 pub use message::read_next;
-pub use packed::{Buffers, Packed};
+pub use packed::{Buffers, Packed, PackedNumbers};
 pub use reader::{PacketReader, read_header};
 pub use reading::read_packet;
 pub use sending::{send_header, send_message, send_terminator};

@@ -11,7 +11,7 @@ use crate::fault::{Field, PacketFault};
 use crate::field::read_string;
 use crate::header::number_at;
 use crate::limits::{Limits, MAX_NAME, MAX_SUBJECT};
-use crate::packed::{Buffers, Packed};
+use crate::packed::{Buffers, Packed, PackedNumbers};
 use disk_io::{Broken, Source, read_fixed};
 
 /// The fault of a field that was not read, by its place.
@@ -104,19 +104,21 @@ fn read_fields<R: Source>(
     let from_name = string_at(buffers.from_name, reader, Field::FromName, MAX_NAME, place)?;
     let subject = string_at(buffers.subject, reader, Field::Subject, MAX_SUBJECT, place)?;
     let text = string_at(buffers.text, reader, Field::Text, limits.text, place)?;
-    Ok(Packed::from_parts(
-        number_at(&numbers, 0),
-        number_at(&numbers, 2),
-        number_at(&numbers, 4),
-        number_at(&numbers, 6),
-        number_at(&numbers, 8),
-        number_at(&numbers, 10),
-        date,
+    let fields = PackedNumbers {
+        orig_node: number_at(&numbers, 0),
+        dest_node: number_at(&numbers, 2),
+        orig_net: number_at(&numbers, 4),
+        dest_net: number_at(&numbers, 6),
+        attribute: number_at(&numbers, 8),
+        cost: number_at(&numbers, 10),
+    };
+    let strings = Buffers {
         to_name,
         from_name,
         subject,
         text,
-    ))
+    };
+    Ok(Packed::from_parts(fields, date, strings))
 }
 
 /// The message that begins at the place, or none for 00 00. The place moves past it, and stays at a

@@ -1,5 +1,6 @@
 ghost use Rattle.std.specs.Prelude.{◌≡◌, ◌≤◌, ◌↔◌, length, IsTrue, IfOk, IfErr, IfSome, IsNone, Err, Some};
 ghost use Rattle.echo_packet.specs.Message.{HasNoZero, Message, IsMessage, IsString, AreStrings, IsFirstBad, max_name, max_subject};
+ghost use Rattle.echo_packet.specs.Parts.{message_with};
 ghost use Rattle.echo_packet.specs.declared.fault.Field.{Field};
 ghost use Rattle.echo_packet.specs.declared.fault.PacketFault.TheVariants.{BadField};
 
@@ -28,13 +29,24 @@ pub struct Packed {
     text: Items<u8>,
 }
 
-/// The buffers of a message's strings, for the strings of a later one.
+/// The numbers of a message: the nodes and nets of its two systems, the attributes and the cost.
+#[derive(Clone, Copy, Debug)]
+pub struct PackedNumbers {
+    pub orig_node: u16,
+    pub dest_node: u16,
+    pub orig_net: u16,
+    pub dest_net: u16,
+    pub attribute: u16,
+    pub cost: u16,
+}
+
+/// The strings of a message, each without its 00. Those of an earlier message are buffers for a later one.
 #[derive(Debug, Drop)]
 pub struct Buffers {
-    pub(crate) to_name: Vec<u8>,
-    pub(crate) from_name: Vec<u8>,
-    pub(crate) subject: Vec<u8>,
-    pub(crate) text: Vec<u8>,
+    pub to_name: Vec<u8>,
+    pub from_name: Vec<u8>,
+    pub subject: Vec<u8>,
+    pub text: Vec<u8>,
 }
 
 impl Buffers {
@@ -112,35 +124,40 @@ impl Packed {
     {
         match first_bad(&to_name, &from_name, &subject, &text) {
             Some(field) => Err(PacketFault::BadField(field)),
-            None => Ok(Packed::from_parts(
-                orig_node, dest_node, orig_net, dest_net, attribute, cost, date, to_name,
-                from_name, subject, text,
-            )),
+            None => {
+                let numbers = PackedNumbers {
+                    orig_node,
+                    dest_node,
+                    orig_net,
+                    dest_net,
+                    attribute,
+                    cost,
+                };
+                let strings = Buffers {
+                    to_name,
+                    from_name,
+                    subject,
+                    text,
+                };
+                Ok(Packed::from_parts(numbers, date, strings))
+            }
         }
     }
 
-    /// The message of parts that are already judged: the two systems, the attributes and the cost, the
-    /// date, and the strings without their 00. Takes no memory.
-    #[allow(clippy::too_many_arguments)]
-    pub fn from_parts(
-        orig_node: u16,
-        dest_node: u16,
-        orig_net: u16,
-        dest_net: u16,
-        attribute: u16,
-        cost: u16,
-        date: [u8; 20],
-        to_name: Vec<u8>,
-        from_name: Vec<u8>,
-        subject: Vec<u8>,
-        text: Vec<u8>,
-    ) -> Packed
-        requires to_name { HasNoZero to_name.items × (length to_name.items ≤ max_name) }
-        requires from_name { HasNoZero from_name.items × (length from_name.items ≤ max_name) }
-        requires subject { HasNoZero subject.items × (length subject.items ≤ max_subject) }
-        requires text { HasNoZero text.items }
-        ensures { result ≡ record { orig_node = orig_node; dest_node = dest_node; orig_net = orig_net; dest_net = dest_net; attribute = attribute; cost = cost; date = date; to_name = to_name.items; from_name = from_name.items; subject = subject.items; text = text.items } }
+    /// The message of parts that are already judged. Takes no memory.
+    pub fn from_parts(numbers: PackedNumbers, date: [u8; 20], strings: Buffers) -> Packed
+        requires to_name { HasNoZero strings.to_name.items × (length strings.to_name.items ≤ max_name) }
+        requires from_name { HasNoZero strings.from_name.items × (length strings.from_name.items ≤ max_name) }
+        requires subject { HasNoZero strings.subject.items × (length strings.subject.items ≤ max_subject) }
+        requires text { HasNoZero strings.text.items }
+        ensures { result ≡ message_with numbers date strings }
     {
+        let Buffers {
+            to_name,
+            from_name,
+            subject,
+            text,
+        } = strings;
         // For the prover alone: each byte is below 256.
         are_bytes(&date);
         are_bytes(&to_name);
@@ -148,12 +165,12 @@ impl Packed {
         are_bytes(&subject);
         are_bytes(&text);
         Packed {
-            orig_node,
-            dest_node,
-            orig_net,
-            dest_net,
-            attribute,
-            cost,
+            orig_node: numbers.orig_node,
+            dest_node: numbers.dest_node,
+            orig_net: numbers.orig_net,
+            dest_net: numbers.dest_net,
+            attribute: numbers.attribute,
+            cost: numbers.cost,
             date,
             to_name: Items::new(to_name),
             from_name: Items::new(from_name),

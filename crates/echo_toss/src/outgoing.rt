@@ -18,7 +18,7 @@ use base_store::{Store, StoreError};
 use echo_addr::{Address, Items, NetNode};
 use echo_filed::Filed;
 use echo_links::LinkFile;
-use echo_packet::{Packed, PackedCopy};
+use echo_packet::{Buffers, Packed, PackedCopy, PackedNumbers};
 use echo_text::{Echo, write_parts};
 use std::alloc::{AllocError, Global};
 use std::marker::Model;
@@ -245,17 +245,19 @@ fn packed(
     ensures { IfOk result (λ copy. copy ≡ message_out links.now nowhere message.now text) }
 {
     let system = links.system();
-    Ok(Packed::from_parts(
-        system.node,
-        0,
-        system.net,
-        0,
-        0,
-        0,
-        message.date,
-        Vec::from_slice(alloc, message.to_name.as_slice())?,
-        Vec::from_slice(alloc, message.from_name.as_slice())?,
-        Vec::from_slice(alloc, message.subject.as_slice())?,
-        text.into_vec(),
-    ))
+    let numbers = PackedNumbers {
+        orig_node: system.node,
+        dest_node: 0,
+        orig_net: system.net,
+        dest_net: 0,
+        attribute: 0,
+        cost: 0,
+    };
+    let strings = Buffers {
+        to_name: Vec::from_slice(alloc, message.to_name.as_slice())?,
+        from_name: Vec::from_slice(alloc, message.from_name.as_slice())?,
+        subject: Vec::from_slice(alloc, message.subject.as_slice())?,
+        text: text.into_vec(),
+    };
+    Ok(Packed::from_parts(numbers, message.date, strings))
 }

@@ -1,11 +1,11 @@
 //! Opening a packet, and its next message.
-ghost use Rattle.std.specs.Prelude.{◌≡◌, ◌≢◌, ◌+◌, [], length, Ok, Err, None, IfOk, IfErr, IfSome};
+ghost use Rattle.std.specs.Prelude.{◌≡◌, ◌≢◌, ◌+◌, [], length, Err, IfOk, IfErr, IfSome};
 ghost use Rattle.std.specs.Io.KnownBytes.{Consumes};
-ghost use Rattle.echo_packet.specs.declared.fault.PacketFault.TheVariants.{Memory, Stopped};
+ghost use Rattle.echo_packet.specs.declared.fault.PacketFault.TheVariants.{Memory};
 ghost use Rattle.echo_packet.specs.Header.{IsHeader, header_bytes};
 ghost use Rattle.echo_packet.specs.Fault.{place_of};
 ghost use Rattle.echo_packet.specs.Next.{CountsFailures, FailsInMessage, IsWithin, NextFault, TakesNext, next_bytes};
-ghost use Rattle.echo_packet.specs.Reader.{FailsInFront, FrontFault, GoesOn, IsDropped, IsEnded, IsReading, IsStopped, KeepsFront, reader_given, reader_header, reader_limits, reader_place, reader_source};
+ghost use Rattle.echo_packet.specs.Reader.{FailsInFront, FrontFault, GoesOn, IsDropped, IsReading, KeepsFront, StaysOver, reader_given, reader_header, reader_limits, reader_place, reader_source};
 
 use crate::fault::PacketFault;
 use crate::header::{HEADER_BYTES, Header, header_of, number_at};
@@ -75,8 +75,7 @@ impl<R: Source> PacketReader<R> {
         ensures goes_on { IsReading self.old → GoesOn self.old self.new result }
         ensures fault { IsReading self.old → IfSome (R.remaining (reader_source self.old)) (λ bs. IfErr result (NextFault (reader_limits self.old) (reader_given self.old) (reader_place self.old) bs)) }
         ensures inside { IsReading self.old → IfErr result (FailsInMessage (reader_limits self.old) (reader_given self.old) (reader_place self.old) [] (R.remaining (reader_source self.old)) (R.remaining (reader_source self.new))) }
-        ensures ended { IsEnded self.old → (result ≡ Ok None) × (self.new ≡ self.old) }
-        ensures stopped { IsStopped self.old → (result ≡ Err Stopped) × (self.new ≡ self.old) }
+        ensures over { StaysOver self.old self.new result }
         ensures front { KeepsFront self.old self.new }
         ensures device { CountsFailures result (R.failures (reader_source self.old)) (R.failures (reader_source self.new)) }
     {
