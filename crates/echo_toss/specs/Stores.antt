@@ -1,9 +1,9 @@
 -- Steps of a system that has its messages and cursor in a store.
-use Rattle.std.specs.Prelude.{◌≡◌, ◌++◌, true, false, ℕ, List, Option, Some, option_to_list, Result, Ok, Err}
+use Rattle.std.specs.Prelude.{◌≡◌, ◌++◌, true, false, ℕ, List, Option, Some, option_to_list, Result, Ok, Err, OnErr, OnOk}
 use Rattle.base_file.specs.Base.{Base}
 use Rattle.echo_filed.specs.Filed.{Filed}
 use Rattle.echo_links.specs.Links.{LinkFile}
-use Rattle.base_store.specs.Store.{LooksOn, StoreState}
+use Rattle.base_store.specs.Store.{GoesOn, LooksOn, StoreState, Undoes}
 use Rattle.base_store.specs.declared.store_error.StoreError.{StoreError}
 use Rattle.model_steps.specs.declared.draft.Draft.{Draft}
 use Rattle.model_steps.specs.declared.stamp.Stamp.{Stamp}
@@ -20,6 +20,11 @@ use Rattle.echo_toss.specs.declared.step_error.ScanStepError.TheVariants as scan
 -- one message more at the end, if there is one
 abbrev pub and_filed : Base → Option Filed → Base
 and_filed base m = record { messages = base.messages ++ option_to_list m; cursor = base.cursor }
+
+-- the store goes on, or a failed step takes its change back
+pub record GoesOnOrUndoes {T : Type 0} {E : Type 0} (old new : StoreState) (result : Result T E) : Type 0 where
+  pub goes_on : OnOk result (GoesOn old new)
+  pub undone : OnErr result (Undoes old new)
 
 -- if nothing was filed, only the current message has changed
 abbrev pub LooksUnlessFiled : StoreState → StoreState → Outcome → Type 0

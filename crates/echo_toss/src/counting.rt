@@ -1,15 +1,15 @@
 //! The packets of a scan, counted and not held: whom each is for, and how large it will be.
-ghost use Rattle.std.specs.Prelude.{◌≡◌, ◌+◌, [], ◌∷◌, true, map, filter, slice_get, Some, IfOk, IsErrOf, MatchResult, OnErr, OnOk};
+ghost use Rattle.std.specs.Prelude.{◌≡◌, ◌+◌, [], ◌∷◌, true, map, filter, slice_get, Some, IfOk, IsErrOf, MatchResult, OnOk};
 ghost use Rattle.disk_io.specs.Disk.{Honestly};
 ghost use Rattle.disk_io.specs.Runs.{ChangesNothing};
 ghost use Rattle.base_file.specs.Base.{Base};
-ghost use Rattle.base_store.specs.Store.{CommitsNothing, GoesOn, HasStoreCause, LooksOn, Undoes, all_scanned};
+ghost use Rattle.base_store.specs.Store.{CommitsNothing, HasStoreCause, LooksOn, all_scanned};
 ghost use Rattle.echo_links.specs.Links.{Area, links_of};
 ghost use Rattle.model_steps.specs.Scanning.{scanned};
 ghost use Rattle.model_steps.specs.Stamps.{is_stamp};
 ghost use Rattle.echo_toss.specs.Bounds.{IsFullWhenRead};
 ghost use Rattle.echo_toss.specs.Counts.{counted_to, counted_with, counted_of, has_messages, link_set};
-ghost use Rattle.echo_toss.specs.Stores.{IsScanStop, scan_answer};
+ghost use Rattle.echo_toss.specs.Stores.{GoesOnOrUndoes, IsScanStop, scan_answer};
 
 use crate::grouping::group_from;
 use crate::outgoing::{Outgoing, links_of};
@@ -43,8 +43,7 @@ pub fn count_step<T: Store>(
         → IfOk result (λ all. all.items ≡ map counted_of (scanned links.now base.messages base.cursor stamp))) }
     ensures moved { Honestly (T.state store.new).disk ((base : Base) → (T.state store.old).keeps base → OnOk result ((T.state store.new).keeps (all_scanned base))) }
     ensures stamp { MatchResult result (λ _. is_stamp stamp ≡ true) (IsScanStop stamp (T.state store.old) (T.state store.new)) }
-    ensures goes_on { OnOk result (GoesOn (T.state store.old) (T.state store.new)) }
-    ensures undone { OnErr result (Undoes (T.state store.old) (T.state store.new)) }
+    ensures ends { GoesOnOrUndoes (T.state store.old) (T.state store.new) result }
     ensures quiet { ChangesNothing (T.state store.old).disk (T.state store.new).disk }
     ensures commits { CommitsNothing (T.state store.old) (T.state store.new) }
     ensures many { IsErrOf (scan_answer result) StoreError.TooMany → IsFullWhenRead T.state (T.state store.old) }

@@ -1,14 +1,14 @@
-ghost use Rattle.std.specs.Prelude.{◌≡◌, None, IfErr, IfOk, IsErrOf, MatchResult, OnErr, OnOk};
+ghost use Rattle.std.specs.Prelude.{◌≡◌, None, IfErr, IfOk, IsErrOf, MatchResult, OnOk};
 ghost use Rattle.std.specs.List.{list_any};
 ghost use Rattle.echo_text.specs.Ids.{id_of};
 ghost use Rattle.echo_filed.specs.Filed.{has_id, key_of};
 ghost use Rattle.disk_io.specs.Disk.{Honestly};
 ghost use Rattle.base_file.specs.Base.{Base};
-ghost use Rattle.base_store.specs.Store.{CommitsNothing, GoesOn, HasStoreCause, LooksOn, Undoes, with_message};
+ghost use Rattle.base_store.specs.Store.{CommitsNothing, HasStoreCause, LooksOn, with_message};
 ghost use Rattle.model_steps.specs.Posting.{PostStep, post_refusal, posted};
 ghost use Rattle.echo_toss.specs.Bounds.{IsPastBound};
 ghost use Rattle.echo_toss.specs.Refusals.{IsPrepared, draft_refusal};
-ghost use Rattle.echo_toss.specs.Stores.{IsPostStop, LooksWhereRefused, post_answer};
+ghost use Rattle.echo_toss.specs.Stores.{GoesOnOrUndoes, IsPostStop, LooksWhereRefused, post_answer};
 
 use crate::drafting::posted;
 use crate::refusing::judge;
@@ -42,8 +42,7 @@ pub fn post_step<T: Store>(
     ensures stop { Honestly (T.state store.new).disk ((base : Base) → (T.state store.old).keeps base
         → IfErr result (IsPostStop links.now base.messages tag.now draft.now serial stamp)) }
     ensures looks { IfErr result (LooksWhereRefused (T.state store.old) (T.state store.new)) }
-    ensures goes_on { OnOk result (GoesOn (T.state store.old) (T.state store.new)) }
-    ensures undone { OnErr result (Undoes (T.state store.old) (T.state store.new)) }
+    ensures ends { GoesOnOrUndoes (T.state store.old) (T.state store.new) result }
     ensures commits { CommitsNothing (T.state store.old) (T.state store.new) }
     ensures many { IsErrOf (post_answer result) StoreError.TooMany → IsPastBound T.state (λ base m. m ≡ posted links.now tag.now draft.now serial stamp) (T.state store.old) }
     ensures cause { HasStoreCause (T.state store.old) (T.state store.new) (T.failures store.old) (T.failures store.new) (post_answer result) }

@@ -19,7 +19,7 @@ pub returns-in-Ok-clause-filed : goal.returns-in-Ok-clause-filed
 returns-in-Ok-clause-filed g c = λ honest base kept.
     let so = c.serials.invariant in
     let now = so.looks.keeps base kept in
-    filed_first c.args.links.now _ _ _ _ _ c.serials.serial c.serials._steps c.args.words c.args.draft.now base so (c.in-Ok.ensures.goes_on.honest honest) kept
+    filed_first c.args.links.now _ _ _ _ _ c.serials.serial c.serials._steps c.args.words c.args.draft.now base so (c.in-Ok.ensures.ends.goes_on.honest honest) kept
     (c.in-Ok.ensures.allowed honest base now) (c.in-Ok.ensures.filed honest base now)
 
 pub returns-in-Err-clause-filed : goal.returns-in-Err-clause-filed

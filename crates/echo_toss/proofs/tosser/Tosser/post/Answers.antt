@@ -23,5 +23,5 @@ returns g c =
           )
       | in-Err-Store w ↦
           let stop = rw w.in-Err-Store.field-0-is at w.in-Err-Store.ensures.stop tt base refl in
-          rw w.result-is (stop, sym (ap state (w.in-Err-Store.ensures.undone tt tt base refl)))
+          rw w.result-is (stop, sym (ap state (w.in-Err-Store.ensures.ends.undone tt tt base refl)))
     ])
