@@ -1,10 +1,12 @@
 -- What `post`, `scan`, `purge` and `toss` print of what they did.
-use Rattle.std.specs.Prelude.{ℕ, List, ◌++◌, codes, decimal}
+use Rattle.std.specs.Prelude.{ℕ, ◌+◌, ◌≤◌, List, ◌++◌, Vec, codes, decimal, vec_capacity, vec_len}
+use Rattle.std.specs.declared.alloc.Global.{Global}
 use Rattle.echo_addr.specs.declared.address.Address.{Address}
 use Rattle.echo_addr.specs.Address.{address_text}
 use Rattle.echo_links.specs.Links.{upper}
 use Rattle.echo_packet.specs.declared.header.Header.{Header}
 use Rattle.echo_toss.specs.declared.tally.Tally.{Tally}
+use Rattle.cmd_report.specs.declared.lines.TheConstants.{MOST_TALLY}
 
 -- the tag in upper case, and the id: the own address and the serial
 abbrev pub posted_line : List ℕ → List ℕ → List ℕ
@@ -28,3 +30,7 @@ abbrev pub tally_line : Tally → List ℕ
 tally_line t =
     codes "filed " ++ (decimal t.filed ++ (codes " known " ++ (decimal t.known ++ (codes " notecho " ++ (decimal t.not_echo
     ++ (codes " badtag " ++ (decimal t.bad_tag ++ (codes " noarea " ++ (decimal t.no_area ++ (codes " notlinked " ++ (decimal t.not_linked ++ codes "\n")))))))))))
+
+-- the text has room for the line of what became of the messages of a packet
+abbrev pub HasTallyRoom : Vec ℕ Global → Type 0
+HasTallyRoom text = vec_len text + MOST_TALLY ≤ vec_capacity text

@@ -1,5 +1,6 @@
 -- Tossing a packet with notes into a store.
-use Rattle.std.specs.Prelude.{ℕ, List, Option, Result}
+use Rattle.std.specs.Prelude.{◌≡◌, ℕ, List, [], Option, Result, Vec}
+use Rattle.std.specs.declared.alloc.Global.{Global}
 use Rattle.echo_addr.specs.declared.address.Address.{Address}
 use Rattle.base_file.specs.Base.{Base}
 use Rattle.echo_links.specs.Links.{LinkFile}
@@ -10,7 +11,9 @@ use Rattle.echo_toss.specs.declared.step_error.TossStepError.{TossStepError}
 use Rattle.echo_toss.specs.declared.tally.Tally.{Tally}
 use Rattle.echo_toss.specs.Messages.{TossesMessages}
 use Rattle.echo_toss.specs.PacketSteps.{PacketStep}
+use Rattle.echo_toss.specs.Tallies.{tally_of}
 use Rattle.echo_toss.specs.PacketsIn.{HoldsUnlessFailed, messages_answer, packet_answer, state_in, stop_in}
+use Rattle.cmd_report.specs.Lines.{HasTallyRoom}
 use Rattle.cmd_report.specs.NotedPacket.{NotesPacket, NotesTaken}
 
 -- The packet at the front of a reader's bytes is tossed, from this base to the one that the store then holds. The
@@ -27,3 +30,8 @@ pub record NotesMessagesIn {A : Type 0} (limits : Limits) (sender : Address) (fi
   pub step : TossesMessages limits sender (state_in file base) before after tally (messages_answer result) (state_in file next)
   pub notes : NotesTaken limits sender (state_in file base) before tally (state_in file next) text noted
   pub holds : HoldsUnlessFailed old result new next
+
+-- no message is counted yet, and the text has room for the line of the packet
+pub record CanBegin (tally : Tally) (text : Vec ℕ Global) : Type 0 where
+  pub none : tally ≡ tally_of []
+  pub room : HasTallyRoom text

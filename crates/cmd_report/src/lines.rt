@@ -1,7 +1,7 @@
 //! The lines of what `post`, `scan`, `purge` and `toss` did.
 ghost use Rattle.std.specs.Prelude.{◌≡◌, ◌+◌, ◌≤◌, ◌++◌, decimal, length, OnOk, vec_capacity, vec_len};
 ghost use Rattle.echo_text.specs.Ids.{id_of};
-ghost use Rattle.cmd_report.specs.Lines.{posted_line, purged_line, sent_line, tally_line};
+ghost use Rattle.cmd_report.specs.Lines.{HasTallyRoom, posted_line, purged_line, sent_line, tally_line};
 
 use echo_addr::Address;
 use echo_charset::written;
@@ -55,7 +55,7 @@ pub const MOST_TALLY: usize = 170;
 
 /// Adds the line of what became of the messages of a packet. There is to be room for `MOST_TALLY` bytes.
 pub fn push_tally(lines: &mut Vec<u8>, tally: Tally)
-    requires { vec_len lines.old + 170 ≤ vec_capacity lines.old }
+    requires { HasTallyRoom lines.old }
     ensures { lines.new.items ≡ lines.old.items ++ tally_line tally }
 {
     push_count(lines, b"filed ", tally.filed);

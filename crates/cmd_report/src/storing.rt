@@ -1,5 +1,5 @@
 //! Tosses a packet into a store, and notes the messages that were not filed.
-ghost use Rattle.std.specs.Prelude.{◌≡◌, ◌+◌, ◌<◌, ◌≤◌, ◌^◌, ◌≢◌, [], ◌++◌, IfErr, IsErr, IsErrOf, OnErr, OnOk, vec_capacity, vec_len};
+ghost use Rattle.std.specs.Prelude.{◌≡◌, ◌≢◌, ◌++◌, IfErr, IsErr, IsErrOf, OnErr, OnOk};
 ghost use Rattle.base_file.specs.Base.{Base};
 ghost use Rattle.disk_io.specs.Disk.{Honestly};
 ghost use Rattle.base_store.specs.Store.{CommitsNothing, HasStoreCause};
@@ -11,10 +11,11 @@ ghost use Rattle.echo_toss.specs.Bounds.{AddsReceived, IsPastBound};
 ghost use Rattle.echo_toss.specs.Messages.{CountsStop};
 ghost use Rattle.echo_toss.specs.PacketSteps.{CountsToss};
 ghost use Rattle.echo_toss.specs.PacketsIn.{GoesOnUnlessFailed, messages_answer, packet_answer, stop_in, toss_answer};
-ghost use Rattle.echo_toss.specs.Tallies.{tally_of};
+ghost use Rattle.cmd_report.specs.Lines.{HasTallyRoom};
 ghost use Rattle.cmd_report.specs.Notes.{note_of};
-ghost use Rattle.cmd_report.specs.NotedIn.{NotesMessagesIn, NotesPacketIn};
+ghost use Rattle.cmd_report.specs.NotedIn.{CanBegin, NotesMessagesIn, NotesPacketIn};
 
+use crate::lines::MOST_TALLY;
 use crate::note::note_line;
 use base_store::Store;
 use disk_io::Source;
@@ -27,7 +28,7 @@ use echo_toss::{
 use std::alloc::{AllocError, Global};
 
 /// Tosses the packet at the front of the reader into the store, as `toss_packet_in` does. It appends to the
-/// text a line for each of its messages that was not filed, and keeps room for `room` more bytes. Nothing is
+/// text a line for each of its messages that was not filed, and keeps room for the packet's own line. Nothing is
 /// committed.
 ///
 /// A message without memory for its line is not counted either.
@@ -38,11 +39,9 @@ pub fn toss_noting_in<T: Store, R: Source>(
     reader: &mut R,
     limits: Limits,
     text: &mut Vec<u8>,
-    room: usize,
 ) -> Result<Tally, StoppedToss>
     requires ready { (T.state store.old).is_ready }
-    requires small { room < 2 ^ 62 }
-    requires room { vec_len text.old + room ≤ vec_capacity text.old }
+    requires room { HasTallyRoom text.old }
     ensures tossed { Honestly (T.state store.new).disk ((base : Base) → (T.state store.old).keeps base
         → NotesPacketIn limits links.now base (R.remaining reader.old) (R.remaining reader.new) text.old.items text.new.items (T.state store.old) result (T.state store.new)) }
     ensures device { CountsToss (packet_answer result) (R.failures reader.old) (R.failures reader.new) }
@@ -50,7 +49,7 @@ pub fn toss_noting_in<T: Store, R: Source>(
     ensures commits { CommitsNothing (T.state store.old) (T.state store.new) }
     ensures many { IsErrOf (toss_answer (stop_in result)) TooMany → IsPastBound T.state (AddsReceived limits links.now) (T.state store.old) }
     ensures cause { HasStoreCause (T.state store.old) (T.state store.new) (T.failures store.old) (T.failures store.new) (toss_answer (stop_in result)) }
-    ensures room { vec_len text.new + room ≤ vec_capacity text.new }
+    ensures room { HasTallyRoom text.new }
 {
     let mut tally = Tally::NONE;
     let sender = match check_destination(links, reader) {
@@ -60,49 +59,50 @@ pub fn toss_noting_in<T: Store, R: Source>(
             return Err(StoppedToss { tally, stop });
         }
     };
-    match note_messages_in(
-        alloc, links, store, sender, reader, limits, &mut tally, text, room,
-    ) {
+    let packet = Incoming { sender, limits };
+    match note_messages_in(alloc, links, store, packet, reader, &mut tally, text) {
         Ok(()) => Ok(tally),
         Err(stop) => Err(StoppedToss { tally, stop }),
     }
 }
 
+// Who sent a packet, and how much of it is read.
+#[derive(Clone, Copy)]
+struct Incoming {
+    sender: Address,
+    limits: Limits,
+}
+
 // Tosses the messages up to the terminator, and notes those that were not filed.
-#[allow(clippy::too_many_arguments)]
 fn note_messages_in<T: Store, R: Source>(
     alloc: Global,
     links: &LinkFile,
     store: &mut T,
-    sender: Address,
+    packet: Incoming,
     reader: &mut R,
-    limits: Limits,
     tally: &mut Tally,
     text: &mut Vec<u8>,
-    room: usize,
 ) -> Result<(), TossStepError>
     requires ready { (T.state store.old).is_ready }
-    requires none { tally.old ≡ tally_of [] }
-    requires small { room < 2 ^ 62 }
-    requires room { vec_len text.old + room ≤ vec_capacity text.old }
+    requires begins { CanBegin tally.old text.old }
     ensures tossed { Honestly (T.state store.new).disk ((base : Base) → (T.state store.old).keeps base
-        → NotesMessagesIn limits sender links.now base (R.remaining reader.old) (R.remaining reader.new) tally.new text.old.items text.new.items (T.state store.old) result (T.state store.new)) }
+        → NotesMessagesIn packet.limits packet.sender links.now base (R.remaining reader.old) (R.remaining reader.new) tally.new text.old.items text.new.items (T.state store.old) result (T.state store.new)) }
     ensures device { CountsStop (messages_answer result) (R.failures reader.old) (R.failures reader.new) }
     ensures goes_on { GoesOnUnlessFailed (T.state store.old) result (T.state store.new) }
     ensures commits { CommitsNothing (T.state store.old) (T.state store.new) }
-    ensures many { IsErrOf (toss_answer result) TooMany → IsPastBound T.state (AddsReceived limits links.now) (T.state store.old) }
+    ensures many { IsErrOf (toss_answer result) TooMany → IsPastBound T.state (AddsReceived packet.limits links.now) (T.state store.old) }
     ensures cause { HasStoreCause (T.state store.old) (T.state store.new) (T.failures store.old) (T.failures store.new) (toss_answer result) }
-    ensures room { vec_len text.new + room ≤ vec_capacity text.new }
+    ensures room { HasTallyRoom text.new }
 {
     let mut given = 0;
     let mut place = HEADER_BYTES as u64;
     let mut buffers = Buffers::new(alloc);
     'messages: loop {
         let begun = place;
-        match read_next(buffers, reader, limits, given, &mut place)? {
+        match read_next(buffers, reader, packet.limits, given, &mut place)? {
             Some(message) => {
-                let outcome = toss_step(alloc, links, store, sender, &message)?;
-                note_in(alloc, text, room, given + 1, begun, outcome, &message)?;
+                let outcome = toss_step(alloc, links, store, packet.sender, &message)?;
+                note_in(alloc, text, given + 1, begun, outcome, &message)?;
                 tally.count(outcome);
                 given += 1;
                 buffers = message.into_buffers();
@@ -116,48 +116,44 @@ fn note_messages_in<T: Store, R: Source>(
 fn note_in(
     alloc: Global,
     text: &mut Vec<u8>,
-    room: usize,
     number: u64,
     place: u64,
     outcome: Outcome,
     message: &Packed,
 ) -> Result<(), TossStepError>
-    requires small { room < 2 ^ 62 }
-    requires room { vec_len text.old + room ≤ vec_capacity text.old }
+    requires { HasTallyRoom text.old }
     ensures ok { OnOk result (text.new.items ≡ text.old.items ++ note_of number place outcome message.now) }
     ensures err { OnErr result (text.new.items ≡ text.old.items) }
     ensures stop { IfErr result (λ stop. stop ≡ toss.Packet cause.Memory) }
     ensures other { IsErr result → outcome ≢ Filed }
-    ensures room { vec_len text.new + room ≤ vec_capacity text.new }
+    ensures room { HasTallyRoom text.new }
 {
-    match note_outcome(alloc, text, room, number, place, outcome, message) {
+    match note_outcome(alloc, text, number, place, outcome, message) {
         Ok(()) => Ok(()),
         Err(_) => Err(TossStepError::Packet(TossCause::Memory)),
     }
 }
 
-// Adds the line of a message that was not filed, and leaves as much room as there was.
+// Adds the line of a message that was not filed. Leaves room for the line of the packet.
 fn note_outcome(
     alloc: Global,
     text: &mut Vec<u8>,
-    room: usize,
     number: u64,
     place: u64,
     outcome: Outcome,
     message: &Packed,
 ) -> Result<(), AllocError>
-    requires small { room < 2 ^ 62 }
-    requires room { vec_len text.old + room ≤ vec_capacity text.old }
+    requires { HasTallyRoom text.old }
     ensures ok { OnOk result (text.new.items ≡ text.old.items ++ note_of number place outcome message.now) }
     ensures err { OnErr result (text.new.items ≡ text.old.items) }
     ensures other { IsErr result → outcome ≢ Filed }
-    ensures room { vec_len text.new + room ≤ vec_capacity text.new }
+    ensures room { HasTallyRoom text.new }
 {
     match outcome {
         Outcome::Filed => Ok(()),
         other => {
             let line = note_line(alloc, number, place, other, message)?;
-            text.reserve(line.len() + room)?;
+            text.reserve(line.len() + MOST_TALLY)?;
             text.extend_from_slice(&line).unwrap();
             Ok(())
         }

@@ -1,7 +1,8 @@
 //! The command `toss` on a store: packet files one after the other, of which one is open at a time.
-ghost use Rattle.std.specs.Prelude.{◌≡◌, ◌+◌, ◌≤◌, false, IfErr, IsErrOf, OnOk, vec_capacity, vec_len};
+ghost use Rattle.std.specs.Prelude.{◌≡◌, ◌≤◌, false, IfErr, IsErrOf, OnOk};
 ghost use Rattle.disk_io.specs.Disk.{Honestly};
 ghost use Rattle.base_file.specs.Base.{Base};
+ghost use Rattle.cmd_report.specs.Lines.{HasTallyRoom};
 ghost use Rattle.cmd_report.specs.TossedPacket.{TossRun};
 ghost use Rattle.cmd_status.specs.Devices.{device_of, output_of};
 ghost use Rattle.base_store.specs.Store.{CommitsNothing, GoesOn, HasStoreCause};
@@ -181,7 +182,7 @@ fn toss_next<'a, T: Store, R: Source>(
         return Ok(Some(Fault::OutOfMemory));
     }
     if noting {
-        let answer = toss_noting_in(alloc, links, store, reader, limits, lines, MOST_TALLY);
+        let answer = toss_noting_in(alloc, links, store, reader, limits, lines);
         push_answer(lines, answer)
     } else {
         let answer = toss_packet_in(alloc, links, store, reader, limits);
@@ -194,7 +195,7 @@ fn push_answer<'a>(
     lines: &mut Vec<u8>,
     answer: Result<Tally, StoppedToss>,
 ) -> Result<Option<Fault<'a>>, StoreError>
-    requires { vec_len lines.old + 170 ≤ vec_capacity lines.old }
+    requires { HasTallyRoom lines.old }
     ensures { ReportsIn lines.old.items lines.new.items answer result }
 {
     match answer {

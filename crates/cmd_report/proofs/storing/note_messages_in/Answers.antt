@@ -13,8 +13,8 @@ use Rattle.cmd_report.proofs.storing.note_messages_in.Goals as goal
 
 pub messages-init : goal.messages-init
 messages-init g c =
-    begun_noted c.args.limits c.args.sender c.args.links.now (g.T.Store.state c.args.store.now) (g.T.Store.failures c.args.store.now) (g.R.Read.remaining c.args.reader.now) c.args.tally.now
-    c.args.text.now.items (g.R.Source.failures c.args.reader.now) _ c.requires.ready c.requires.none c.requires.room
+    begun_noted c.args.packet.limits c.args.packet.sender c.args.links.now (g.T.Store.state c.args.store.now) (g.T.Store.failures c.args.store.now) (g.R.Read.remaining c.args.reader.now) c.args.tally.now
+    c.args.text.now.items (g.R.Source.failures c.args.reader.now) _ c.requires.ready c.requires.begins.none c.requires.begins.room
 
 pub count-requires : goal.count-requires
 count-requires g c =
@@ -40,12 +40,12 @@ messages-preserved g c =
           let was = h.each (answer.commits.beside.honest honest) base kept in
           let next = was.0 in
           let gone = was.1 in (
-            and_filed next (tossing c.args.links.now next.messages c.args.sender m),
+            and_filed next (tossing c.args.links.now next.messages c.args.packet.sender m),
             record {
               messages = _;
-              taken = one_more_taken c.args.limits c.args.sender _ _ _ _ _ _ gone.messages m c.messages.given c.messages.place _ _ _ outcome
+              taken = one_more_taken c.args.packet.limits c.args.packet.sender _ _ _ _ _ _ gone.messages m c.messages.given c.messages.place _ _ _ outcome
                   gone.taken within.0 within.1 taken place (answer.outcome honest next was.2, refl) more;
-              notes = one_more_noted c.args.limits c.args.sender _ _ _ _ gone.messages m c.messages.given c.messages.place _ outcome _ _ _
+              notes = one_more_noted c.args.packet.limits c.args.packet.sender _ _ _ _ gone.messages m c.messages.given c.messages.place _ outcome _ _ _
                   gone.taken gone.notes (answer.outcome honest next was.2) noted.ok;
               device = device;
               free = noted.room;
@@ -68,4 +68,4 @@ returns-in_err-outcome-in-Some-clause-many g c =
     let p = err_from_is_err_and c.from_residual-in_err-outcome-in-Some.result c.from_residual-in_err-outcome-in-Some.ensures.1 in
     rw (p.1, p.2) (λ is.
     past_after g.T.Store.state _ _ _ h.commits h.on
-    (past_wider g.T.Store.state _ _ _ (λ base m adds. (c.args.sender, c.in-Some.message, within.0, adds)) (c.in_err-outcome-in-Some.ensures.many (handed_many c.in_err-outcome-in-Some.field-0.0 is))))
+    (past_wider g.T.Store.state _ _ _ (λ base m adds. (c.args.packet.sender, c.in-Some.message, within.0, adds)) (c.in_err-outcome-in-Some.ensures.many (handed_many c.in_err-outcome-in-Some.field-0.0 is))))

@@ -1,13 +1,14 @@
 -- The messages so far were tossed into the store and noted, and the reader lost them.
-use Rattle.std.proofs.Common.{◌+◌, ◌-◌, ◌≤◌, vec_len, vec_capacity}
+use Rattle.std.proofs.Common.{◌-◌}
+use Rattle.cmd_report.specs.Lines.{HasTallyRoom}
 use Rattle.cmd_report.proofs.NotedIn.{HasNotedIn}
 use Rattle.cmd_report.proofs.storing.note_messages_in.Given as goal
 
 abbrev pub invariant-messages : goal.invariant-messages
 invariant-messages g l =
-    HasNotedIn l.limits l.sender l.links (g.T.Store.state l.fn.store) (g.T.Store.state l.store) (g.T.Store.failures l.fn.store) (g.T.Store.failures l.store)
+    HasNotedIn l.packet.limits l.packet.sender l.links (g.T.Store.state l.fn.store) (g.T.Store.state l.store) (g.T.Store.failures l.fn.store) (g.T.Store.failures l.store)
     (g.R.Read.remaining l.fn.reader) (g.R.Read.remaining l.reader) l.given l.place l.tally l.fn.text.items l.text.items (g.R.Source.failures l.fn.reader) (g.R.Source.failures l.reader)
-    (vec_len l.text + l.room ≤ vec_capacity l.text)
+    (HasTallyRoom l.text)
 
 abbrev pub decreases-messages : goal.decreases-messages
-decreases-messages g l = l.limits.messages - l.given
+decreases-messages g l = l.packet.limits.messages - l.given
