@@ -1,7 +1,7 @@
 -- The packets of a scan before and after some of its messages.
-use Rattle.std.proofs.Common.{◌≡◌, ◌∙◌, ⊎_elim, ◌⊎◌, ◌+◌, Bool, true, false, List, [], ◌∷◌, ◌++◌, map, length, not, inl, inr, sym, ap, arith}
-use Rattle.std.specs.Prelude.{filter, nat_lt}
-use Rattle.std.proofs.lemmas.Bool.{cases_Bool, lt-ltb, ltb-lt}
+use Rattle.std.proofs.Common.{◌≡◌, ◌∙◌, ⊎_elim, ◌⊎◌, ◌+◌, Bool, true, false, List, [], ◌∷◌, ◌++◌, map, length, inl, inr, refl, subst, sym, ap, arith}
+use Rattle.std.specs.Prelude.{filter, not}
+use Rattle.std.proofs.lemmas.Bool.{cases_Bool, lt-ltb, ltb-true, not-true}
 use Rattle.echo_addr.specs.declared.address.Address.{Address}
 use Rattle.echo_filed.proofs.Choices.{IsIn}
 use Rattle.echo_toss.specs.declared.counting.CountedPacket.{CountedPacket}
@@ -11,7 +11,7 @@ use Rattle.echo_toss.proofs.Counts.{filter_in, in_filter, more_in}
 
 -- a packet that has messages has some with more of them
 pub has_with : (more : List Outgoing) (p : CountedPacket) → has_messages p ≡ true → has_messages (counted_with more p) ≡ true
-has_with more p has = lt-ltb 0 (p.messages + length (copies_out p.to more)) (let some = ltb-lt 0 p.messages has in omega (arith, some))
+has_with more p has = lt-ltb 0 (p.messages + length (copies_out p.to more)) (let some = ltb-true 0 p.messages has in omega (arith, some))
 
 pub has_later : (sent more : List Outgoing) (a : Address) → has_messages (counted_to sent a) ≡ true → has_messages (counted_to (sent ++ more) a) ≡ true
 has_later sent more a has = sym (ap has_messages (more_in sent more a)) ∙ has_with more (counted_to sent a) has
@@ -61,7 +61,7 @@ begun_had more counts p h =
     let has = in_filter has_messages p (map (counted_with more) (filter has_none counts)) h in
     let found = in_map (counted_with more) p (filter has_none counts) has.0 in
     let none = in_filter has_none found.0 counts found.1 in
-    (found.0, none.0, sym (not-not (has_messages found.0)) ∙ ap not none.1, found.2)
+    (found.0, none.0, not-true (has_messages found.0) none.1, found.2)
 
 -- those that have their first messages have some
 pub begun_has : (more : List Outgoing) (counts : List CountedPacket) (p : CountedPacket) → IsIn p (begun_with more counts)

@@ -1,7 +1,7 @@
-use Rattle.std.proofs.Common.{◌≡◌, ◌≤◌, ◌∙◌, ◌++◌, List, ap, arith, append_assoc, drop, filter, length, map, sym}
+use Rattle.std.proofs.Common.{◌≡◌, ◌≤◌, ◌∙◌, ◌++◌, List, ap, arith, append_assoc, drop, length, map, sym}
 use Rattle.std.proofs.lemmas.List.{append-nil, drop_all}
 use Rattle.base_store.proofs.Runs.{looks_twice}
-use Rattle.echo_toss.specs.Counts.{counted_with, has_messages, link_set}
+use Rattle.echo_toss.specs.Counts.{counted_with, link_set}
 use Rattle.echo_toss.specs.Exports.{Outgoing, sent_of}
 use Rattle.echo_toss.proofs.Counts.{all_counted, group_counted}
 use Rattle.std.proofs.lemmas.Result.{err_from_is_err_and}
