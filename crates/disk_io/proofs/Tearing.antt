@@ -1,5 +1,5 @@
 -- A step that a crash cut off before it began.
-use Rattle.std.proofs.Common.{ℕ, List, length, Option, refl, arith}
+use Rattle.std.proofs.Common.{ℕ, List, Option, refl, arith}
 use Rattle.std.proofs.lemmas.List.{take_min}
 use Rattle.disk_io.specs.Disk.{DiskState, Files, bytes_in}
 use Rattle.disk_io.specs.Steps.{TornWrite, ChangesFile}
