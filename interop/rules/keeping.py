@@ -6,7 +6,7 @@ TRIALS, trial = trials_of("keeps")
 
 
 def with_body(subject, *lines):
-    """A message with these lines behind its id."""
+    """A message with these lines after its id."""
     return message(subject, with_id(new_id(subject), *lines))
 
 
