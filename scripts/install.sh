@@ -1,7 +1,7 @@
 #!/usr/bin/env bash
-# install.sh ROOT PREFIX: installs below ROOT and PREFIX. It copies the program, its manual page, the scripts of
-# examples/net, the tools of examples/move, the examples of packaging, the documents with their nets, and shell
-# completions. The unit gets the paths below PREFIX. uninstall.sh removes the same files.
+# install.sh ROOT PREFIX: installs below ROOT and PREFIX. It copies the program, its manual page and shell
+# completions. It also copies the scripts of examples/net, the tools of examples/move, the examples of packaging, and
+# the documents with their nets. The unit gets the paths below PREFIX. uninstall.sh removes the same files.
 set -eu
 cd "$(dirname "$0")/.."
 to=$1$2

@@ -1,5 +1,5 @@
 #!/usr/bin/env bash
-# A view that outlives its text is refused before the prover runs. An edit of must-fail has to reach the prover, so
+# A view that outlives its text is refused before the prover runs. An edit of must-fail has to reach the prover. So
 # this tries the code of crates/echo_text/must-fail/view_outlives_its_text.md on a copy.
 set -eu
 cd "$(dirname "$0")/.."

@@ -1,11 +1,11 @@
-# Beta moves from CrashMail to echonet, with its messages, as docs/INTEROP.md tells it
+# Beta moves from CrashMail to echonet, with its messages, as docs/INTEROP.md says
 
 stop_daemon two
 mkdir -p moved/{base,inbound,packets,old}
 move=$here/../examples/move
 "$move/links-from" crashmail 1:10/2 two/prefs > moved/real
 same "its link file" "$(sed '/^NAME/d; s/ $//' two/links)" "$(cat moved/real)"
-# Beta's new base imports its messages under a link file whose only link is the address of no system. So nothing is
+# Beta's new base imports its messages under a link file. Its only link is the address of no system. So nothing is
 # sent.
 sed 's,^\(AREA [^ ]*\).*,\1 1:10/30000,' moved/real > moved/links
 "$move/links-from" --bases crashmail 1:10/2 two/prefs | while read -r tag kind path; do

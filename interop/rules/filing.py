@@ -104,7 +104,7 @@ def short_date(run):
 
 @trial("files once", "sends once", alone=True)
 def own_comes_back(run):
-    """a message of an editor, sent by SCAN, comes from a link: it is filed and sent again"""
+    """a message of an editor, sent by SCAN, is received from a link: it is filed and sent again"""
     own = message(b"Own", with_id(b"1:10/2 00000001", b"Hello"), seen=())
     run.write_by_editor(2, own)
     run.settle()
