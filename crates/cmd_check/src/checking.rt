@@ -20,7 +20,7 @@ use echo_net::Verdict;
 use echo_nodelist::Nodelist;
 use std::alloc::{AllocError, Global};
 
-/// What `check` prints besides its verdicts.
+/// What `check` prints in addition to its verdicts.
 #[derive(Clone, Copy)]
 pub struct Besides<'n> {
     /// Which systems of the area this nodelist lacks.
@@ -29,10 +29,10 @@ pub struct Besides<'n> {
     pub more: bool,
 }
 
-/// `check [--nodelist LIST] [--more] TAG LINKS...`: prints whether the area of the tag, its letters made upper case, is
-/// in order on the net of these link files, and with `--more` each further fault. Then it prints which of its systems
-/// the nodelist lacks. Of a faulty file nothing is printed. The first fault is returned, that of the nodelist before
-/// those of link files. `stopped` is why no further file was read, and comes last.
+/// `check [--nodelist LIST] [--more] TAG LINKS...`: prints whether the area of the tag, its letters made upper case,
+/// is in order on the net of these link files. With `--more` it prints each further fault. Then it prints which of
+/// its systems the nodelist lacks. For a faulty file nothing is printed. The first fault is returned, that of the
+/// nodelist before those of link files. `stopped` is why no further file was read, and comes last.
 pub fn check<'a, W: Sink>(
     alloc: Global,
     besides: Besides<'_>,

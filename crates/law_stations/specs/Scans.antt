@@ -57,8 +57,8 @@ with_packets_in outbound place = record { stands_for = place.stands_for; is_own 
 
 -- A scan does on the disk what its command event may do.
 pub record ScansAsEvent (stamp : Stamp) (place : Place) (links outbound : List ℕ) (i : ℕ) (d ended : Disks) (base : Base) (old new : DiskState) (result : Result (Unit {0}) ScanError) : Type 0 where
-  -- A crash at any time leaves what a crash before could have left, or the station unchanged, or the station and the packets as after the
-  -- event.
+  -- A crash at any time leaves one of three things: what a crash before could have left; the station unchanged; or
+  -- the station and the packets as after the event.
   pub crash : (c : Files) → new.left_since old.moment c → old.may_leave c ⊎ (ShowsStation place links i c d ⊎ AreAfterScan stamp place links outbound i d ended base c)
   -- Where it ends well they are as after the event, and no packet waits.
   pub done : result ≡ Ok tt → IsAfterScan stamp place links outbound i d ended base new
