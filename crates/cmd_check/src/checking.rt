@@ -87,8 +87,8 @@ fn check_read<'a, W: Sink>(
     Ok(status_of(&verdict))
 }
 
-/// Adds the lines of the verdict, of further faults if they are asked for, and of the systems that the nodelist does
-/// not hold.
+/// Adds the lines of the verdict, of further faults if they are asked for, and of the systems that the nodelist
+/// lacks.
 pub(crate) fn push_check(
     alloc: Global,
     lines: &mut Vec<u8>,
@@ -106,7 +106,7 @@ pub(crate) fn push_check(
     push_absences(alloc, lines, list, links, tag)
 }
 
-/// The status of a verdict: 0 where it is yes, else 1.
+/// The status of a verdict: 0 for a yes, else 1.
 pub fn status_of(verdict: &Verdict) -> Status
     ensures { result ≡ verdict_status verdict.now }
 {

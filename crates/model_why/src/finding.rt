@@ -1,4 +1,4 @@
-//! What goes wrong in an area that is not in order.
+//! Finds the harm in an area that is not in order.
 
 ghost use Rattle.std.specs.Prelude.{IfOk, IfSome};
 ghost use Rattle.model_why.specs.Found.{IsShown};
