@@ -60,7 +60,7 @@ pub record Purges (net : Net) (i : ℕ) (new : Net) : Type 0 where
   pub there : nth i net.stations ≡ Some station
   pub becomes : new ≡ with_left net i [] (purged station.base)
 
--- A reader of which just this is known.
+-- A reader of which only this is known.
 abbrev pub itself : Device → Device
 itself reader = reader
 
