@@ -9,12 +9,13 @@ use Rattle.echo_text.specs.Echo.{msgid_of}
 use Rattle.echo_filed.specs.Filed.{Filed, IsFiled, has_id, key_of, same_key}
 use Rattle.echo_filed.specs.declared.key.Key.{Key}
 use Rattle.echo_filed.proofs.Keys.{same_key_decides}
+use Rattle.base_file.specs.Alone.{IsStoredAlone}
 use Rattle.base_file.specs.Base.{Base, IsBase, is_known}
 use Rattle.base_store.specs.Keys.{digested, digested_key, digested_with}
 use Rattle.base_store.proofs.Digests.{of_key}
 use Rattle.base_store.proofs.Told.{tells_each}
 use Rattle.base_store.specs.Store.{all_scanned, with_message}
-use Rattle.base_folder_store.specs.Added.{IsStoredAlone, with_stored}
+use Rattle.base_folder_store.specs.Added.{with_stored}
 use Rattle.base_folder_store.specs.Answers.{HaveDigest, IsAloneOf}
 use Rattle.base_folder_store.specs.Held.{HoldsBase, digest_by}
 use Rattle.base_folder_store.specs.Opened.{IsOpen, held_by}

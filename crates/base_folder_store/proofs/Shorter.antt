@@ -17,9 +17,9 @@ use Rattle.echo_filed.specs.declared.stored.Version.TheVariants.{Second}
 use Rattle.echo_filed.proofs.Keys.{msgid_first, msgid_is_id, stub_of_stub}
 use Rattle.echo_filed.proofs.Sendings.{last_sent, stored_parts}
 use Rattle.echo_filed.proofs.StubTests.{stub_told}
+use Rattle.base_file.specs.Alone.{MayStandAlone, cursor_alone}
 use Rattle.base_file.specs.BaseFile.{BaseOf, head_bytes, is_countable, magic, saved_bytes, stored_at}
 use Rattle.base_file.proofs.SavedAgain.{SavesAgain, saved_again}
-use Rattle.base_store.specs.Keys.{MayStandAlone, cursor_alone}
 use Rattle.base_folder_store.proofs.Single.{head_long}
 use Rattle.base_folder_store.proofs.Whole.{whole_loads}
 

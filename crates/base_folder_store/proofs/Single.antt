@@ -7,11 +7,10 @@ use Rattle.echo_filed.specs.Filed.{Filed, IsFiled}
 use Rattle.echo_filed.specs.declared.stored.Version.{Version}
 use Rattle.echo_filed.specs.declared.stored.Version.TheVariants.{First, Second}
 use Rattle.echo_filed.specs.Stored.{Stored, has_tag, is_short, is_short_enough, message_in, stored_as, stored_bytes}
+use Rattle.base_file.specs.Alone.{IsStoredAlone, MayStandAlone, cursor_alone}
 use Rattle.base_file.specs.Base.{IsBase}
 use Rattle.base_file.specs.BaseFile.{Begins, has_wrong_form, has_wrong_last, has_wrong_sender, has_wrong_string, head_bytes, is_countable, is_damaged, is_other_kind, magic, saved_bytes, stored_at, stored_from}
 use Rattle.base_file.proofs.Saved.{saved_is_base}
-use Rattle.base_store.specs.Keys.{MayStandAlone, cursor_alone}
-use Rattle.base_folder_store.specs.Added.{IsStoredAlone}
 
 true_of_not : (b : Bool) → not b ≡ false → b ≡ true
 true_of_not true h = refl

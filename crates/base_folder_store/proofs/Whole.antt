@@ -5,12 +5,12 @@ use Rattle.disk_io.specs.Device.{Failed}
 use Rattle.echo_filed.specs.Filed.{Filed}
 use Rattle.echo_filed.specs.declared.stored.Version.TheVariants.{Second}
 use Rattle.echo_filed.specs.Stored.{IsStored, Stored, has_tag, message_in, stored_bytes}
+use Rattle.base_file.specs.Alone.{MayStandAlone, cursor_alone}
 use Rattle.base_file.specs.Base.{Base}
 use Rattle.base_file.specs.BaseFile.{BaseOf, LoadOf, Loaded, head_bytes}
 use Rattle.base_file.specs.Loading.{AnswersLoad, CountsLoad}
 use Rattle.base_file.specs.declared.fault.BaseFault.{BaseFault}
 use Rattle.base_file.specs.declared.fault.BaseFault.TheVariants as fault
-use Rattle.base_store.specs.Keys.{MayStandAlone, cursor_alone}
 use Rattle.base_file.proofs.OneBase.{same_ok, ok_no_err}
 
 at_most_one : (tagged : Bool) → (if tagged then 1 else 0) ≤ 1

@@ -1,11 +1,12 @@
 -- What reads of a base folder answer.
 use Rattle.std.specs.Prelude.{◌≡◌, ◌≤◌, ◌<◌, ℕ, Bool, true, List, [], ◌∷◌, length, slice_index_or, Result, Ok, Err, IsErrOf}
 use Rattle.disk_io.specs.Device.{Failed}
+use Rattle.base_file.specs.Alone.{MayStandAlone}
 use Rattle.base_file.specs.Base.{Base}
 use Rattle.echo_filed.specs.Filed.{Filed}
 use Rattle.echo_filed.specs.Stored.{IsStored, Stored, message_in, stored_bytes}
 use Rattle.echo_filed.specs.declared.stored.Version.TheVariants.{Second}
-use Rattle.base_store.specs.Keys.{MayStandAlone, digest_at}
+use Rattle.base_store.specs.Keys.{digest_at}
 use Rattle.base_store.specs.declared.store_error.StoreError.{StoreError}
 use Rattle.base_store.specs.declared.store_error.StoreError.TheVariants as error
 

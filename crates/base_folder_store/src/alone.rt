@@ -3,9 +3,8 @@ ghost use Rattle.std.specs.Prelude.{◌≡◌, ℕ, List, [], ◌∷◌, false, 
 ghost use Rattle.echo_filed.specs.declared.stored.Version.TheVariants.{Second};
 ghost use Rattle.echo_filed.specs.Filed.{Filed, IsFiled};
 ghost use Rattle.echo_filed.specs.Stored.{IsStored, Stored, has_tag, is_short_enough, message_in, stored_as, stored_bytes};
+ghost use Rattle.base_file.specs.Alone.{IsStoredAlone, MayStandAlone};
 ghost use Rattle.base_file.specs.BaseFile.{LoadOf, head_bytes};
-ghost use Rattle.base_store.specs.Keys.{MayStandAlone};
-ghost use Rattle.base_folder_store.specs.Added.{IsStoredAlone};
 ghost use Rattle.base_folder_store.specs.Answers.{Answers};
 
 use base_file::{Base, BaseFault};

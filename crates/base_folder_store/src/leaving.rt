@@ -1,12 +1,12 @@
 //! What a purge leaves of one message.
 ghost use Rattle.std.specs.Prelude.{◌≡◌, [], ◌∷◌, not, false, true, IfOk, OnOk, IsErrOf};
+ghost use Rattle.base_file.specs.Alone.{MayStandAlone};
 ghost use Rattle.base_file.specs.Base.{IsBase};
 ghost use Rattle.base_file.specs.BaseFile.{is_countable, saved_bytes};
 ghost use Rattle.echo_filed.specs.Filed.{Filed};
 ghost use Rattle.echo_filed.specs.Stored.{IsStored, Stored, stored_bytes};
 ghost use Rattle.echo_filed.specs.declared.stored.Version.TheVariants.{Second};
 ghost use Rattle.echo_filed.specs.Stubs.{is_stub, stub_of};
-ghost use Rattle.base_store.specs.Keys.{MayStandAlone};
 ghost use Rattle.base_folder_store.specs.Answers.{Answers};
 ghost use Rattle.base_folder_store.specs.Left.{IsLeftOf};
 

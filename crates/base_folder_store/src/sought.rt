@@ -2,7 +2,7 @@
 ghost use Rattle.std.specs.Prelude.{◌≡◌, Bool, true, IfOk, IsErrOf, IsTrue};
 ghost use Rattle.std.specs.List.{list_any};
 ghost use Rattle.echo_filed.specs.Filed.{Filed, has_id, key_of, same_key};
-ghost use Rattle.base_folder_store.specs.Added.{IsStoredAlone};
+ghost use Rattle.base_file.specs.Alone.{IsStoredAlone};
 ghost use Rattle.base_folder_store.specs.Answers.{Answers};
 
 use crate::alone::{Alone, read_alone};

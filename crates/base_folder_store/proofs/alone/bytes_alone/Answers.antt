@@ -1,7 +1,7 @@
 use Rattle.std.proofs.Common.{ℕ, List, sym, subst}
 use Rattle.base_folder_store.proofs.Causes.{ok_both}
 use Rattle.base_folder_store.proofs.Single.{stored_whole}
-use Rattle.base_folder_store.specs.Added.{IsStoredAlone}
+use Rattle.base_file.specs.Alone.{IsStoredAlone}
 use Rattle.base_folder_store.proofs.alone.bytes_alone.Goals as goal
 
 pub returns-clause-stored : goal.returns-clause-stored

@@ -1,8 +1,8 @@
 use Rattle.std.proofs.Common.{◌≡◌, List, ℕ, [], ◌∷◌, ◌++◌, length, ap, ◌∙◌, if◌then◌else◌}
 use Rattle.echo_filed.specs.declared.stored.Version.TheVariants.{Second}
 use Rattle.echo_filed.specs.Stored.{has_tag, message_in}
+use Rattle.base_file.specs.Alone.{cursor_alone}
 use Rattle.base_file.specs.BaseFile.{head_bytes}
-use Rattle.base_store.specs.Keys.{cursor_alone}
 use Rattle.base_folder_store.proofs.Whole.{some_byte, stored_loads}
 use Rattle.base_folder_store.proofs.alone.read_alone.Goals as goal
 

@@ -1,12 +1,12 @@
 use Rattle.std.proofs.Common.{◌≡◌, ◌≤◌, ◌-◌, true, [], ◌∷◌, List, ℕ, length, take, drop, sym, ap, subst, ◌∙◌, arith}
 use Rattle.std.proofs.lemmas.Bool.{true≢false}
 use Rattle.std.proofs.lemmas.List.{length-drop, take_all}
+use Rattle.base_file.specs.Alone.{IsStoredAlone}
 use Rattle.base_file.specs.Base.{Base}
 use Rattle.base_file.specs.BaseFile.{is_countable, saved_bytes}
 use Rattle.echo_filed.specs.Stored.{message_in, stored_bytes}
 use Rattle.echo_filed.specs.Stubs.{stub_of}
 use Rattle.echo_filed.specs.declared.stored.Version.TheVariants.{Second}
-use Rattle.base_folder_store.specs.Added.{IsStoredAlone}
 use Rattle.base_folder_store.specs.Left.{IsLeftOf}
 use Rattle.base_folder_store.proofs.Causes.{answers_error, answers_whole}
 use Rattle.base_folder_store.proofs.Shorter.{leaves_less}

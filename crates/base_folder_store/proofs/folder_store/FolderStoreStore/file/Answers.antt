@@ -1,6 +1,7 @@
 use Rattle.std.proofs.Common.{List, ℕ, length, ap, subst, sym, ◌∙◌}
 use Rattle.base_store.proofs.Runs.{looks_commit, no_look}
-use Rattle.base_folder_store.specs.Added.{IsStoredAlone, LacksRoom}
+use Rattle.base_file.specs.Alone.{IsStoredAlone}
+use Rattle.base_folder_store.specs.Added.{LacksRoom}
 use Rattle.base_folder_store.specs.Opened.{held_by}
 use Rattle.base_folder_store.specs.State.{IsIndexed, state_of, where_so}
 use Rattle.base_folder_store.proofs.Causes.{at_error, done_both, handed_on}
