@@ -113,6 +113,10 @@ module _ {X Y : Type 0} (f : X → Y) (none : X) (xs : List X) where
       let low : i < length xs = omega (arith, lt, high) in
       subst (λ (y : Y). R y (get_or (map f xs) j d)) (sym (get_or-map f xs i none d low)) (subst (λ (y : Y). R (f (get_or xs i none)) y) (sym (get_or-map f xs j none d high)) (pairs i j none lt high))
 
+pub no_items : {X : Type 0} (xs : List X) → length xs ≡ 0 → xs ≡ []
+no_items [] is = refl
+no_items (x ∷ xs) is = absurd (omega (arith, is))
+
 -- ---- whether a list has a path
 
 list_either : (one other : List ℕ) → (one ≡ other) ⊎ (one ≢ other)

@@ -20,7 +20,7 @@ use Rattle.echo_toss.proofs.Begun.{has_later}
 use Rattle.echo_toss.proofs.Counts.{group_counted}
 use Rattle.station_scan.specs.Fitting.{AreFitting, FitPlanned}
 use Rattle.station_scan.specs.Sending.{AreSent, HaveOtherPaths, IsNamed, IsOffOwn, IsSent, planned_paths, two_paths}
-use Rattle.station_scan.specs.Passing.{AreFor, FitTo, GoesTo, IsBatchFor, IsLaid, IsPlanOf, IsStagingTo, addresses_of, begun_to, is_begun, is_made, made_to, path_to, plan_to, staging_to, trial_of}
+use Rattle.station_scan.specs.Passing.{AreFor, FitTo, GoesTo, IsBatchFor, IsLaid, IsPlanOf, IsStagingTo, addresses_of, begun_to, is_begun, is_made, made_in, made_to, path_to, plan_to, staging_to, trial_of}
 use Rattle.station_scan.specs.declared.sending.Plan.{Plan}
 use Rattle.station_scan.specs.declared.sending.Sending.{Sending}
 use Rattle.station_scan.specs.declared.sending.TwoPaths.{TwoPaths}
@@ -37,6 +37,9 @@ same_addresses sent (a ∷ all) = ap (λ (l : List Address). a ∷ l) (same_addr
 pub made_addresses : (file : LinkFile) (sent : List Sent) (counts made : List CountedPacket) → counts ≡ map (counted_to sent) (link_set file) → made ≡ filter has_messages counts → addresses_of made ≡ made_to file sent
 made_addresses file sent counts made are is =
     ap addresses_of (is ∙ ap (filter has_messages) are ∙ filter_mapped has_messages (counted_to sent) (link_set file)) ∙ same_addresses sent (made_to file sent)
+
+pub made_are : (file : LinkFile) (sent : List Sent) (made : List CountedPacket) → made ≡ made_in file sent → addresses_of made ≡ made_to file sent
+made_are file sent made is = made_addresses file sent (map (counted_to sent) (link_set file)) made refl is
 
 pub begun_addresses : (file : LinkFile) (sent more : List Sent) (counts first : List CountedPacket) → counts ≡ map (counted_to sent) (link_set file) → first ≡ begun_with more counts → addresses_of first ≡ begun_to file sent more
 begun_addresses file sent more counts first are is =

@@ -64,7 +64,7 @@ module _ (folder own : List ℕ) (content : Address → List ℕ) where
       trial = fit.trial;
     }
 
-    fit_plans : AreFit Own folder own (map (file_with content) planned) → FitPlanned Own folder own planned
+    pub fit_plans : AreFit Own folder own (map (file_with content) planned) → FitPlanned Own folder own planned
     fit_plans fit = record {
       names = λ k p lt.
           let high : k < length (map (file_with content) planned) = subst (λ (n : ℕ). k < n) (sym (many_files planned)) lt in

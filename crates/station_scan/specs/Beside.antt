@@ -6,6 +6,7 @@ use Rattle.disk_io.specs.Disk.{DiskState, Files, Honestly}
 use Rattle.disk_io.specs.Runs.{LeavesOnly}
 use Rattle.disk_io.specs.declared.disk_error.DiskError.{DiskError}
 use Rattle.disk_io.specs.declared.disk_error.DiskError.TheVariants as disk
+use Rattle.disk_atomic.specs.Changes.{DifferAt}
 use Rattle.disk_atomic.specs.declared.placing_error.PlacingError.{PlacingError}
 use Rattle.disk_atomic.specs.declared.placing_error.PlacingError.TheVariants as placing
 use Rattle.cmd_status.specs.Devices.{Output}
@@ -19,12 +20,13 @@ use Rattle.cmd_store.specs.declared.command_error.CommandError.TheVariants.{Met,
 use Rattle.echo_toss.specs.Bounds.{IsFullWhenRead}
 use Rattle.echo_toss.specs.PacketsIn.{state_in}
 use Rattle.station.specs.Beneath.{HoldsAsBefore}
-use Rattle.station_scan.specs.Beneath.{IsFullOnWay, IsUsedAt}
+use Rattle.station_scan.specs.Beneath.{IsFullOnWay}
 use Rattle.station_scan.specs.Fitting.{AreTaken}
 use Rattle.station_scan.specs.Passing.{AreGoneOrSame}
+use Rattle.station_scan.specs.Publishing.{KeepsStoreBut}
 use Rattle.station_scan.specs.Scanning.{packets_in}
 use Rattle.station_scan.specs.Sending.{IsStagingOfPacket}
-use Rattle.station_scan.specs.Sends.{AreSentOn, SendsThese, WasTriedFor}
+use Rattle.station_scan.specs.Sends.{AreSentOn, IsOfThese, SendsThese, WasTriedFor, WritesBeside}
 use Rattle.station_scan.specs.Stops.{IsOfPlacing, most}
 use Rattle.station_scan.specs.declared.pieces.Source.{Source}
 use Rattle.station_scan.specs.declared.sending.Sending.{Sending}
@@ -42,6 +44,7 @@ pub record IsMoved (s : StoreState) (from : ℕ) (base : Base) : Type 0 where
 pub record SendsBeside {D : Type 0} (state : D → DiskState) (Own : List ℕ → Type 0) (outbound own : List ℕ) (failed : Type 0) (old new : StoreState) (base : Base) (files : List PacketFile) (result : Result (Unit {0}) ScanError) : Type 0 where
   pub sent : OnOk result (AreSentOn outbound own (λ b. files) old new)
   pub crash : LeavesOnly old.disk new.disk (SendsThese old outbound own files base (all_scanned base))
+  pub keeps : KeepsStoreBut (IsOfThese old.is_own outbound own files) old new
   pub why : IfErr result (IsOfPlacing failed (AreTaken Own outbound own files old.disk.seen) (most < base.cursor))
   pub tried : OnOk result (HoldsAsBefore old new ⊎ WasTriedFor state Own outbound own files old.disk)
 
@@ -50,15 +53,17 @@ abbrev pub TellsBeside : Type 0 → Files → Files → CommandError → Result 
 TellsBeside failed before after why result =
     ((result ≡ Err (Command why)) × AreGoneOrSame before after) ⊎ ((left : DiskError) × (result ≡ Err (Staying left)) × IsOfPlacing failed ⊥ ⊥ (Staying left))
 
--- The scan stopped while its packets were made.
-pub record StopsBeside (outbound own : List ℕ) (failed : Type 0) (old new : StoreState) (files : List PacketFile) (why : CommandError) (result : Result (Unit {0}) ScanError) : Type 0 where
-  pub used : IsUsedAt (IsStagingOfPacket outbound own files) old new
+-- The scan stopped while its packets were made. Except for their staging files nothing has changed.
+pub record StopsBeside (outbound own : List ℕ) (failed : Type 0) (old new : StoreState) (base : Base) (files : List PacketFile) (why : CommandError) (result : Result (Unit {0}) ScanError) : Type 0 where
+  pub crash : LeavesOnly old.disk new.disk (WritesBeside old outbound own files base)
+  pub others : DifferAt (IsStagingOfPacket outbound own files) old.disk.seen new.disk.seen
+  pub shown : old.stands base new.disk.seen
   pub told : TellsBeside failed old.disk.seen new.disk.seen why result
 
 -- The packets that were made are sent out, or the scan stopped.
 abbrev pub IsPutBeside : {D : Type 0} → (D → DiskState) → (List ℕ → Type 0) → List ℕ → List ℕ → Type 0 → StoreState → StoreState → Base → List PacketFile → Result (List PacketFile) CommandError → Result (Unit {0}) ScanError → Type 0
 IsPutBeside state Own outbound own failed old new base packets (Ok files) result = SendsBeside state Own outbound own failed old new base files result
-IsPutBeside state Own outbound own failed old new base packets (Err why) result = StopsBeside outbound own failed old new packets why result
+IsPutBeside state Own outbound own failed old new base packets (Err why) result = StopsBeside outbound own failed old new base packets why result
 
 -- The result of a scan whose leftover packets are finished.
 pub record ScansBeside {D : Type 0} (state : D → DiskState) (Own : List ℕ → Type 0) (to : Sending) (failed : Type 0) (old new : StoreState) (old_out new_out : Output) (base : Base) (result : Result (Unit {0}) ScanError) : Type 0 where

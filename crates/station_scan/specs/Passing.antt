@@ -43,6 +43,10 @@ made_to file sent = filter (is_made sent) (link_set file)
 abbrev pub begun_to : LinkFile → List Sent → List Sent → List Address
 begun_to file sent more = filter (is_begun sent more) (link_set file)
 
+-- these packets, counted
+abbrev pub made_in : LinkFile → List Sent → List CountedPacket
+made_in file sent = filter has_messages (map (counted_to sent) (link_set file))
+
 -- the addresses of counted packets
 abbrev pub addresses_of : List CountedPacket → List Address
 addresses_of packets = map (λ p. p.to) packets
@@ -129,13 +133,13 @@ AreTakenTo Own to all seen = (FitTo Own to all × (AreFreeTo to all seen → ⊥
 
 -- These counted packets are those of the messages so far. They fit, and their staging files grow.
 pub record IsMaking (Own : List ℕ → Type 0) (to : Sending) (sent : List Sent) (disk : DiskState) (made : List CountedPacket) : Type 0 where
-  pub made : addresses_of made ≡ made_to to.source.links.now sent
+  pub made : made ≡ made_in to.source.links.now sent
   pub fit : 0 < length made → FitTo Own to (made_to to.source.links.now sent)
   pub grows : AreGrowing to sent disk
 
 -- The packets with the later messages, and those that have their first copy of them.
 pub record AreNext (to : Sending) (sent more : List Sent) (made first : List CountedPacket) : Type 0 where
-  pub made : addresses_of made ≡ made_to to.source.links.now (sent ++ more)
+  pub made : made ≡ made_in to.source.links.now (sent ++ more)
   pub first : addresses_of first ≡ begun_to to.source.links.now sent more
 
 -- What a pass has counted, and its packets.
@@ -150,7 +154,7 @@ pub record IsNewPass (to : Sending) (pass : Pass) : Type 0 where
 
 -- Staging files of packets of these messages may have changed, and nothing else has.
 pub record IsStagedTo (Own : List ℕ → Type 0) (to : Sending) (sent : List Sent) (old new : StoreState) (made : List CountedPacket) : Type 0 where
-  pub made : addresses_of made ≡ made_to to.source.links.now sent
+  pub made : made ≡ made_in to.source.links.now sent
   pub fit : 0 < length made → FitTo Own to (made_to to.source.links.now sent)
   pub used : IsUsedAt (IsStagingTo to (made_to to.source.links.now sent)) old new
 
@@ -175,16 +179,16 @@ pub record HasPassed (Own : List ℕ → Type 0) (to : Sending) (old new : Store
   pub grows : AreGrowing to sent new.disk
   pub whole : Honestly new.disk ((base : Base) → old.keeps base → sent ≡ all_sent to base)
 
--- The packets of all messages do not fit, or a path of one is in use.
+-- A path of the packets of all messages is in use, or they do not fit.
 abbrev pub IsTakenFor : (List ℕ → Type 0) → Sending → Base → Files → Type 0
-IsTakenFor Own to base seen = AreTakenTo Own to (made_to to.source.links.now (all_sent to base)) seen
+IsTakenFor Own to base seen = (AreFreeTo to (made_to to.source.links.now (all_sent to base)) seen → ⊥) ⊎ (FitTo Own to (made_to to.source.links.now (all_sent to base)) → ⊥)
 
 -- The staging files were removed.
 abbrev pub AreDropped : PublishError → Type 0
 AreDropped (Packets cause) = Unit {0}
 AreDropped (Reading cause) = Unit {0}
 AreDropped (Staging cause) = ⊥
-AreDropped (OfBase cause) = ⊥
+AreDropped (OfBase cause) = Unit {0}
 
 -- The file at each path is gone, or as before.
 abbrev pub AreGoneOrSame : Files → Files → Type 0

@@ -1,0 +1,209 @@
+-- A scan once its cursor was moved: its lines are printed, or it stops.
+use Rattle.std.proofs.Common.{◌≡◌, ◌⊎◌, inl, inr, ⊎_elim, ◌∙◌, ◌≤◌, ◌<◌, ℕ, true, List, [], ◌++◌, Result, Ok, Err, get_or, length, map, drop, refl, sym, subst, ap, arith}
+use Rattle.std.specs.Prelude.{All, IfErr, IsErrOf, OnOk, None}
+use Rattle.base_file.specs.Base.{Base}
+use Rattle.disk_io.specs.Device.{Failed}
+use Rattle.disk_io.specs.Disk.{DiskState, Files, Honestly}
+use Rattle.disk_io.specs.Runs.{ChangesNothing, HasCause, LeavesOnly}
+use Rattle.disk_io.proofs.Moments.{then_nothing}
+use Rattle.disk_io.specs.declared.disk_error.DiskError.{DiskError}
+use Rattle.disk_io.specs.declared.disk_error.DiskError.TheVariants as disk
+use Rattle.disk_atomic.specs.declared.placing_error.PlacingError.{PlacingError}
+use Rattle.disk_atomic.specs.declared.placing_error.PlacingError.TheVariants as placing
+use Rattle.cmd_status.specs.declared.fault.Fault.{Fault}
+use Rattle.cmd_status.specs.Devices.{Output}
+use Rattle.cmd_report.specs.Scanned.{file_with}
+use Rattle.cmd_report.specs.declared.scanning.PlannedPacket.{PlannedPacket}
+use Rattle.cmd_store.specs.Answered.{AnswersOn, RefusesNone}
+use Rattle.cmd_store.specs.Scanned.{ArePlanned, ScansOn, files_made}
+use Rattle.cmd_store.specs.Stops.{store_answer}
+use Rattle.cmd_store.specs.declared.command_error.CommandError.{CommandError}
+use Rattle.cmd_store.specs.declared.command_error.CommandError.TheVariants.{Met, Store}
+use Rattle.cmd_store.proofs.Scans.{scan_printed}
+use Rattle.echo_links.specs.Links.{LinkFile}
+use Rattle.echo_toss.specs.declared.counting.CountedPacket.{CountedPacket}
+use Rattle.echo_toss.specs.Counts.{bytes_for, counted_of, counted_to, link_set}
+use Rattle.echo_toss.specs.Exports.{Outgoing as Sent, sent_of}
+use Rattle.echo_toss.specs.PacketsIn.{state_in}
+use Rattle.echo_toss.proofs.Counts.{all_counted}
+use Rattle.model_steps.specs.PacketFiles.{PacketFile}
+use Rattle.model_steps.specs.Scanning.{scanned}
+use Rattle.model_steps.specs.Stamps.{is_stamp}
+use Rattle.base_store.specs.Store.{LooksOn, StoreState, all_scanned}
+use Rattle.base_store.specs.declared.store_error.StoreError.{StoreError}
+use Rattle.base_store.specs.declared.store_error.StoreError.TheVariants as error
+use Rattle.station_scan.specs.Beneath.{IsFullOnWay, IsUsedAt}
+use Rattle.station_scan.specs.Beside.{HasReported, HasScanCause, IsMoved, IsPutBeside, ScansBeside, SendsBeside, StopsBeside, TellsBeside, files_reported, from_number, left_cause, left_told, told_as}
+use Rattle.station_scan.specs.Fitting.{AreTaken}
+use Rattle.station_scan.specs.Passing.{AreGoneOrSame, HasPassed, HasStaged, IsStagingTo, IsTakenFor, StopsPassing, addresses_of, all_sent, made_in, made_to}
+use Rattle.station_scan.specs.Publishing.{HasPublishCause}
+use Rattle.station_scan.specs.Scanning.{packets_in}
+use Rattle.station_scan.specs.Sending.{IsStagingOfPacket}
+use Rattle.station_scan.specs.Sends.{WritesBeside}
+use Rattle.station_scan.specs.Stops.{IsOfPlacing, most, scan_done, stop_of}
+use Rattle.station_scan.specs.declared.pieces.Source.{Source}
+use Rattle.station_scan.specs.declared.publish_error.PublishError.{PublishError}
+use Rattle.station_scan.specs.declared.publish_error.PublishError.TheVariants.{Base as OfBase, Packets, Reading, Staging}
+use Rattle.station_scan.specs.declared.scan_error.ScanError.{ScanError}
+use Rattle.station_scan.specs.declared.scan_error.ScanError.TheVariants.{Command, Placing, Staying}
+use Rattle.station_scan.specs.declared.sending.Sending.{Sending}
+use Rattle.station_scan.proofs.Besides.{few_keeps, sends_before, writes_before}
+use Rattle.station_scan.proofs.Causes.{full_read}
+use Rattle.station_scan.proofs.Files.{files_are, files_to, of_files, staged_off, taken_files}
+use Rattle.station_scan.proofs.Lefts.{quiet_start}
+use Rattle.station_scan.proofs.Stops.{placing_why, put_whole}
+
+-- ---- what was printed
+
+-- the lines of the packets of a pass are those of a scan
+pub lines_answer : (to : Sending) (base : Base) (sent : List Sent) (made : List CountedPacket) (old new : Output) (result : Result (List PlannedPacket) CommandError) → is_stamp to.source.stamp ≡ true → to.source.from ≡ base.cursor
+    → made ≡ made_in to.source.links.now sent → sent ≡ all_sent to base → AnswersOn (ArePlanned to.source.from made) RefusesNone old new result
+    → ScansOn to.source.stamp (state_in to.source.links.now base) old new (files_made (bytes_for to.source.links.now to.source.stamp base.cursor base.messages) result)
+lines_answer to base sent made old new result moment at is all out =
+    let file = to.source.links.now in
+    let stamp = to.source.stamp in
+    let cursor_sent : sent ≡ sent_of file (drop base.cursor base.messages) = all ∙ ap (λ (n : ℕ). sent_of file (drop n base.messages)) at in
+    let counts : made ≡ map counted_of (scanned file base.messages base.cursor stamp) = is ∙ all_counted file base.messages base.cursor sent (map (counted_to sent) (link_set file)) cursor_sent refl stamp in
+    scan_printed stamp (state_in file base) made to.source.from old new result moment counts at out
+
+-- and the packets their files
+pub printed_files : (to : Sending) (base : Base) (old new : Output) (planned : List PlannedPacket) → ScansOn to.source.stamp (state_in to.source.links.now base) old new (Ok (map (file_with (bytes_for to.source.links.now to.source.stamp base.cursor base.messages)) planned))
+    → ScansOn to.source.stamp (state_in to.source.links.now base) old new (Ok (packets_in to.source.stamp to.source.links.now base))
+printed_files to base old new planned scan = subst (λ (l : List PacketFile). ScansOn to.source.stamp (state_in to.source.links.now base) old new (Ok l)) scan.right.packets scan
+
+-- where the store did not fail
+pub no_damage : (stop : CommandError) → store_answer {A = List PlannedPacket} (Err stop) ≡ Ok tt → IsErrOf {T = Unit {0}} (Err (Command stop)) (Command (Store error.Damaged)) → ⊥
+no_damage (Met fault) met is = cc is
+no_damage (Store cause) met is = cc met
+
+pub staying_why : (failed : Type 0) (left : DiskError) → (left ≡ disk.Device → failed) → IsOfPlacing failed ⊥ ⊥ (Staying left)
+staying_why failed disk.Device gives = gives refl
+staying_why failed disk.Memory gives = tt
+
+-- ---- what is reported of causes
+
+module _ {S : Type 0} (state : S → StoreState) (old new : StoreState) (f0 f1 : ℕ) where
+  pub scan_cause : (done : Result (Unit {0}) PublishError) → HasPublishCause state old new f0 f1 done → HasScanCause state old f0 f1 (scan_done done)
+  scan_cause (Ok value) was = record { later = was.later; device = λ e. absurd (cc e); many = λ e. absurd (cc e) }
+  scan_cause (Err (Packets why)) was = record { later = was.later; device = λ e. absurd (cc e); many = λ e. absurd (cc e) }
+  scan_cause (Err (Staging why)) was = record { later = was.later; device = λ e. absurd (cc e); many = λ e. absurd (cc e) }
+  scan_cause (Err (Reading why)) was = record { later = was.later; device = λ e. was.reading (cc e); many = λ e. was.many (cc e) }
+  scan_cause (Err (OfBase why)) was = record { later = was.later; device = λ e. was.base (cc e); many = λ e. was.full (cc e) }
+
+  -- of an error that names no fault of the store
+  pub other_cause : (why : ScanError) → ((e : CommandError) → why ≡ Command e → ⊥) → f0 ≤ f1 → HasScanCause state old f0 f1 (Err why)
+  other_cause why not later = record { later = later; device = λ e. absurd (let same : why ≡ Command (Store error.Device) = cc e in not _ same); many = λ e. absurd (let same : why ≡ Command (Store error.TooMany) = cc e in not _ same) }
+
+  pub met_cause : (stop : CommandError) → store_answer {A = List PlannedPacket} (Err stop) ≡ Ok tt → f0 ≤ f1 → HasScanCause state old f0 f1 (Err (Command stop))
+  met_cause (Met fault) met later = record { later = later; device = λ e. absurd (cc e); many = λ e. absurd (cc e) }
+  met_cause (Store cause) met later = absurd (cc met)
+
+  module _ (source : Source) (out now : Output) where
+    pub told_cause : (why : ScanError) (reported : Result (Unit {0}) CommandError) → ((e : CommandError) → why ≡ Command e → ⊥) → HasReported state source old new f0 f1 out now reported → HasScanCause state old f0 f1 (told_as why reported)
+    told_cause why (Ok done) not was = other_cause why not was.cause.later
+    told_cause why (Err (Met fault)) not was = record { later = was.cause.later; device = λ e. absurd (cc e); many = λ e. absurd (cc e) }
+    told_cause why (Err (Store cause)) not was = record { later = was.cause.later; device = λ e. was.cause.failed (cc e); many = λ e. full_read state old (was.many (cc e)) }
+
+    pub left_told_cause : (cause : PlacingError) (reported : Result (Unit {0}) CommandError) → HasReported state source old new f0 f1 out now reported → HasScanCause state old f0 f1 (left_told cause reported)
+    left_told_cause cause (Ok done) was = record { later = was.cause.later; device = λ e. absurd (cc e); many = λ e. absurd (cc e) }
+    left_told_cause cause (Err stop) was = record { later = was.cause.later; device = λ e. absurd (cc e); many = λ e. absurd (cc e) }
+
+-- no message is damaged where the lines were reported
+pub reported_whole : (why : ScanError) (reported : Result (Unit {0}) CommandError) → ((e : CommandError) → why ≡ Command e → ⊥) → (IsErrOf (store_answer reported) error.Damaged → ⊥) → IsErrOf (told_as why reported) (Command (Store error.Damaged)) → ⊥
+reported_whole why (Ok done) not whole is = let same : why ≡ Command (Store error.Damaged) = cc is in not _ same
+reported_whole why (Err (Met fault)) not whole is = cc is
+reported_whole why (Err (Store cause)) not whole is = whole (cc is)
+
+-- ---- it stopped
+
+module _ {D : Type 0} (state : D → DiskState) (Own : List ℕ → Type 0) (to : Sending) (failed : Type 0) (s0 s1 : StoreState) (made : List CountedPacket) (staged : HasStaged Own to s0 s1 made) (base : Base) (moved : IsMoved s0 to.source.from base)
+    (moment : is_stamp to.source.stamp ≡ true) (inside : (m : List ℕ) → s0.is_own m → Own m) (honest1 : s1.disk.is_honest) where
+  abbrev files : List PacketFile
+  files = packets_in to.source.stamp to.source.links.now base
+
+  abbrev few : List ℕ → Type 0
+  few = IsStagingTo to (made_to to.source.links.now staged.sent)
+
+  into : (m : List ℕ) → few m → IsStagingOfPacket to.outbound.now to.own.now files m
+  into m at =
+      let part = staged.part honest1 (all_scanned base) moved.keeps in
+      subst (λ (l : List PacketFile). IsStagingOfPacket to.outbound.now to.own.now l m) (sym (files_are to base moment moved.at)) (of_files Own to staged.sent s0 s1 made staged.staged base part.0 part.1 m at)
+
+  off : (m : List ℕ) → s0.is_own m → few m → ⊥
+  off m o at = (staged_off Own to staged.sent s0 s1 made staged.staged m at).1 (inside m o)
+
+  honest0 : s0.disk.is_honest
+  honest0 = staged.staged.used.changes.honest honest1
+
+  -- and then it was only looked at
+  module _ (s2 : StoreState) (quiet : ChangesNothing s1.disk s2.disk) where
+    pub stops_beside : (why : CommandError) (result : Result (Unit {0}) ScanError) → TellsBeside failed s0.disk.seen s2.disk.seen why result → StopsBeside to.outbound.now to.own.now failed s0 s2 base files why result
+    stops_beside why result told = record {
+      crash =
+          then_nothing s0.disk s1.disk s2.disk (WritesBeside s0 to.outbound.now to.own.now files base)
+          (writes_before to.outbound.now to.own.now files few into s0 s1 staged.staged.used moved.ready honest0 base (all_scanned base) moved.committed off) quiet;
+      others = λ m other. quiet.seen m ∙ staged.staged.used.changes.seen m (λ at. other (into m at));
+      shown = staged.staged.used.settled base s0.disk.seen s2.disk.seen (λ m o. quiet.seen m ∙ staged.staged.used.changes.seen m (off m o)) (s0.shown honest0 moved.ready base moved.committed);
+      told = told;
+    }
+
+    same_still : AreGoneOrSame s0.disk.seen s1.disk.seen → AreGoneOrSame s0.disk.seen s2.disk.seen
+    same_still gone m = ⊎_elim (λ none. inl (quiet.seen m ∙ none)) (λ same. inr (quiet.seen m ∙ same)) (gone m)
+
+    -- nothing was printed
+    pub scans_nothing : (out : Output) (cause : StoreError) (result : Result (Unit {0}) ScanError) → TellsBeside failed s0.disk.seen s2.disk.seen (Store cause) result → (IsErrOf result (Command (Store error.Damaged)) → ⊥)
+        → ScansBeside state Own to failed s0 s2 out out base result
+    scans_nothing out cause result told whole = record { made = Err (Store cause); answer = refl; put = stops_beside (Store cause) result told; whole = whole }
+
+    -- the lines could not be printed, and the staging files were removed or not
+    pub scans_unprinted : (out now : Output) (stop : CommandError) (result : Result (Unit {0}) ScanError) → ScansOn to.source.stamp (state_in to.source.links.now base) out now (Err stop) → TellsBeside failed s0.disk.seen s2.disk.seen stop result
+        → (IsErrOf result (Command (Store error.Damaged)) → ⊥) → ScansBeside state Own to failed s0 s2 out now base result
+    scans_unprinted out now stop result answer told whole = record { made = Err stop; answer = answer; put = stops_beside stop result told; whole = whole }
+
+    -- a packet was not written
+    sends_not : (cause : PlacingError) → (cause ≡ placing.Device → failed) → (cause ≡ placing.Taken → IsTakenFor Own to base s0.disk.seen) → IsUsedAt few s0 s2 → SendsBeside state Own to.outbound.now to.own.now failed s0 s2 base files (Err (Placing cause))
+    sends_not cause device taken used = record {
+      sent = tt;
+      crash = sends_before to.outbound.now to.own.now files few into s0 s2 used moved.ready honest0 base (all_scanned base) moved.committed off;
+      keeps = few_keeps to.outbound.now to.own.now files few into s0 s2 used moved.ready honest0 base (all_scanned base) moved.committed off;
+      why =
+          placing_why failed (AreTaken Own to.outbound.now to.own.now files s0.disk.seen) (most < base.cursor) cause device
+          (λ is. subst (λ (l : List PacketFile). AreTaken Own to.outbound.now to.own.now l s0.disk.seen) (sym (files_are to base moment moved.at)) (taken_files Own to base s0.disk (taken is)));
+      tried = tt;
+    }
+
+    pub scans_reported : (out now : Output) (cause : PlacingError) (reported : Result (Unit {0}) CommandError) → (cause ≡ placing.Device → failed) → (cause ≡ placing.Taken → IsTakenFor Own to base s0.disk.seen)
+        → AreGoneOrSame s0.disk.seen s1.disk.seen → IsUsedAt few s0 s2 → ScansOn to.source.stamp (state_in to.source.links.now (from_number to.source.from base)) out now (files_reported to.source (all_scanned base) reported)
+        → (IsErrOf (store_answer reported) error.Damaged → ⊥) → ScansBeside state Own to failed s0 s2 out now base (told_as (Placing cause) reported)
+    scans_reported out now cause (Ok done) device taken gone used answer whole =
+        let put = sends_not cause device taken used in
+        record {
+          made = Ok files;
+          answer = subst (λ (n : ℕ). ScansOn to.source.stamp (state_in to.source.links.now (from_number n base)) out now (Ok (packets_in to.source.stamp to.source.links.now (from_number n base)))) moved.at answer;
+          put = put;
+          whole = put_whole failed _ _ (Err (Placing cause)) put.why;
+        }
+    scans_reported out now cause (Err stop) device taken gone used answer whole = record {
+      made = Err stop;
+      answer = subst (λ (n : ℕ). ScansOn to.source.stamp (state_in to.source.links.now (from_number n base)) out now (Err stop)) moved.at answer;
+      put = stops_beside stop (Err (Command stop)) (inl (refl, same_still gone));
+      whole = reported_whole (Placing cause) (Err stop) (λ e is. cc is) whole;
+    }
+
+-- the lines were printed, and the packets sent
+pub scans_sent : {D : Type 0} (state : D → DiskState) (Own : List ℕ → Type 0) (to : Sending) (failed : Type 0) (s0 s2 : StoreState) (base : Base) (out now : Output) (result : Result (Unit {0}) ScanError)
+    → ScansOn to.source.stamp (state_in to.source.links.now base) out now (Ok (packets_in to.source.stamp to.source.links.now base))
+    → SendsBeside state Own to.outbound.now to.own.now failed s0 s2 base (packets_in to.source.stamp to.source.links.now base) result → ScansBeside state Own to failed s0 s2 out now base result
+scans_sent state Own to failed s0 s2 base out now result answer put = record { made = Ok (packets_in to.source.stamp to.source.links.now base); answer = answer; put = put; whole = put_whole failed _ _ result put.why }
+
+-- the pass stopped, and no packet was why
+pub scans_passing : {D : Type 0} (state : D → DiskState) (Own : List ℕ → Type 0) (to : Sending) (failed : Type 0) (s0 s1 : StoreState) (base : Base) (out : Output) (why : PublishError) → IsMoved s0 to.source.from base → is_stamp to.source.stamp ≡ true
+    → ((m : List ℕ) → s0.is_own m → Own m) → s1.disk.is_honest → StopsPassing Own to s0 s1 why → ((cause : PlacingError) → why ≡ Packets cause → ⊥) → (why ≡ Staging disk.Device → failed) → (why ≡ Reading error.Damaged → ⊥) → (why ≡ OfBase error.Damaged → ⊥)
+    → ScansBeside state Own to failed s0 s1 out out base (Err (stop_of why))
+scans_passing state Own to failed s0 s1 base out (Packets cause) moved moment inside honest stops never staying unread whole = absurd (never cause refl)
+scans_passing state Own to failed s0 s1 base out (Reading cause) moved moment inside honest stops never staying unread whole =
+    scans_nothing state Own to failed s0 s1 stops.made stops.staged base moved moment inside honest s1 (quiet_start s1.disk) out cause (Err (Command (Store cause))) (inl (refl, stops.gone honest tt)) (λ e. unread (cc e))
+scans_passing state Own to failed s0 s1 base out (Staging left) moved moment inside honest stops never staying unread whole =
+    scans_nothing state Own to failed s0 s1 stops.made stops.staged base moved moment inside honest s1 (quiet_start s1.disk) out error.Memory (Err (Staying left)) (inr (left, refl, staying_why failed left (λ e. staying (ap (λ (c : DiskError). Staging c) e)))) (λ e. cc e)
+scans_passing state Own to failed s0 s1 base out (OfBase cause) moved moment inside honest stops never staying unread whole =
+    scans_nothing state Own to failed s0 s1 stops.made stops.staged base moved moment inside honest s1 (quiet_start s1.disk) out cause (Err (Command (Store cause))) (inl (refl, stops.gone honest tt)) (λ e. whole (cc e))
