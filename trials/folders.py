@@ -17,8 +17,9 @@ import sys
 import tempfile
 
 import making
-from folder_station import (AREAS, COMMANDS, MOMENT, PROGRAM, content_of, converted, expect, filled_station, finish,
-                            new_station, packets_in, put, run)
+from contents import content_of, write
+from folder_station import (COMMANDS, MOMENT, PROGRAM, converted, expect, filled_station, finish, new_station,
+                            packets_in, run)
 
 
 class Pair:
@@ -42,7 +43,7 @@ class Pair:
     def put_both(self, name, content):
         """The same file for both."""
         for folder in (self.file, self.folder):
-            put(os.path.join(folder, name), content)
+            write(os.path.join(folder, name), content)
 
     def some_serial(self):
         """Mostly a new serial."""
@@ -200,7 +201,7 @@ def others(folder):
     expect("nothing has changed", converted(station) == held)
     stranger = os.path.join(station, "stranger")
     os.mkdir(stranger)
-    put(os.path.join(stranger, "notes"), b"x")
+    write(os.path.join(stranger, "notes"), b"x")
     for words in (("list", "stranger"), *([*words[:-2], "links", "stranger"] for words in
                                           (COMMANDS["post"], COMMANDS["purge"]))):
         ended = run(station, *words)

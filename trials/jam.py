@@ -20,6 +20,7 @@ import zlib
 
 import export
 import making
+from contents import read, write
 
 PROGRAM = export.PROGRAM
 ENDS = (".jhr", ".jdt", ".jdx", ".jlr")
@@ -80,12 +81,6 @@ class Jam:
         """The count of active messages is that of the index."""
         if self.active != len(self.messages):
             sys.exit("active: %d, and not %d" % (self.active, len(self.messages)))
-
-
-def read(path):
-    """The bytes of a file."""
-    with open(path, "rb") as file:
-        return file.read()
 
 
 def is_pair(date, at):
@@ -159,8 +154,7 @@ def made(chance, number, ids):
 
 def write_base(path, messages):
     """Makes the base of these messages, of which the first were scanned."""
-    with open(path, "wb") as file:
-        file.write(making.base(sum(message.scanned for message in messages), [message.content for message in messages]))
+    write(path, making.base(sum(message.scanned for message in messages), [message.content for message in messages]))
 
 
 def run(path, base, first=0):
@@ -226,8 +220,7 @@ def contents(path):
 def put(path, files):
     """Makes the four files."""
     for end, content in zip(ENDS, files):
-        with open(path + end, "wb") as file:
-            file.write(content)
+        write(path + end, content)
 
 
 def stops(chance, before, after):

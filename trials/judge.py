@@ -8,6 +8,7 @@ from typing import NamedTuple
 
 import making
 import reading
+from contents import read
 
 TOP = os.path.dirname(os.path.dirname(os.path.abspath(__file__)))
 PROGRAM = os.path.realpath(os.environ.get("ECHONET", os.path.join(TOP, "bin", "echonet")))
@@ -64,8 +65,7 @@ def number_of(text):
 
 def content(*path):
     """The bytes of a file."""
-    with open(os.path.join(*path), "rb") as file:
-        return file.read()
+    return read(os.path.join(*path))
 
 
 def files_of(folder, end):

@@ -21,6 +21,7 @@ import shutil
 
 import making
 import reading
+from contents import content_of, write
 
 TALLY = re.compile(rb"filed (\d+) known (\d+) notecho (\d+) badtag (\d+) noarea (\d+) notlinked (\d+)\n")
 PACKET_LINE = re.compile(rb"packet (\S+) (\d+) messages (\d+) bytes\n")
@@ -41,17 +42,11 @@ class Trial:
 
     def put(self, name, content):
         """Writes a file."""
-        with open(self.path(name), "wb") as file:
-            file.write(content)
-        return self.path(name)
+        return write(self.path(name), content)
 
     def get(self, name):
         """The bytes of a file, or None."""
-        try:
-            with open(self.path(name), "rb") as file:
-                return file.read()
-        except FileNotFoundError:
-            return None
+        return content_of(self.path(name))
 
     def drop(self, *names):
         """Removes files."""

@@ -17,8 +17,9 @@ import time
 import making
 import reading
 import stored
-from jam import PROGRAM, crashmail_settings, read
-from readers import expect, write
+from contents import read, write
+from jam import PROGRAM, crashmail_settings
+from readers import expect
 
 TOP = os.path.dirname(os.path.dirname(os.path.abspath(__file__)))
 MOVE = os.path.join(TOP, "examples", "move")

@@ -21,6 +21,7 @@ import laws
 import making
 import reading
 import running
+from contents import write
 
 TOP = os.path.dirname(os.path.dirname(os.path.abspath(__file__)))
 PROGRAM = os.environ.get("ECHONET", os.path.join(TOP, "bin", "echonet"))
@@ -58,10 +59,7 @@ class Net:
 
     def put(self, name, content):
         """Writes a file, and returns its path."""
-        path = os.path.join(self.folder, name)
-        with open(path, "wb") as file:
-            file.write(content)
-        return path
+        return write(os.path.join(self.folder, name), content)
 
     def base(self, i):
         """The base file of a system."""

@@ -1,0 +1,22 @@
+"""Reads and writes whole files, for all trials."""
+
+
+def read(path):
+    """The bytes of a file."""
+    with open(path, "rb") as file:
+        return file.read()
+
+
+def content_of(path):
+    """The bytes of a file, or None."""
+    try:
+        return read(path)
+    except (FileNotFoundError, IsADirectoryError):
+        return None
+
+
+def write(path, content):
+    """Writes a file, and returns its path."""
+    with open(path, "wb") as file:
+        file.write(content)
+    return path
