@@ -176,10 +176,10 @@ def beside(folder):
         counts = []
         while changes.poll() is None:
             ended = run(station, "list", "base")
-            expect("list beside others: %r" % (ended,), ended[0] == 0)
+            expect("list while others run: %r" % (ended,), ended[0] == 0)
             counts.append(int(re.search(rb"end (\d+) messages", ended[1])[1]) if ended[0] == 0 else 0)
             base = converted(station)
-            expect("convert beside others: %r" % (base[:3],), isinstance(base, bytes))
+            expect("convert while others run: %r" % (base[:3],), isinstance(base, bytes))
             if isinstance(base, bytes):
                 count, waiting, scanned = moment_of(base)
                 counts.append(count)

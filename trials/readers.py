@@ -132,7 +132,7 @@ def try_zeros(place, base, messages):
             files = [headers, texts, bad + bytes(zeros - zeros % 8), last]
             jam.put(path, files)
             expect("zeros", jam.run(path, base), (3, "", "echonet: cannot use %s\n" % path))
-            expect("what stands there", jam.contents(path), files)
+            expect("the files", jam.contents(path), files)
 
 
 def try_alone(place, base, messages):
