@@ -14,10 +14,8 @@ import tempfile
 import making
 import running
 import topologies
-from contents import write
+from contents import PROGRAM, write
 
-TOP = os.path.dirname(os.path.dirname(os.path.abspath(__file__)))
-PROGRAM = os.environ.get("ECHONET", os.path.join(TOP, "bin", "echonet"))
 COMMANDS = ((("check",), b""), (("why",), b"; "), (("picture",), b"// "), (("picture", "--why"), b"// "))
 
 

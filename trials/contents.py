@@ -1,4 +1,8 @@
-"""Reads and writes whole files, for all trials."""
+"""What all trials share: the program that they try, and whole files read and written."""
+import os
+
+TOP = os.path.dirname(os.path.dirname(os.path.abspath(__file__)))
+PROGRAM = os.path.realpath(os.environ.get("ECHONET", os.path.join(TOP, "bin", "echonet")))
 
 
 def read(path):

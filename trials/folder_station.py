@@ -1,15 +1,12 @@
-"""Shared by the trials of base folders: the program, stations, runs, the base file of a base, and counts of what
-held."""
+"""Shared by the trials of base folders: stations, runs, the base file of a base, and counts of what held."""
 import os
 import shutil
 import subprocess
 import sys
 
 import making
-from contents import content_of, write
+from contents import PROGRAM, content_of, write
 
-TOP = os.path.dirname(os.path.dirname(os.path.abspath(__file__)))
-PROGRAM = os.path.realpath(os.environ.get("ECHONET", os.path.join(TOP, "bin", "echonet")))
 MOMENT = "2000-01-01T00:00:00"
 AREAS = [("TEST", [making.UPLINK, *making.DOWNLINKS]), ("OTHER", [making.UPLINK])]
 HELD = {True: 0, False: 0}

@@ -17,9 +17,8 @@ import sys
 import tempfile
 
 import making
-from contents import content_of, write
-from folder_station import (COMMANDS, MOMENT, PROGRAM, converted, expect, filled_station, finish, new_station,
-                            packets_in, run)
+from contents import PROGRAM, content_of, write
+from folder_station import COMMANDS, MOMENT, converted, expect, filled_station, finish, new_station, packets_in, run
 
 
 class Pair:

@@ -20,9 +20,8 @@ import zlib
 
 import export
 import making
-from contents import read, write
+from contents import PROGRAM, read, write
 
-PROGRAM = export.PROGRAM
 ENDS = (".jhr", ".jdt", ".jdx", ".jlr")
 GONE, DELETED, ECHOMAIL, LOCAL, SENT = 0xffffffff, 1 << 31, 1 << 24, 1, 16
 MONTHS = "JanFebMarAprMayJunJulAugSepOctNovDec"

@@ -12,8 +12,8 @@ import subprocess
 import sys
 import tempfile
 
-from contents import content_of, write
-from folder_station import COMMANDS, HELD, PROGRAM, filled_station, finish, is_orderly, packets_in
+from contents import PROGRAM, content_of, write
+from folder_station import COMMANDS, HELD, filled_station, finish, is_orderly, packets_in
 from judge import texts_of
 
 READING = {"list": ("list", "base"), "export": ("export", "base"), "convert": ("convert", "base", "made")}

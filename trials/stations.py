@@ -25,10 +25,8 @@ import laws
 import making
 import running
 import topologies
-from contents import content_of, write
+from contents import PROGRAM, TOP, content_of, write
 
-TOP = os.path.dirname(os.path.dirname(os.path.abspath(__file__)))
-PROGRAM = os.environ.get("ECHONET", os.path.join(TOP, "bin", "echonet"))
 REPLAY = os.environ.get("BENCH", os.path.join(TOP, "crates", "test_trials", "out", "test_trials"))
 MOMENT = "2000-01-01T00:00:00"
 EMPTY = making.base(0, [])

@@ -11,9 +11,9 @@ import sys
 
 import export
 import making
+from contents import PROGRAM
 from jam import write_base
 
-PROGRAM = export.PROGRAM
 AREA = b"AREA:TEST\r"
 
 

@@ -21,8 +21,8 @@ import tempfile
 import threading
 import time
 
-from contents import write
-from judge import LINKS, PROGRAM, Judge, Message, content, files_of, packet_of, texts_of
+from contents import PROGRAM, write
+from judge import LINKS, Judge, Message, content, files_of, packet_of, texts_of
 
 TRIED = []
 
