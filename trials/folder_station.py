@@ -1,4 +1,5 @@
-"""What the trials of base folders share: the program, stations, runs, the base file of a base, and counts of what held."""
+"""Shared by the trials of base folders: the program, stations, runs, the base file of a base, and counts of what
+held."""
 import os
 import shutil
 import subprocess
@@ -36,14 +37,14 @@ def put(path, content):
 
 
 def run(folder, *words, given=b"", before=()):
-    """Runs the program in a folder: status, output, fault."""
+    """Runs the program in a folder. Returns status, output and fault."""
     ended = subprocess.run([*before, PROGRAM, *words], cwd=folder, input=given, capture_output=True, timeout=120,
                            check=False)
     return ended.returncode, ended.stdout, ended.stderr
 
 
 def is_orderly(ended):
-    """Whether a run ended by itself, with one fault line where the status tells of a fault."""
+    """Whether a run ended by itself, with one fault line if its status is a fault."""
     status, _, fault = ended
     if status == 0:
         return fault == b""
@@ -102,7 +103,7 @@ COMMANDS = {
 
 
 def copy_of(folder, to):
-    """A copy of a station, without the note of its folder of packets: that names the one of the original."""
+    """A copy of a station, without the note of its folder of packets: that note names the folder of the original."""
     shutil.rmtree(to, ignore_errors=True)
     path = shutil.copytree(folder, to)
     note = os.path.join(path, "base", "outbound")
@@ -112,6 +113,6 @@ def copy_of(folder, to):
 
 
 def finish(name):
-    """The last line, which tells the counts, and the status."""
+    """The last line with the counts, and the status."""
     print("%s: %d passed, %d failed" % (name, HELD[True], HELD[False]))
     return 1 if HELD[False] else 0

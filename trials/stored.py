@@ -1,8 +1,8 @@
-"""Reads what `export --msg` makes with a reader of stored messages that is written from FTS-0001 alone.
+"""Reads the output of `export --msg` with a reader of stored messages that is written from FTS-0001 only.
 
-Bases are made by chance from a seed, with names, subjects and lines of any bytes, from here and from elsewhere, with
-and without an origin line. They are exported at once, in pieces, and after a run that was stopped: the same files come
-each time, and each is read as what was put into the base. Words: how many messages.
+The bases are random from a seed. Names, subjects and lines have any bytes. Messages are from here and from elsewhere,
+with and without an origin line. The bases are exported at once, in pieces, and after a stopped run. Each time there
+are the same files, and the reader reads each message unchanged. Argument: how many messages.
 """
 import os
 import struct
@@ -25,7 +25,7 @@ def run(*words):
 
 
 class Stored:
-    """A stored message, taken apart as FTS-0001 has it."""
+    """A stored message, parsed by FTS-0001."""
 
     def __init__(self, content):
         self.by, self.to, self.subject = (
@@ -54,7 +54,7 @@ def check(message, content):
 
 
 def made(chance, number, ids):
-    """A message by chance, with what is wanted of it."""
+    """A random message, with its expected form."""
     message = export.Message(chance, number, ids)
     message.scanned = False
     message.sender = chance.choice([None, (1, 10, 2), (65535, 1, 65534)])
@@ -95,7 +95,7 @@ def add(folder, base, first, count, end):
 
 
 def try_base(chance, place, count):
-    """A base, its files in three ways."""
+    """A base, and its files made in three ways."""
     messages = []
     for number in range(count):
         messages.append(made(chance, number, [message.id for message in messages]))
