@@ -2,11 +2,10 @@
 use Rattle.std.specs.Prelude.{◌≡◌, ◌≢◌, ◌⊎◌, ℕ, ◌+◌, ◌<◌, ◌≤◌, ◌^◌, false, true, List, ◌++◌, length}
 use Rattle.disk_io.specs.Disk.{Files}
 use Rattle.echo_filed.specs.Filed.{Filed}
-use Rattle.echo_filed.specs.Stored.{IsStored, Stored, is_short_enough, message_in, stored_as, stored_bytes}
+use Rattle.echo_filed.specs.Stored.{is_short_enough, stored_as, stored_bytes}
 use Rattle.echo_filed.specs.declared.stored.Version.TheVariants.{Second}
 use Rattle.base_log.specs.Names.{keys_of, messages_of}
 use Rattle.base_log.specs.Standing.{BaseBytes, and_keys, and_messages}
-use Rattle.base_file.specs.Alone.{MayStandAlone}
 use Rattle.base_store.specs.Keys.{entry}
 use Rattle.base_folder_store.specs.declared.folder.Folder.{Folder}
 

@@ -1,7 +1,6 @@
-use Rattle.std.proofs.Common.{inr, inl, map, refl}
+use Rattle.std.proofs.Common.{inr, inl, refl}
 use Rattle.std.proofs.lemmas.Result.{err_from_is_err_and}
 use Rattle.cmd_status.proofs.Lines.{alone}
-use Rattle.cmd_report.specs.Scanned.{planned_for}
 use Rattle.cmd_store.proofs.scanning.print_counted.Goals as goal
 
 pub returns-in_err-planned-clause-answers : goal.returns-in_err-planned-clause-answers
