@@ -1,5 +1,5 @@
 -- The base file of a folder, message by message.
-use Rattle.std.proofs.Common.{◌≡◌, ◌∙◌, ◌<◌, ◌≤◌, ◌^◌, ◌++◌, ◌⊎◌, inl, inr, nat_lt, false, ℕ, ◌+◌, ◌-◌, List, Some, length, take, drop, sym, ap, arith, get_or}
+use Rattle.std.proofs.Common.{◌≡◌, ◌∙◌, ◌<◌, ◌≤◌, ◌^◌, ◌++◌, ◌⊎◌, inl, inr, nat_lt, false, ℕ, ◌+◌, List, Some, length, take, sym, ap, arith, get_or}
 use Rattle.std.specs.List.{list_all}
 use Rattle.std.proofs.lemmas.Bool.{and_right}
 use Rattle.std.proofs.lemmas.List.{append-nil, append_assoc, take_all}

@@ -1,7 +1,5 @@
-use Rattle.std.proofs.Common.{◌≡◌, ◌<◌, ◌≤◌, ◌∙◌, ℕ, List, inl, inr, length, sym, ap, subst, arith}
-use Rattle.std.specs.Result.{IfErr}
+use Rattle.std.proofs.Common.{◌<◌, ◌∙◌, ℕ, inl, inr, length, sym, ap, subst, arith}
 use Rattle.base_file.specs.BaseFile.{head_bytes, stored_at}
-use Rattle.base_file.specs.declared.fault.BaseFault.{BaseFault}
 use Rattle.echo_filed.specs.Stored.{stored_bytes}
 use Rattle.echo_filed.specs.declared.stored.Version.TheVariants.{Second}
 use Rattle.base_folder.specs.AsFile.{IsFileFault, IsMessageFault}
