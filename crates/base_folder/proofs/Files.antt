@@ -1,5 +1,5 @@
 -- The base file of a folder, message by message.
-use Rattle.std.proofs.Common.{◌≡◌, ◌∙◌, ◌<◌, ◌≤◌, ◌^◌, ◌++◌, ◌⊎◌, inl, inr, nat_lt, false, ℕ, suc, ◌+◌, ◌-◌, List, Option, Some, length, take, drop, refl, sym, ap, subst, arith, get_or}
+use Rattle.std.proofs.Common.{◌≡◌, ◌∙◌, ◌<◌, ◌≤◌, ◌^◌, ◌++◌, ◌⊎◌, inl, inr, nat_lt, false, ℕ, suc, ◌+◌, ◌-◌, List, Option, Result, Ok, Err, Some, length, take, drop, refl, sym, ap, subst, arith, get_or}
 use Rattle.std.specs.Io.KnownBytes.{Appends}
 use Rattle.std.specs.List.{flat_map, list_all}
 use Rattle.std.proofs.KnownBytes.{Appends-trans}
@@ -16,7 +16,9 @@ use Rattle.base_file.specs.declared.fault.BaseFault.{BaseFault}
 use Rattle.base_file.specs.declared.fault.BaseFault.TheVariants as fault
 use Rattle.base_file.proofs.SavedMessages.{all_more, all_parts, not_countable, saved_parts, stored_all, too_long_here}
 use Rattle.cmd_status.specs.Lines.{WritesFront}
-use Rattle.cmd_status.proofs.Lines.{front_more}
+use Rattle.cmd_status.proofs.Lines.{front_more, front_sent}
+use Rattle.disk_io.specs.Device.{Sends}
+use Rattle.std.specs.Result.{OnErr}
 use Rattle.base_folder_store.proofs.Causes.{failed_since}
 use Rattle.base_folder_store.proofs.Looked.{some_message}
 use Rattle.base_folder.specs.AsFile.{IsFileFault, IsMessageFault}
@@ -56,6 +58,11 @@ file_parts cursor i all m at =
     let later = flat_map (stored_bytes Second) (stored_from cursor (i + 1) (drop (suc i) all)) in
     append_assoc head (stored_all cursor (take i all)) (stored_bytes Second (stored_at cursor i m) ++ later)
     ∙ ap (λ (l : List ℕ). head ++ l) (all_parts cursor i all m at) ∙ saved_parts cursor all
+
+-- a beginning of the bytes was sent, if not all
+pub sent_begun : {A E : Type 0} (a b : Option (List ℕ)) (r : Result A E) (bytes : List ℕ) (m n : ℕ) → Sends a b r bytes m n → OnErr r (WritesFront bytes a b)
+sent_begun a b (Ok x) bytes m n sent = tt
+sent_begun a b (Err e) bytes m n sent = front_sent a b bytes m n sent
 
 -- a beginning of the head was sent
 pub head_begun : (a b : Option (List ℕ)) (cursor : ℕ) (all : List Filed) (head : List ℕ) → head ≡ head_bytes Second cursor (length all) → WritesFront head a b → WritesFront (saved_bytes all cursor) a b

@@ -35,7 +35,7 @@ returns-in_err-judge_owner-clause-refused g c = λ honest.
     let old = g.D.Disk.state c.args.disk.now in
     let new = g.D.Disk.state c.judged.new.disk in
     let e = c.in_err-judge_owner.field-0.0 in
-    err_is (IsLeftAlone old new) e c.from_residual.result c.from_residual.ensures.1 (other_left c.args.own c.in_ok-log.log.end.told.mark old new e c.judged.ensures.quiet c.in_err-judge_owner.ensures.other)
+    err_is (IsLeftAlone old new) e c.from_residual-in_err-judge_owner.result c.from_residual-in_err-judge_owner.ensures.1 (other_left c.args.own c.in_ok-log.log.end.told.mark old new e c.judged.ensures.quiet c.in_err-judge_owner.ensures.other)
 
 pub returns-in_err-judge_owner-clause-wrong : goal.returns-in_err-judge_owner-clause-wrong
 returns-in_err-judge_owner-clause-wrong g c = λ honest.
@@ -44,12 +44,12 @@ returns-in_err-judge_owner-clause-wrong g c = λ honest.
     let files = (g.D.Disk.state c.args.disk.now).seen in
     let told = c.in_ok-log.log.end.told in
     let e = c.in_err-judge_owner.field-0.0 in
-    err_is (IsNotOurs own c.args.strange path files) e c.from_residual.result c.from_residual.ensures.1
+    err_is (IsNotOurs own c.args.strange path files) e c.from_residual-in_err-judge_owner.result c.from_residual-in_err-judge_owner.ensures.1
     (other_told own c.args.strange path files told e (record { end = c.in_ok-log.log.end; log = c.in_ok-log.ensures.folder honest; is = refl }) c.in_err-judge_owner.ensures.other)
 
 pub returns-in_err-judge_owner-clause-cause : goal.returns-in_err-judge_owner-clause-cause
 returns-in_err-judge_owner-clause-cause g c =
-    other_cause c.args.own c.in_ok-log.log.end.told.mark c.in_err-judge_owner.field-0.0 _ _ c.from_residual.result c.from_residual.ensures.1 c.judged.ensures.cause.later c.in_err-judge_owner.ensures.other
+    other_cause c.args.own c.in_ok-log.log.end.told.mark c.in_err-judge_owner.field-0.0 _ _ c.from_residual-in_err-judge_owner.result c.from_residual-in_err-judge_owner.ensures.1 c.judged.ensures.cause.later c.in_err-judge_owner.ensures.other
 
 pub returns-in_err-folder-clause-run : goal.returns-in_err-folder-clause-run
 returns-in_err-folder-clause-run g c =
