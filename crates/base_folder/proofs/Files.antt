@@ -1,5 +1,5 @@
 -- The base file of a folder, message by message.
-use Rattle.std.proofs.Common.{◌≡◌, ◌∙◌, ◌<◌, ◌≤◌, ◌^◌, ◌++◌, ◌⊎◌, inl, inr, nat_lt, false, ℕ, suc, ◌+◌, ◌-◌, List, Option, Result, Ok, Err, Some, length, take, drop, refl, sym, ap, subst, arith, get_or}
+use Rattle.std.proofs.Common.{◌≡◌, ◌∙◌, ◌<◌, ◌≤◌, ◌^◌, ◌++◌, ◌⊎◌, inl, inr, nat_lt, false, ℕ, suc, ◌+◌, List, Option, Result, Ok, Err, Some, length, take, drop, refl, sym, ap, subst, arith, get_or}
 use Rattle.std.specs.Io.KnownBytes.{Appends}
 use Rattle.std.specs.List.{flat_map, list_all}
 use Rattle.std.proofs.KnownBytes.{Appends-trans}

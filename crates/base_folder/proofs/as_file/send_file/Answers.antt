@@ -1,12 +1,9 @@
-use Rattle.std.proofs.Common.{◌≡◌, ◌<◌, ◌≤◌, ◌∙◌, ℕ, List, inl, inr, length, refl, sym, ap, subst, arith}
-use Rattle.std.specs.Result.{IfErr}
-use Rattle.disk_io.specs.Device.{Failed}
+use Rattle.std.proofs.Common.{◌<◌, ◌∙◌, ℕ, inl, inr, length, refl, ap, subst, arith}
 use Rattle.cmd_status.proofs.Lines.{none_begun}
 use Rattle.base_file.specs.BaseFile.{head_bytes, saved_bytes, stored_at}
-use Rattle.base_file.specs.declared.fault.BaseFault.{BaseFault}
 use Rattle.echo_filed.specs.Stored.{stored_bytes}
 use Rattle.echo_filed.specs.declared.stored.Version.TheVariants.{Second}
-use Rattle.base_folder.specs.AsFile.{IsFileFault, IsMessageFault, IsSendFault}
+use Rattle.base_folder.specs.AsFile.{IsMessageFault, IsSendFault}
 use Rattle.base_folder_store.proofs.Causes.{at_error}
 use Rattle.base_folder.proofs.Files.{file_fault, file_sent, head_begun, head_sent, message_begun, message_sent, message_there, messages_begun, there, too_great}
 use Rattle.base_folder.proofs.Lookings.{err_is}
@@ -64,9 +61,11 @@ returns-in_err-bytes-clause-fault g c = λ honest base holds.
     let before = (g.M.MessageSource.state c.messages.messages).failures in
     let now = (g.M.MessageSource.state c.stored_at.new.messages).failures in
     let e = c.in_err-bytes.field-0.0 in
-    err_is (IsSendFault base first now (g.W.Sink.failures c.args.file.now) (g.W.Sink.failures c.messages.file)) (unsent.Messages e) c.from_residual-in_err-bytes.result c.from_residual-in_err-bytes.ensures.1
-    (file_fault base i m first before now e is c.messages.invariant.later
-    (subst (λ (n : ℕ). IsMessageFault (stored_at n i m) before now e) (c.cursor-cursor.ensures base holds) (c.in_err-bytes.ensures.fault honest base m (c.messages.invariant.looks.holds base holds) is)), c.messages.invariant.failed)
+    err_is (IsSendFault base first now (g.W.Sink.failures c.args.file.now) (g.W.Sink.failures c.messages.file)) (unsent.Messages e) c.from_residual-in_err-bytes.result c.from_residual-in_err-bytes.ensures.1 (
+      file_fault base i m first before now e is c.messages.invariant.later
+          (subst (λ (n : ℕ). IsMessageFault (stored_at n i m) before now e) (c.cursor-cursor.ensures base holds) (c.in_err-bytes.ensures.fault honest base m (c.messages.invariant.looks.holds base holds) is)),
+      c.messages.invariant.failed,
+    )
 
 pub returns-in_err-send_bytes-2-clause-begun : goal.returns-in_err-send_bytes-2-clause-begun
 returns-in_err-send_bytes-2-clause-begun g c = λ honest base holds.

@@ -1,4 +1,4 @@
-use Rattle.std.proofs.Common.{◌≡◌, ◌∙◌, Option, Some, option_copied, sym, ap}
+use Rattle.std.proofs.Common.{◌≡◌, ◌∙◌, Some, option_copied, sym, ap}
 use Rattle.std.specs.Prelude.{option_map}
 use Rattle.echo_filed.specs.Filed.{key_of}
 use Rattle.echo_filed.specs.declared.key.Key.{Key}
