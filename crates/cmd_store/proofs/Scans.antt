@@ -1,5 +1,5 @@
 -- Scans of a store.
-use Rattle.std.proofs.Common.{◌≡◌, ◌++◌, ℕ, true, List, [], ◌∷◌, drop, map, inr, Err, refl, ap, subst, ◌∙◌}
+use Rattle.std.proofs.Common.{◌≡◌, ◌++◌, ℕ, true, List, [], ◌∷◌, drop, map, inl, inr, Result, Ok, Err, refl, ap, subst, ◌∙◌}
 use Rattle.std.specs.Prelude.{IsErrOf}
 use Rattle.std.specs.List.{flat_map}
 use Rattle.echo_addr.specs.declared.address.Address.{Address}
@@ -9,7 +9,6 @@ use Rattle.echo_filed.specs.Sets.{address_set}
 use Rattle.model_steps.specs.PacketFiles.{PacketFile}
 use Rattle.cmd_report.specs.Scanned.{counted_line, file_sent, file_with, line_sent, planned_for}
 use Rattle.cmd_report.specs.declared.scanning.PlannedPacket.{PlannedPacket}
-use Rattle.cmd_status.proofs.Lines.{alone}
 use Rattle.cmd_status.specs.Devices.{Output}
 use Rattle.model_steps.specs.declared.packet.Packet.{Packet}
 use Rattle.model_steps.specs.declared.stamp.Stamp.{Stamp}
@@ -25,7 +24,10 @@ use Rattle.echo_toss.proofs.Exports.{scan_made}
 use Rattle.echo_toss.specs.declared.step_error.ScanStepError.{ScanStepError}
 use Rattle.echo_toss.specs.declared.step_error.ScanStepError.TheVariants as scan
 use Rattle.echo_toss.specs.Stores.{IsScanStop, scan_answer}
-use Rattle.cmd_store.specs.Scanned.{IsScannedAt, ScansOn}
+use Rattle.cmd_store.specs.Answered.{AnswersOn, RefusesNone}
+use Rattle.cmd_store.specs.Scanned.{ArePlanned, IsScannedAt, ScansOn, files_made}
+use Rattle.cmd_store.specs.declared.command_error.CommandError.{CommandError}
+use Rattle.cmd_store.specs.declared.command_error.CommandError.TheVariants.{Met, Store}
 use Rattle.cmd_store.specs.Stops.{scan_stop, store_answer}
 
 -- a scan that stopped
@@ -55,11 +57,11 @@ unfolding header_to
 files_counted file stamp sent before [] = refl
 files_counted file stamp sent before (a ∷ all) = ap (λ (l : List PacketFile). file_sent before (packet_out file stamp sent a) ∷ l) (files_counted file stamp sent before all)
 
--- the packets, their files and their lines
-pub scanned_at : (stamp : Stamp) (system : SystemState) (packets : List CountedPacket) (planned : List PlannedPacket) (before : ℕ) (none lines : List ℕ) → is_stamp stamp ≡ true
-    → packets ≡ map counted_of (scanned system.file system.base system.cursor stamp) → before ≡ system.cursor → planned ≡ map (planned_for before) packets → none ≡ [] → lines ≡ none ++ flat_map counted_line packets
+-- counted packets of the scan, their lines and their names
+pub scanned_at : (stamp : Stamp) (system : SystemState) (packets : List CountedPacket) (before : ℕ) (lines : List ℕ) (planned : List PlannedPacket) → is_stamp stamp ≡ true
+    → packets ≡ map counted_of (scanned system.file system.base system.cursor stamp) → before ≡ system.cursor → ArePlanned before packets lines planned
     → IsScannedAt stamp system lines (map (file_with (bytes_for system.file stamp system.cursor system.base)) planned)
-scanned_at stamp system packets planned before none lines moment counts first names nothing whole =
+scanned_at stamp system packets before lines planned moment counts first are =
     let all = scanned system.file system.base system.cursor stamp in
     let sent = sent_of system.file (drop system.cursor system.base) in
     let content = bytes_for system.file stamp system.cursor system.base in
@@ -69,6 +71,29 @@ scanned_at stamp system packets planned before none lines moment counts first na
     (files_counted system.file stamp sent system.cursor (address_set (flat_map (λ o. o.targets) sent))) in
     record {
       moment = moment;
-      printed = alone none lines (flat_map counted_line packets) nothing whole ∙ ap (λ (ps : List CountedPacket). flat_map counted_line ps) counts ∙ lines_counted all;
-      packets = ap (map (file_with content)) (names ∙ ap (λ (n : ℕ). map (planned_for n) packets) first ∙ ap (map (planned_for system.cursor)) counts) ∙ filed;
+      printed = are.printed ∙ ap (λ (ps : List CountedPacket). flat_map counted_line ps) counts ∙ lines_counted all;
+      packets = ap (map (file_with content)) (are.names ∙ ap (λ (n : ℕ). map (planned_for n) packets) first ∙ ap (map (planned_for system.cursor)) counts) ∙ filed;
     }
+
+-- the answer of counted packets that were printed, as that of a scan
+pub scan_printed : (stamp : Stamp) (system : SystemState) (packets : List CountedPacket) (before : ℕ) (old new : Output) (result : Result (List PlannedPacket) CommandError)
+    → is_stamp stamp ≡ true → packets ≡ map counted_of (scanned system.file system.base system.cursor stamp) → before ≡ system.cursor
+    → AnswersOn (ArePlanned before packets) RefusesNone old new result → ScansOn stamp system old new (files_made (bytes_for system.file stamp system.cursor system.base) result)
+scan_printed stamp system packets before old new (Ok planned) moment counts first out = record {
+  lines = out.lines;
+  right = scanned_at stamp system packets before out.lines planned moment counts first out.right;
+  written = out.written;
+  flushed = out.flushed;
+}
+scan_printed stamp system packets before old new (Err (Met fault)) moment counts first (inl (broken, begun)) = inl (
+  broken,
+  record {
+    lines = begun.lines;
+    answer = map (file_with (bytes_for system.file stamp system.cursor system.base)) begun.answer;
+    right = scanned_at stamp system packets before begun.lines begun.answer moment counts first begun.right;
+    begun = begun.begun;
+  },
+)
+scan_printed stamp system packets before old new (Err (Met fault)) moment counts first (inr (inl none, same)) = inr (inl none, same)
+scan_printed stamp system packets before old new (Err (Met fault)) moment counts first (inr (inr never, same)) = absurd never
+scan_printed stamp system packets before old new (Err (Store cause)) moment counts first same = same

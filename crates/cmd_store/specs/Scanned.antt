@@ -3,7 +3,7 @@ use Rattle.std.specs.Prelude.{◌≡◌, true, false, ℕ, List, map, Result, Ok
 use Rattle.std.specs.List.{flat_map}
 use Rattle.model_steps.specs.PacketFiles.{PacketFile}
 use Rattle.echo_addr.specs.declared.address.Address.{Address}
-use Rattle.cmd_report.specs.Scanned.{file_sent, file_with, line_sent}
+use Rattle.cmd_report.specs.Scanned.{counted_line, file_sent, file_with, line_sent, planned_for}
 use Rattle.cmd_report.specs.declared.scanning.PlannedPacket.{PlannedPacket}
 use Rattle.cmd_status.specs.declared.fault.Fault.{Fault}
 use Rattle.cmd_status.specs.declared.fault.Fault.TheVariants.{Scan}
@@ -13,6 +13,7 @@ use Rattle.model_steps.specs.declared.stamp.Stamp.{Stamp}
 use Rattle.model_steps.specs.Scanning.{scanned}
 use Rattle.model_steps.specs.Stamps.{is_stamp}
 use Rattle.model_steps.specs.SystemState.{SystemState}
+use Rattle.echo_toss.specs.declared.counting.CountedPacket.{CountedPacket}
 use Rattle.cmd_store.specs.declared.command_error.CommandError.{CommandError}
 use Rattle.cmd_store.specs.Answered.{AnswersOn}
 
@@ -21,6 +22,11 @@ pub record IsScannedAt (stamp : Stamp) (system : SystemState) (lines : List ℕ)
   pub moment : is_stamp stamp ≡ true
   pub printed : lines ≡ flat_map line_sent (scanned system.file system.base system.cursor stamp)
   pub packets : files ≡ map (file_sent system.cursor) (scanned system.file system.base system.cursor stamp)
+
+-- Counted packets with their names, and a line for each.
+pub record ArePlanned (before : ℕ) (packets : List CountedPacket) (lines : List ℕ) (planned : List PlannedPacket) : Type 0 where
+  pub printed : lines ≡ flat_map counted_line packets
+  pub names : planned ≡ map (planned_for before) packets
 
 -- What was planned, as files with these bytes for each address.
 abbrev pub files_made : (Address → List ℕ) → Result (List PlannedPacket) CommandError → Result (List PacketFile) CommandError

@@ -45,5 +45,5 @@ pub use mailed::MailWords;
 pub use posting::Post;
 pub use purging::Purge;
 pub use replying::Reply;
-pub use scanning::scan_on;
+pub use scanning::{print_counted, scan_on};
 pub use tossing::Toss;

@@ -1,5 +1,5 @@
 //! The command `scan` on a store.
-ghost use Rattle.std.specs.Prelude.{IsErrOf, OnOk};
+ghost use Rattle.std.specs.Prelude.{◌≡◌, IsErrOf, Ok, OnOk};
 ghost use Rattle.disk_io.specs.Disk.{Honestly};
 ghost use Rattle.disk_io.specs.Runs.{ChangesNothing};
 ghost use Rattle.base_file.specs.Base.{Base};
@@ -8,7 +8,8 @@ ghost use Rattle.base_store.specs.Store.{CommitsNothing, GoesOn, HasStoreCause, 
 ghost use Rattle.echo_toss.specs.Bounds.{IsFullWhenRead};
 ghost use Rattle.echo_toss.specs.Counts.{bytes_for};
 ghost use Rattle.echo_toss.specs.PacketsIn.{state_in};
-ghost use Rattle.cmd_store.specs.Scanned.{ScansOn, files_made};
+ghost use Rattle.cmd_store.specs.Answered.{AnswersOn, RefusesNone};
+ghost use Rattle.cmd_store.specs.Scanned.{ArePlanned, ScansOn, files_made};
 ghost use Rattle.cmd_store.specs.Stops.{store_answer};
 
 use crate::command_error::CommandError;
@@ -18,7 +19,7 @@ use cmd_status::print_rest;
 use disk_io::Sink;
 use echo_addr::Items;
 use echo_links::LinkFile;
-use echo_toss::count_step;
+use echo_toss::{CountedPacket, count_step};
 use model_steps::Stamp;
 use std::alloc::Global;
 
@@ -44,8 +45,21 @@ pub fn scan_on<'a, T: Store, W: Sink>(
 {
     let before = store.cursor();
     let packets = count_step(alloc, links, store, stamp)?;
+    print_counted(alloc, &packets, before, out)
+}
+
+/// Names counted packets, with this number of messages scanned before, and prints a line for each.
+pub fn print_counted<'a, W: Sink>(
+    alloc: Global,
+    packets: &[CountedPacket],
+    before: usize,
+    out: &mut W,
+) -> Result<Items<PlannedPacket>, CommandError<'a>>
+    ensures answers { AnswersOn (ArePlanned before packets.now) RefusesNone (output_of W.contents W.failures W.holds out.old) (output_of W.contents W.failures W.holds out.new) result }
+    ensures met { store_answer result ≡ Ok tt }
+{
     let mut lines = Vec::new(alloc);
-    let planned = planned_packets(alloc, &packets, before, &mut lines)?;
+    let planned = planned_packets(alloc, packets, before, &mut lines)?;
     print_rest(&mut lines, out)?;
     Ok(Items::new(planned))
 }

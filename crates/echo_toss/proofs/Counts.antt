@@ -49,7 +49,7 @@ more_twice p one other =
     ) in
     λ i. record { to = p.to; messages = count i; bytes = size i }
 
-more_in : (sent more : List Outgoing) (a : Address) → counted_with more (counted_to sent a) ≡ counted_to (sent ++ more) a
+pub more_in : (sent more : List Outgoing) (a : Address) → counted_with more (counted_to sent a) ≡ counted_to (sent ++ more) a
 more_in sent more a =
     let copies = copies_append a sent more in
     let count : length (copies_out a sent) + length (copies_out a more) ≡ length (copies_out a (sent ++ more)) =
@@ -79,7 +79,7 @@ there_at (a ∷ all) (suc i) within = there_at all i (omega (arith, within))
 
 -- ---- members of lists
 
-in_filter : {X : Type 0} (q : X → Bool) (x : X) (xs : List X) → IsIn x (filter q xs) → IsIn x xs × (q x ≡ true)
+pub in_filter : {X : Type 0} (q : X → Bool) (x : X) (xs : List X) → IsIn x (filter q xs) → IsIn x xs × (q x ≡ true)
 in_filter q x [] h = absurd h
 in_filter q x (y ∷ ys) h = elim (cases_Bool (q y)) [
   | inl stays ↦
@@ -88,7 +88,7 @@ in_filter q x (y ∷ ys) h = elim (cases_Bool (q y)) [
   | inr goes ↦ let rest = in_filter q x ys (subst (IsIn x) (cond-false (q y) (y ∷ filter q ys) (filter q ys) goes) h) in (inr rest.0, rest.1)
 ]
 
-filter_in : {X : Type 0} (q : X → Bool) (x : X) (xs : List X) → IsIn x xs → q x ≡ true → IsIn x (filter q xs)
+pub filter_in : {X : Type 0} (q : X → Bool) (x : X) (xs : List X) → IsIn x xs → q x ≡ true → IsIn x (filter q xs)
 filter_in q x [] h is = h
 filter_in q x (y ∷ ys) h is = elim (cases_Bool (q y)) [
   | inl stays ↦ subst (IsIn x) (sym (cond-true (q y) (y ∷ filter q ys) (filter q ys) stays)) (⊎_elim (λ e. inl e) (λ later. inr (filter_in q x ys later is)) h)

@@ -1,5 +1,5 @@
 //! The packets of a scan, counted and not held: whom each is for, and how large it will be.
-ghost use Rattle.std.specs.Prelude.{◌≡◌, ◌+◌, [], ◌∷◌, true, map, filter, slice_get, Some, IfOk, IsErrOf, MatchResult, OnOk};
+ghost use Rattle.std.specs.Prelude.{◌≡◌, ◌+◌, [], ◌∷◌, true, not, map, filter, slice_get, Some, IfOk, IsErrOf, MatchResult, OnErr, OnOk};
 ghost use Rattle.disk_io.specs.Disk.{Honestly};
 ghost use Rattle.disk_io.specs.Runs.{ChangesNothing};
 ghost use Rattle.base_file.specs.Base.{Base};
@@ -8,10 +8,10 @@ ghost use Rattle.echo_links.specs.Links.{Area, links_of};
 ghost use Rattle.model_steps.specs.Scanning.{scanned};
 ghost use Rattle.model_steps.specs.Stamps.{is_stamp};
 ghost use Rattle.echo_toss.specs.Bounds.{IsFullWhenRead};
-ghost use Rattle.echo_toss.specs.Counts.{counted_to, counted_with, counted_of, has_messages, link_set};
+ghost use Rattle.echo_toss.specs.Counts.{begun_with, counted_to, counted_with, counted_of, has_messages, link_set};
 ghost use Rattle.echo_toss.specs.Stores.{GoesOnOrUndoes, IsScanStop, scan_answer};
 
-use crate::grouping::group_from;
+use crate::grouping::{Group, group_from};
 use crate::outgoing::{Outgoing, links_of};
 use crate::packing::goes_to;
 use crate::sets::address_set;
@@ -21,6 +21,7 @@ use echo_addr::Address;
 use echo_links::LinkFile;
 use model_steps::{Stamp, is_stamp, message_size};
 use std::alloc::{AllocError, Global};
+use std::marker::Model;
 
 /// A packet that a scan will make: its address, and how many messages and bytes it will have.
 #[derive(Clone, Copy, Debug, PartialEq, Eq)]
@@ -28,6 +29,57 @@ pub struct CountedPacket {
     pub to: Address,
     pub messages: usize,
     pub bytes: usize,
+}
+
+/// How many messages and bytes each packet of a scan has so far: a count for each link, ascending.
+#[derive(Drop)]
+pub struct Counting {
+    packets: Vec<CountedPacket>,
+}
+
+impl Model for Counting {
+    ghost use Rattle.std.specs.Prelude.{List};
+    ghost use Rattle.echo_toss.specs.declared.counting.CountedPacket as model;
+
+    ghost Value = { List model.CountedPacket };
+
+    ghost view = { λ c. c.packets.items };
+}
+
+impl Counting {
+    /// A count for each link. There is no message so far.
+    pub fn new(alloc: Global, links: &LinkFile) -> Result<Counting, AllocError>
+        ensures { IfOk result (λ counts. counts ≡ map (counted_to []) (link_set links.now)) }
+    {
+        let addresses = link_set(alloc, links)?;
+        let packets = none_counted(alloc, &addresses)?;
+        Ok(Counting { packets })
+    }
+
+    /// The packets that have their first messages in the group, with these.
+    pub fn first_of(&self, alloc: Global, group: &Group) -> Result<Vec<CountedPacket>, AllocError>
+        ensures { IfOk result (λ all. all.items ≡ begun_with group.now.sent self.now) }
+    {
+        let none = without_messages(alloc, &self.packets)?;
+        let counted = count_group(alloc, &none, group.sent())?;
+        with_messages(alloc, &counted)
+    }
+
+    /// Counts the group too.
+    pub fn add(&mut self, alloc: Global, group: &Group) -> Result<(), AllocError>
+        ensures added { OnOk result (self.new ≡ map (counted_with group.now.sent) self.old) }
+        ensures same { OnErr result (self.new ≡ self.old) }
+    {
+        self.packets = count_group(alloc, &self.packets, group.sent())?;
+        Ok(())
+    }
+
+    /// The packets that have messages.
+    pub fn made(&self, alloc: Global) -> Result<Vec<CountedPacket>, AllocError>
+        ensures { IfOk result (λ all. all.items ≡ filter has_messages self.now) }
+    {
+        with_messages(alloc, &self.packets)
+    }
 }
 
 /// Counts the packets of the store's waiting messages: one for each address that gets some of them, ascending. Then
@@ -52,34 +104,36 @@ pub fn count_step<T: Store>(
     if !is_stamp(stamp) {
         return Err(ScanStepError::BadStamp);
     }
-    let packets = counted(alloc, links, store)?;
+    let from = store.cursor();
+    let packets = counted_from(alloc, links, store, from)?;
     store.move_to_end()?;
     Ok(packets)
 }
 
-// Counts the packets of the messages from the cursor on.
-fn counted<T: Store>(
+/// Counts the packets of the messages from this number on: one for each address that gets some of them, ascending.
+/// The store is only looked at. It holds a group of messages at a time.
+pub fn counted_from<T: Store>(
     alloc: Global,
     links: &LinkFile,
     store: &mut T,
+    from: usize,
 ) -> Result<Vec<CountedPacket>, StoreError>
     requires { (T.state store.old).is_ready }
     ensures packets { Honestly (T.state store.new).disk ((base : Base) → (T.state store.old).keeps base
-        → IfOk result (λ all. (stamp : Stamp) → all.items ≡ map counted_of (scanned links.now base.messages base.cursor stamp))) }
+        → IfOk result (λ all. (stamp : Stamp) → all.items ≡ map counted_of (scanned links.now base.messages from stamp))) }
     ensures looks { LooksOn (T.state store.old) (T.state store.new) }
     ensures many { IsErrOf result StoreError.TooMany → IsFullWhenRead T.state (T.state store.old) }
     ensures cause { HasStoreCause (T.state store.old) (T.state store.new) (T.failures store.old) (T.failures store.new) result }
 {
-    let addresses = link_set(alloc, links)?;
-    let mut packets = none_counted(alloc, &addresses)?;
+    let mut counts = Counting::new(alloc, links)?;
     let end = store.len();
-    let mut at = store.cursor();
+    let mut at = from;
     'groups: while at < end {
         let group = group_from(alloc, links, store, at, end)?;
-        packets = count_group(alloc, &packets, group.sent())?;
+        counts.add(alloc, &group)?;
         at = group.next();
     }
-    Ok(with_messages(alloc, &packets)?)
+    Ok(counts.made(alloc)?)
 }
 
 // The links of all areas, ascending.
@@ -179,5 +233,19 @@ fn with_messages(alloc: Global, packets: &[CountedPacket]) -> Result<Vec<Counted
         .iter()
         .copied()
         .filter(|packet| packet.messages > 0)
+        .collect(alloc)
+}
+
+// Those that have none.
+fn without_messages(
+    alloc: Global,
+    packets: &[CountedPacket],
+) -> Result<Vec<CountedPacket>, AllocError>
+    ensures { IfOk result (λ all. all.items ≡ filter (λ packet. not (has_messages packet)) packets.now) }
+{
+    packets
+        .iter()
+        .copied()
+        .filter(|packet| packet.messages == 0)
         .collect(alloc)
 }

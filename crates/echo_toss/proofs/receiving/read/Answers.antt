@@ -1,4 +1,4 @@
-use Rattle.std.proofs.Common.{◌≡◌, sym, subst, ap, ◌∙◌, List, ℕ}
+use Rattle.std.proofs.Common.{sym, subst, ap, ◌∙◌, List, ℕ}
 use Rattle.echo_text.specs.Echo.{FrontOf}
 use Rattle.echo_toss.specs.Wanted.{refused_by}
 use Rattle.echo_toss.proofs.Tossed.{bad_tag, link_refused, no_echo, refused_text}

@@ -5,14 +5,14 @@ use Rattle.base_file.specs.Base.{Base}
 use Rattle.base_store.specs.Store.{LooksOn}
 use Rattle.echo_toss.specs.Counts.{counted_to, link_set}
 use Rattle.echo_toss.specs.Exports.{Outgoing, sent_of}
-use Rattle.echo_toss.proofs.counting.counted.Given as goal
+use Rattle.echo_toss.proofs.counting.counted_from.Given as goal
 
 abbrev pub invariant-groups : goal.invariant-groups
 invariant-groups g l =
     Honestly (g.T.Store.state l.store).disk ((base : Base) → (g.T.Store.state l.fn.store).keeps base
     → (l.end ≡ length base.messages)
-    × ((sent : List Outgoing) × (l.packets.items ≡ map (counted_to sent) (link_set l.links))
-    × (sent ++ sent_of l.links (drop l.at base.messages) ≡ sent_of l.links (drop base.cursor base.messages))))
+    × ((sent : List Outgoing) × (l.counts ≡ map (counted_to sent) (link_set l.links))
+    × (sent ++ sent_of l.links (drop l.at base.messages) ≡ sent_of l.links (drop l.from base.messages))))
     × LooksOn (g.T.Store.state l.fn.store) (g.T.Store.state l.store)
     × (g.T.Store.failures l.fn.store ≤ g.T.Store.failures l.store)
 
