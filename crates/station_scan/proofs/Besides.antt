@@ -193,7 +193,7 @@ module _ {D : Type 0} (state : D → DiskState) (Own : List ℕ → Type 0) (to 
     pub sends_alone : length made ≡ 0 → IfErr done IsOfBase → OnOk done (Commits s1 s2) → MayCommit s1 s2 → SendsBeside state Own to.outbound.now to.own.now failed s0 s2 base files (scan_done done)
     sends_alone nobody alone commits may =
         let none : files ≡ [] =
-        let few : length sent_to ≡ 0 = ap length (sym (made_are to.source.links.now passed.sent made passed.staged.made)) ∙ length-map made (λ (p : CountedPacket). p.to) ∙ nobody in
+        let few : length sent_to ≡ 0 = ap length (sym (made_are to.source.links.now passed.sent made passed.staged.are)) ∙ length-map made (λ (p : CountedPacket). p.to) ∙ nobody in
         files_of ∙ ap (λ (l : List Address). files_to to base l) (no_items sent_to few) in
         let nothing : (k : ℕ) → k < length files → ⊥ = λ k lt. omega (arith, lt, ap length none) in
         record {

@@ -92,7 +92,7 @@ module _ (Own : List ℕ → Type 0) (to : Sending) where
     all = made_to to.source.links.now sent
 
     fit_if : (a : Address) → Contains all a → FitTo Own to all
-    fit_if a (k, lt, is) = staged.fit (some_back made all (made_are to.source.links.now sent made staged.made) (omega (arith, lt)))
+    fit_if a (k, lt, is) = staged.fit (some_back made all (made_are to.source.links.now sent made staged.are) (omega (arith, lt)))
 
     pub staged_off : (m : List ℕ) → IsStagingTo to all m → IsOfNameOff Own to.outbound.now to.own.now m
     staged_off m (a, has, at) = off_own all (fit_if a has) m (a, has, at)

@@ -14,7 +14,7 @@ mod Through
 mod Written
 mod Causes
 mod Plans
-mod Growing
+mod Grown
 mod Passes
 mod Files
 mod Besides

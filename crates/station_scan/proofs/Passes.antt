@@ -76,7 +76,7 @@ growing_quiet to sent d e quiet a was =
 
 pub making_quiet : (Own : List ℕ → Type 0) (to : Sending) (sent : List Sent) (d e : DiskState) (made : List CountedPacket) → ChangesNothing d e → IsMaking Own to sent d made → IsMaking Own to sent e made
 making_quiet Own to sent d e made quiet was = record {
-  made = was.made;
+  are = was.are;
   fit = was.fit;
   grows = λ k z lt. growing_quiet to sent d e quiet (get_or (made_to to.source.links.now sent) k z) (was.grows k z lt);
 }
@@ -95,7 +95,7 @@ new_counted Own to d pass is =
     record {
       counts = is.counts;
       making = record {
-        made = is.made ∙ sym (none_in to.source.links.now);
+        are = is.made ∙ sym (none_in to.source.links.now);
         fit = λ some. absurd (omega (arith, some, ap length is.made));
         grows = subst (λ (l : List Address). All (IsGrowingTo to [] d) l) (sym none) (λ k z lt. absurd (omega (arith, lt)));
       };
@@ -105,18 +105,18 @@ new_counted Own to d pass is =
 
 -- nothing was staged
 pub staged_none : (Own : List ℕ → Type 0) (to : Sending) (sent : List Sent) (s : StoreState) (made : List CountedPacket) → AreSettledByOwn s → s.is_ready → IsMaking Own to sent s.disk made → IsStagedTo Own to sent s s made
-staged_none Own to sent s made settled ready is = record { made = is.made; fit = is.fit; used = used_none (IsStagingTo to (made_to to.source.links.now sent)) s settled ready }
+staged_none Own to sent s made settled ready is = record { are = is.are; fit = is.fit; used = used_none (IsStagingTo to (made_to to.source.links.now sent)) s settled ready }
 
 -- no packet has messages then
 pub making_none : (Own : List ℕ → Type 0) (to : Sending) (sent more : List Sent) (d : DiskState) (made now first : List CountedPacket) → IsMaking Own to sent d made → AreNext to sent more now first → now ≡ [] → IsMaking Own to (sent ++ more) d made
 making_none Own to sent more d made now first was next none =
     let file = to.source.links.now in
     let links = link_set file in
-    let later : made_to file (sent ++ more) ≡ [] = sym (made_are file (sent ++ more) now next.made) ∙ ap addresses_of none in
+    let later : made_to file (sent ++ more) ≡ [] = sym (made_are file (sent ++ more) now next.are) ∙ ap addresses_of none in
     let before : made_to file sent ≡ [] = filter_narrow (is_made sent) (is_made (sent ++ more)) (made_later sent more) links ∙ ap (filter (is_made sent)) later in
-    let nobody : made ≡ [] = no_items made (let same = sym (length-map made (λ (p : CountedPacket). p.to)) ∙ ap length (made_are file sent made was.made ∙ before) in omega (arith, same)) in
+    let nobody : made ≡ [] = no_items made (let same = sym (length-map made (λ (p : CountedPacket). p.to)) ∙ ap length (made_are file sent made was.are ∙ before) in omega (arith, same)) in
     record {
-      made = nobody ∙ sym none ∙ next.made;
+      are = nobody ∙ sym none ∙ next.are;
       fit = λ some. absurd (omega (arith, some, ap length nobody));
       grows = subst (λ (l : List Address). All (IsGrowingTo to (sent ++ more) d) l) (sym later) (λ k z lt. absurd (omega (arith, lt)));
     }
@@ -142,7 +142,7 @@ module _ (Own : List ℕ → Type 0) (to : Sending) (sent more : List Sent) (s :
   begun = begun_to file sent more
 
   at_now : addresses_of now ≡ now_to
-  at_now = made_are file (sent ++ more) now next.made
+  at_now = made_are file (sent ++ more) now next.are
 
   pub group_fit : FitPlanned Own to.outbound.now to.own.now plan_all.planned → FitTo Own to now_to
   group_fit fit = subst (λ (l : List _). FitPlanned Own to.outbound.now to.own.now l) (planned_is to now now_to at_now plan_all of_all) fit
@@ -160,25 +160,25 @@ module _ (Own : List ℕ → Type 0) (to : Sending) (sent more : List Sent) (s :
 
     pub first_going : AreGoing s.is_own to.outbound.now plan_first.trial firsts
     first_going =
-        fit_going Own to.outbound.now to.own.now (λ a. []) plan_first.planned firsts (fitting_of to first begun next.first plan_first of_first Own firsts (begun_fit fit) first_sent_to) plan_first.trial of_first.laid.trial s inside plain
+        fit_going Own to.outbound.now to.own.now (λ a. []) plan_first.planned firsts (fitting_of to first begun next.begun plan_first of_first Own firsts (begun_fit fit) first_sent_to) plan_first.trial of_first.laid.trial s inside plain
 
     pub all_batch : AreFor to now_to packets
     all_batch = sent_for to now now_to at_now plan_all of_all packets all_sent_to
 
     pub first_batch : AreFor to begun firsts
-    first_batch = sent_for to first begun next.first plan_first of_first firsts first_sent_to
+    first_batch = sent_for to first begun next.begun plan_first of_first firsts first_sent_to
 
     -- what was written is staged
     pub group_staged : (s2 : StoreState) → 0 < length now → IsUsedAt (IsAtStaging packets plan_all.trial) s s2 → IsStagedTo Own to (sent ++ more) s s2 now
     group_staged s2 some used = record {
-      made = next.made;
+      are = next.are;
       fit = λ there. fit;
       used =
           used_wider (IsAtStaging packets plan_all.trial) (IsStagingTo to now_to) s s2 (staging_at to now_to packets all_batch plan_all.trial of_all.laid.trial (some_made now now_to at_now some)) used;
     }
 
     pub group_making : (d : DiskState) → AreGrowing to (sent ++ more) d → IsMaking Own to (sent ++ more) d now
-    group_making d grows = record { made = next.made; fit = λ there. fit; grows = grows }
+    group_making d grows = record { are = next.are; fit = λ there. fit; grows = grows }
 
     pub group_taken : (All (IsFree s.disk) packets → ⊥) → AreTakenTo Own to now_to s.disk.seen
     group_taken taken = inl (fit, λ free. taken (all_for to now_to packets all_batch (λ a. s.disk.seen (path_to to a) ≡ None) (IsFree s.disk) (λ a p goes none. ap s.disk.seen goes.path ∙ none) free))
@@ -193,7 +193,7 @@ module _ (Own : List ℕ → Type 0) (to : Sending) where
   pub staged_then : (sent now : List Sent) (s0 s1 s2 : StoreState) (made : List CountedPacket) → ((a : Address) → Contains (made_to links_in sent) a → Contains (made_to links_in now) a) → IsUsedAt (IsStagingTo to (made_to links_in sent)) s0 s1
       → IsStagedTo Own to now s1 s2 made → IsStagedTo Own to now s0 s2 made
   staged_then sent now s0 s1 s2 made wide one two = record {
-    made = two.made;
+    are = two.are;
     fit = two.fit;
     used =
         used_twice (IsStagingTo to (made_to links_in now)) s0 s1 s2
@@ -245,14 +245,14 @@ module _ (Own : List ℕ → Type 0) (to : Sending) where
 
   -- ---- the staging files are removed
 
+  drop_used : (s0 s1 s2 : StoreState) (made : List CountedPacket) (was : HasStaged Own to s0 s1 made) → IsUsedAt (IsStagingTo to (addresses_of made)) s1 s2 → IsUsedAt (IsStagingTo to (made_to links_in was.sent)) s0 s2
+  drop_used s0 s1 s2 made was drop =
+      used_twice (IsStagingTo to (made_to links_in was.sent)) s0 s1 s2 was.staged.used (subst (λ (l : List Address). IsUsedAt (IsStagingTo to l) s1 s2) (made_are links_in was.sent made was.staged.are) drop)
+
   pub dropped : (s0 s1 s2 : StoreState) (made : List CountedPacket) → HasStaged Own to s0 s1 made → IsUsedAt (IsStagingTo to (addresses_of made)) s1 s2 → HasStaged Own to s0 s2 made
   dropped s0 s1 s2 made was drop = record {
     sent = was.sent;
-    staged = record {
-      made = was.staged.made;
-      fit = was.staged.fit;
-      used = used_twice (IsStagingTo to (made_to links_in was.sent)) s0 s1 s2 was.staged.used (subst (λ (l : List Address). IsUsedAt (IsStagingTo to l) s1 s2) (made_are links_in was.sent made was.staged.made) drop);
-    };
+    staged = record { are = was.staged.are; fit = was.staged.fit; used = drop_used s0 s1 s2 made was drop };
     part = λ honest base kept. was.part (drop.changes.honest honest) base kept;
   }
 
@@ -270,7 +270,7 @@ module _ (Own : List ℕ → Type 0) (to : Sending) where
       → AreGoneOrSame s0.disk.seen s2.disk.seen
   gone_or_same s0 s1 s2 made was drop gone m =
       let all = addresses_of made in
-      let used : IsUsedAt (IsStagingTo to all) s0 s2 = subst (λ (l : List Address). IsUsedAt (IsStagingTo to l) s0 s2) (sym (made_are links_in was.sent made was.staged.made)) (dropped s0 s1 s2 made was drop).staged.used in
+      let used : IsUsedAt (IsStagingTo to all) s0 s2 = subst (λ (l : List Address). IsUsedAt (IsStagingTo to l) s0 s2) (sym (made_are links_in was.sent made was.staged.are)) (drop_used s0 s1 s2 made was drop) in
       ⊎_elim (λ at. inl (gone m at)) (λ off. inr (used.changes.seen m off)) (staging_or_not all m)
 
   pub passed_staged : (s0 s1 : StoreState) (made : List CountedPacket) → HasPassed Own to s0 s1 made → HasStaged Own to s0 s1 made
@@ -279,4 +279,4 @@ module _ (Own : List ℕ → Type 0) (to : Sending) where
   -- the staging files are those of these packets, which the store does not own
   pub drop_fit : (s0 s1 : StoreState) (made : List CountedPacket) → HasStaged Own to s0 s1 made → ((m : List ℕ) → s0.is_own m → Own m) → 0 < length made → FitTo s1.is_own to (addresses_of made)
   drop_fit s0 s1 made was inside some =
-      subst (λ (l : List Address). FitTo s1.is_own to l) (sym (made_are links_in was.sent made was.staged.made)) (fit_inside Own to s1.is_own (λ m o. inside m ((was.staged.used.same.own m).0 o)) (made_to links_in was.sent) (was.staged.fit some))
+      subst (λ (l : List Address). FitTo s1.is_own to l) (sym (made_are links_in was.sent made was.staged.are)) (fit_inside Own to s1.is_own (λ m o. inside m ((was.staged.used.same.own m).0 o)) (made_to links_in was.sent) (was.staged.fit some))

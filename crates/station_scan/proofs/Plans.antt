@@ -99,7 +99,7 @@ made_not_begun file sent more a b one other e =
 -- ---- whether they fit
 
 -- by their addresses
-record FitAt (Own : List ℕ → Type 0) (to : Sending) (all : List Address) : Type 0 where
+pub record FitAt (Own : List ℕ → Type 0) (to : Sending) (all : List Address) : Type 0 where
   pub names : All (λ a. IsNamed (packet_name a to.source.from)) all
   pub differ : AllPairs (λ a b. path_to to a ≢ path_to to b) all
   pub off : All (λ a. IsOffOwn Own (two_paths to.outbound.now to.own.now (packet_name a to.source.from))) all

@@ -23,7 +23,7 @@ use Rattle.station_scan.proofs.Lefts.{finishes_none}
 use Rattle.station_scan.proofs.Looked.{looked_out, looked_stop, same_seen}
 
 -- it stopped, and nothing was written
-stops_quiet : (is_true failed : Type 0) (Own : List ℕ → Type 0) (outbound own : List ℕ) (cursor : ℕ) (files : List PacketFile) (s1 : StoreState) (new : DiskState) (base : Base) (why : CommandError)
+pub stops_quiet : (is_true failed : Type 0) (Own : List ℕ → Type 0) (outbound own : List ℕ) (cursor : ℕ) (files : List PacketFile) (s1 : StoreState) (new : DiskState) (base : Base) (why : CommandError)
     → s1.disk.is_honest → s1.is_ready → s1.committed base → ChangesNothing s1.disk new → StopsScan is_true failed Own outbound own (s1.stands base) cursor files s1.disk new why (Err (Command why))
 stops_quiet is_true failed Own outbound own cursor files s1 new base why honest ready is quiet = record {
   found = [];

@@ -24,7 +24,6 @@ use Rattle.station_scan.specs.Publishing.{AreGoing, ArePublished, IsGoingAt, IsP
 use Rattle.disk_atomic.specs.ListStaged.{IsNameByte}
 use Rattle.station_scan.specs.Sending.{IsStagingOfPacket, IsNamed, IsOfPacket, for_address}
 use Rattle.station_scan.specs.Sends.{AreSentOn, IsOfThese, SendsThese, WasTriedFor, files_for}
-use Rattle.station_scan.specs.Writing.{content_for}
 use Rattle.station_scan.specs.declared.pieces.Source.{Source}
 use Rattle.station_scan.proofs.Names.{trial_in, trial_no_path, trial_not_staging}
 use Rattle.station_scan.proofs.Published.{store_wider}

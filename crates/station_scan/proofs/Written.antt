@@ -2,7 +2,6 @@
 use Rattle.std.proofs.Common.{◌≡◌, ◌∙◌, inl, inr, ℕ, List, [], ◌++◌, ap, append_assoc, arith, drop, get_or, length, refl, subst, sym}
 use Rattle.std.specs.Prelude.{All, Bool, Err, IfOk, None, Ok, OnOk, Result, true}
 use Rattle.std.proofs.lemmas.List.{append-nil, drop_all}
-use Rattle.base_file.specs.Base.{Base}
 use Rattle.disk_io.specs.Disk.{DiskState, Honestly, IsIn, bytes_in}
 use Rattle.disk_io.specs.Fixed.{AreBytes}
 use Rattle.disk_io.specs.Runs.{ChangesNothing, KeepsNamed}
@@ -15,22 +14,13 @@ use Rattle.disk_atomic.proofs.Growing.{are_both}
 use Rattle.disk_atomic.proofs.Packets.{path_not_staging}
 use Rattle.disk_atomic.proofs.Whole.{some_is_there}
 use Rattle.echo_addr.specs.declared.address.Address.{Address}
-use Rattle.echo_packet.specs.Header.{header_bytes, word}
-use Rattle.echo_packet.specs.Message.{messages_bytes}
-use Rattle.echo_filed.specs.Filed.{Filed}
-use Rattle.echo_links.specs.Links.{LinkFile}
-use Rattle.model_steps.specs.Scanning.{header_to}
-use Rattle.echo_toss.specs.Counts.{copies_out}
-use Rattle.echo_toss.specs.Exports.{Outgoing as Sent, sent_of}
-use Rattle.echo_toss.proofs.Counts.{copies_append, messages_append}
 use Rattle.base_store.specs.Store.{IsSameStore, LooksOn, StoreState}
 use Rattle.base_store.proofs.Runs.{same_store, same_twice}
 use Rattle.station.specs.Beneath.{AreSettledByOwn}
 use Rattle.station_scan.specs.Beneath.{IsUsedAt}
 use Rattle.station_scan.specs.Publishing.{AreGone, AreOpen, IsTriedWith, IsWritten}
-use Rattle.station_scan.specs.Writing.{HasCopies, IsBatchOff, IsBegun, IsOpen, IsWriting, content_for}
+use Rattle.station_scan.specs.Writing.{IsBatchOff, IsBegun}
 use Rattle.station_scan.specs.declared.writing.Batch.{Batch}
-use Rattle.station_scan.specs.declared.pieces.Source.{Source}
 use Rattle.station_scan.proofs.Published.{apart_still, holds_now, holds_still}
 use Rattle.station_scan.proofs.Staged.{tried_after}
 use Rattle.station_scan.proofs.Through.{open_through}

@@ -133,14 +133,14 @@ AreTakenTo Own to all seen = (FitTo Own to all × (AreFreeTo to all seen → ⊥
 
 -- These counted packets are those of the messages so far. They fit, and their staging files grow.
 pub record IsMaking (Own : List ℕ → Type 0) (to : Sending) (sent : List Sent) (disk : DiskState) (made : List CountedPacket) : Type 0 where
-  pub made : made ≡ made_in to.source.links.now sent
+  pub are : made ≡ made_in to.source.links.now sent
   pub fit : 0 < length made → FitTo Own to (made_to to.source.links.now sent)
   pub grows : AreGrowing to sent disk
 
 -- The packets with the later messages, and those that have their first copy of them.
 pub record AreNext (to : Sending) (sent more : List Sent) (made first : List CountedPacket) : Type 0 where
-  pub made : made ≡ made_in to.source.links.now (sent ++ more)
-  pub first : addresses_of first ≡ begun_to to.source.links.now sent more
+  pub are : made ≡ made_in to.source.links.now (sent ++ more)
+  pub begun : addresses_of first ≡ begun_to to.source.links.now sent more
 
 -- What a pass has counted, and its packets.
 pub record IsCounted (Own : List ℕ → Type 0) (to : Sending) (sent : List Sent) (disk : DiskState) (pass : Pass) : Type 0 where
@@ -154,7 +154,7 @@ pub record IsNewPass (to : Sending) (pass : Pass) : Type 0 where
 
 -- Staging files of packets of these messages may have changed, and nothing else has.
 pub record IsStagedTo (Own : List ℕ → Type 0) (to : Sending) (sent : List Sent) (old new : StoreState) (made : List CountedPacket) : Type 0 where
-  pub made : made ≡ made_in to.source.links.now sent
+  pub are : made ≡ made_in to.source.links.now sent
   pub fit : 0 < length made → FitTo Own to (made_to to.source.links.now sent)
   pub used : IsUsedAt (IsStagingTo to (made_to to.source.links.now sent)) old new
 

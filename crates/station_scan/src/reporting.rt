@@ -55,7 +55,7 @@ pub(crate) fn told_as<'a>(
     why: ScanError<'a>,
     reported: Result<(), CommandError<'a>>,
 ) -> Result<(), ScanError<'a>>
-    ensures { result ≡ told_as why reported }
+    ensures { result ≡ told_as why.entry reported.entry }
 {
     match reported {
         Ok(()) => Err(why),
@@ -65,7 +65,7 @@ pub(crate) fn told_as<'a>(
 
 // Why leftover packets may have staging files still.
 fn left_cause(cause: PlacingError, stop: CommandError<'_>) -> DiskError
-    ensures { result ≡ left_cause cause stop }
+    ensures { result ≡ left_cause cause stop.entry }
 {
     match cause {
         PlacingError::Device => DiskError::Device,
@@ -83,7 +83,7 @@ pub(crate) fn left_told<'a>(
     cause: PlacingError,
     reported: Result<(), CommandError<'a>>,
 ) -> Result<(), ScanError<'a>>
-    ensures { result ≡ left_told cause reported }
+    ensures { result ≡ left_told cause reported.entry }
 {
     match reported {
         Ok(()) => Err(ScanError::Placing(cause)),

@@ -147,13 +147,11 @@ module _ (to : Sending) (sent more : List Sent) (d0 : DiskState) (all first : Ba
         let wide = made_wider to.source.links.now sent more a has in
         let trial = off_trial to now all.packets.now is.all_for.packets off.placed.apart all.trial.now off.is_trial.off a wide in
         let at_trial = is.first_for.trial ∙ sym is.all_for.trial in
-        let other = λ (p : Outgoing) (among : Contains first.packets.now p).
+        let other : (p : Outgoing) → Contains first.packets.now p → (staging_to to a ≢ p.staging.now) × (path_to to a ≢ p.staging.now) = λ p among.
         let found = address_for to begun first.packets.now is.first_for.packets p among in
         let apart = off_other to now all.packets.now is.all_for.packets off.placed.apart a found.0 wide (begun_wider to.source.links.now sent more found.0 found.1) (made_not_begun to.source.links.now sent more a found.0 has found.1) in
-        (found.2.staging, apart) in (
-          λ at. ⊎_elim (λ b. let o = other b.0 b.1 in o.1.0 (b.2 ∙ o.0)) (λ e. trial.0 (e ∙ at_trial)) at,
-          λ at. ⊎_elim (λ b. let o = other b.0 b.1 in o.1.1 (b.2 ∙ o.0)) (λ e. trial.1 (e ∙ at_trial)) at,
-        )
+        (λ e. apart.0 (e ∙ found.2.staging), λ e. apart.1 (e ∙ found.2.staging)) in
+        (λ at. ⊎_elim (λ b. (other b.0 b.1).0 b.2) (λ e. trial.0 (e ∙ at_trial)) at, λ at. ⊎_elim (λ b. (other b.0 b.1).1 b.2) (λ e. trial.1 (e ∙ at_trial)) at)
 
     -- all grow once the first ones were begun
     pub all_growing : (d1 : DiskState) → ChangesOnly (IsAtStaging first.packets.now first.trial.now) d0 d1 → ((m : List ℕ) → IsIn first.outbound.now m → d0.is_named m → d1.is_named m)
