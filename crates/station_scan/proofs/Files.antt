@@ -31,14 +31,15 @@ use Rattle.station_scan.specs.Beneath.{IsUsedAt}
 use Rattle.station_scan.specs.Beside.{from_number}
 use Rattle.station_scan.specs.Fitting.{AreFit, AreTaken}
 use Rattle.station_scan.specs.Left.{IsOfNameOff}
-use Rattle.station_scan.specs.Publishing.{KeepsStoreBut, ended_in}
+use Rattle.station_scan.specs.Publishing.{AreOpen, IsGoingAt, KeepsStoreBut, ended_in}
 use Rattle.station_scan.specs.Scanning.{IsTouched, packets_in}
 use Rattle.station_scan.specs.Sending.{IsFreeAt, IsStagingOfPacket, for_address}
-use Rattle.station_scan.specs.Passing.{AreFor, AreFreeTo, AreGrowing, FitTo, HasStaged, IsGrowingTo, IsStagedTo, IsStagingTo, IsTakenFor, all_sent, header_for, made_to, path_to, plan_to, staging_to, trial_of}
+use Rattle.station_scan.specs.Passing.{AreFor, AreFreeTo, AreGrowing, FitTo, HasStaged, IsGrowingTo, IsMaking, IsStagedTo, IsStagingTo, IsTakenFor, addresses_of, all_sent, header_for, made_to, path_to, plan_to, staging_to, trial_of}
 use Rattle.station_scan.specs.declared.sending.Sending.{Sending}
 use Rattle.station_scan.proofs.Lists.{all_of_map, all_to_map}
 use Rattle.station_scan.proofs.Passes.{part_wider}
-use Rattle.station_scan.proofs.Plans.{all_for, fit_at, made_addresses, made_are, plans_are, some_back}
+use Rattle.station_scan.proofs.Grown.{open_growing}
+use Rattle.station_scan.proofs.Plans.{address_for, all_for, fit_at, fit_inside, made_addresses, made_are, plans_are, some_back, some_made}
 use Rattle.station_scan.proofs.Published.{keeps_only, keeps_wider}
 use Rattle.station_scan.proofs.Sent.{fit_plans}
 
@@ -141,3 +142,28 @@ ended_has to base sent all packets for disk honest is grows =
 
 pub growing_free : (to : Sending) (sent : List Sent) (all : List Address) (packets : List Outgoing) → AreFor to all packets → (disk : DiskState) → disk.is_honest → All (IsGrowingTo to sent disk) all → All (IsFree disk) packets
 growing_free to sent all packets for disk honest grows = all_for to all packets for (IsGrowingTo to sent disk) (IsFree disk) (λ a p goes one. ap disk.seen goes.path ∙ one.free honest) grows
+
+-- ---- packets that are ready
+
+module _ (Own : List ℕ → Type 0) (to : Sending) (sent : List Sent) (s : StoreState) (made : List CountedPacket) (is : IsMaking Own to sent s.disk made) (some : 0 < length made) where
+  making_are : addresses_of made ≡ made_to to.source.links.now sent
+  making_are = made_are to.source.links.now sent made is.are
+
+  pub making_open : (packets : List Outgoing) → AreFor to (addresses_of made) packets → AreOpen to.outbound.now packets s.disk
+  making_open packets for =
+      open_growing to sent (addresses_of made) packets for s.disk (some_made made (addresses_of made) refl some) (subst (λ (l : List Address). All (IsGrowingTo to sent s.disk) l) (sym making_are) is.grows)
+
+  pub making_fit : FitTo Own to (addresses_of made)
+  making_fit = subst (λ (l : List Address). FitTo Own to l) (sym making_are) (is.fit some)
+
+  pub making_inside : ((m : List ℕ) → s.is_own m → Own m) → FitTo s.is_own to (addresses_of made)
+  making_inside inside = fit_inside Own to s.is_own inside (addresses_of made) making_fit
+
+-- the paths of packets that fit are those of names
+pub going_touched : (Own Other : List ℕ → Type 0) (to : Sending) (all : List Address) (packets : List Outgoing) (trial : List ℕ) → AreFor to all packets → FitTo Own to all → trial ≡ trial_of to → (m : List ℕ) → IsGoingAt packets trial m
+    → IsTouched Other to.outbound.now m
+going_touched Own Other to all packets trial for fit at_end m (inl (p, has, at)) =
+    let found = address_for to all packets for p has in
+    inr (to.own.now, (packet_name found.0 to.source.from, plain_of Own to all fit found.0 found.1, ⊎_elim (λ e. inl (e ∙ found.2.staging)) (λ e. inr (e ∙ found.2.path)) at))
+going_touched Own Other to all packets trial for fit at_end m (inr at) =
+    inr (to.own.now, ([], λ k d lt. absurd (omega (arith, lt)), inl (at ∙ at_end ∙ ap (λ (l : List ℕ). staging_path l to.own.now) (sym (append-nil to.outbound.now)))))

@@ -117,6 +117,10 @@ pub no_items : {X : Type 0} (xs : List X) → length xs ≡ 0 → xs ≡ []
 no_items [] is = refl
 no_items (x ∷ xs) is = absurd (omega (arith, is))
 
+pub some_items : {X : Type 0} (xs : List X) → (xs ≡ [] → ⊥) → 0 < length xs
+some_items [] none = absurd (none refl)
+some_items (x ∷ xs) none = omega arith
+
 -- ---- whether a list has a path
 
 list_either : (one other : List ℕ) → (one ≡ other) ⊎ (one ≢ other)

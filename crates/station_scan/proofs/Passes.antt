@@ -1,6 +1,7 @@
 -- A pass over the messages of a store, group by group.
 use Rattle.std.proofs.Common.{◌≡◌, ◌≢◌, ◌⊎◌, inl, inr, ⊎_elim, ◌∙◌, ◌<◌, ◌≤◌, ℕ, true, List, [], ◌∷◌, ◌++◌, get_or, length, drop, map, filter, refl, sym, subst, ap, append_assoc, arith}
-use Rattle.std.specs.Prelude.{All, Contains, IsSome, None, Option}
+use Rattle.std.specs.Prelude.{All, Contains, IsSome, None, Ok, OnOk, Option, Result}
+use Rattle.disk_io.specs.declared.disk_error.DiskError.{DiskError}
 use Rattle.std.proofs.lemmas.List.{append-nil, append_cancel_left, drop_all, length-map}
 use Rattle.std.proofs.lemmas.List.Elements.{All-contains, Contains-get_or}
 use Rattle.base_file.specs.Base.{Base}
@@ -9,13 +10,14 @@ use Rattle.disk_io.specs.Fixed.{AreBytes}
 use Rattle.disk_io.specs.Runs.{ChangesNothing}
 use Rattle.disk_atomic.specs.StagingPaths.{staging_path}
 use Rattle.disk_atomic.specs.ListStaged.{IsNameByte}
-use Rattle.disk_atomic.specs.Outgoing.{IsAtStaging, IsFree}
+use Rattle.disk_atomic.specs.Outgoing.{IsAtStaging, IsFree, IsStagingGone}
 use Rattle.disk_atomic.specs.declared.outgoing.Outgoing.{Outgoing}
 use Rattle.disk_atomic.proofs.Changes.{only_nothing, then_only, wider}
 use Rattle.echo_addr.specs.declared.address.Address.{Address}
 use Rattle.echo_filed.specs.Filed.{Filed}
 use Rattle.echo_links.specs.Links.{LinkFile}
 use Rattle.cmd_report.specs.Scanned.{packet_name}
+use Rattle.cmd_report.specs.declared.scanning.PlannedPacket.{PlannedPacket}
 use Rattle.echo_toss.specs.declared.counting.CountedPacket.{CountedPacket}
 use Rattle.echo_toss.specs.Counts.{IsGroupFrom, Group, counted_to, counted_with, has_messages, link_set}
 use Rattle.echo_toss.specs.Exports.{Outgoing as Sent, nowhere, sent_of}
@@ -24,17 +26,21 @@ use Rattle.base_store.specs.Store.{LooksOn, StoreState}
 use Rattle.base_store.proofs.Runs.{same_twice}
 use Rattle.station.specs.Beneath.{AreSettledByOwn}
 use Rattle.station_scan.specs.Beneath.{IsUsedAt}
-use Rattle.station_scan.specs.Fitting.{FitPlanned}
-use Rattle.station_scan.specs.Publishing.{AreGoing}
+use Rattle.disk_atomic.specs.declared.placing_error.PlacingError.{PlacingError}
+use Rattle.disk_atomic.specs.declared.placing_error.PlacingError.TheVariants.{Memory, Taken}
+use Rattle.station_scan.specs.Fitting.{FitPlanned, IsUnfit}
+use Rattle.station_scan.specs.Publishing.{AreGoing, AreGone}
 use Rattle.station_scan.specs.Sending.{AreSent, IsNamed}
-use Rattle.station_scan.specs.Passing.{AreFor, AreFreeTo, AreGoneOrSame, AreGrowing, AreNext, AreTakenTo, FitTo, HasPassed, HasStaged, IsAppending, IsBatchFor, IsCounted, IsGrowingTo, IsMaking, IsNewPass, IsPlanOf, IsStagedTo, IsStagingTo, IsTakenFor, StagesNext, addresses_of, all_sent, begun_to, is_begun, is_made, made_in, made_to, path_to, plan_to, staging_to, trial_of}
+use Rattle.station_scan.specs.Passing.{AreFor, AreFreeTo, AreGoneOrSame, AreGrowing, AreNext, AreTakenTo, FitTo, HasPassed, HasStaged, IsAppending, IsBatchFor, IsCounted, IsGrowingTo, IsMaking, IsNewPass, IsPlanOf, IsStagedTo, IsStagingTo, IsTakenFor, AreDropped, StagesNext, StopsPassing, addresses_of, all_sent, begun_to, is_begun, is_made, made_in, made_to, path_to, plan_to, staging_to, trial_of}
 use Rattle.station_scan.specs.declared.passing.Pass.{Pass}
+use Rattle.station_scan.specs.declared.publish_error.PublishError.{PublishError}
 use Rattle.station_scan.specs.declared.sending.Plan.{Plan}
 use Rattle.station_scan.specs.declared.sending.Sending.{Sending}
+use Rattle.station_scan.specs.declared.sending.TwoPaths.{TwoPaths}
 use Rattle.station_scan.specs.declared.writing.Batch.{Batch}
 use Rattle.station_scan.proofs.Lists.{all_narrow, among, filter_mapped, filter_narrow, no_items}
 use Rattle.station_scan.proofs.Names.{ending, not_staging, trial_no_path}
-use Rattle.station_scan.proofs.Plans.{all_for, begun_is, fit_at, fit_inside, fit_narrow, fitting_of, made_are, made_later, made_none, made_wider, plan_of_fit, planned_is, sent_for, some_back, some_made, staging_at, staging_wider}
+use Rattle.station_scan.proofs.Plans.{all_for, at_staging_of, begun_is, fit_at, fit_inside, fit_narrow, fitting_of, made_are, made_later, made_none, made_wider, plan_of_fit, planned_is, sent_for, some_back, some_made, staging_at, staging_wider}
 use Rattle.station_scan.proofs.Published.{holds_still}
 use Rattle.station_scan.proofs.Sends.{fit_going}
 use Rattle.station_scan.proofs.Written.{looked_used, used_none, used_settled, used_twice}
@@ -150,17 +156,22 @@ module _ (Own : List ℕ → Type 0) (to : Sending) (sent more : List Sent) (s :
   pub group_unfit : (FitPlanned Own to.outbound.now to.own.now plan_all.planned → ⊥) → FitTo Own to now_to → ⊥
   group_unfit unfit fit = unfit (plan_of_fit to now now_to at_now plan_all of_all Own fit)
 
+  pub unfit_taken : (why : PlacingError) → IsUnfit Own to.outbound.now to.own.now plan_all.planned why → why ≡ Taken → AreTakenTo Own to now_to s.disk.seen
+  unfit_taken why (inl unfit) is = inr (λ fit. group_unfit unfit.1 fit)
+  unfit_taken why (inr none) is = let other : Memory ≡ Taken = sym none ∙ is in absurd (cc other)
+
   begun_fit : FitTo Own to now_to → FitTo Own to begun
   begun_fit fit = fit_narrow Own to (is_begun sent more) (is_made (sent ++ more)) (λ a is. (begun_is sent more a is).1) (link_set file) fit
 
-  module _ (fit : FitTo Own to now_to) (packets firsts : List Outgoing) (all_sent_to : AreSent plan_all.planned plan_all.two packets) (first_sent_to : AreSent plan_first.planned plan_first.two firsts)
-      (inside : (m : List ℕ) → s.is_own m → Own m) (plain : All (λ b. b ≢ 47) to.own.now) where
-    pub all_going : AreGoing s.is_own to.outbound.now plan_all.trial packets
-    all_going = fit_going Own to.outbound.now to.own.now (λ a. []) plan_all.planned packets (fitting_of to now now_to at_now plan_all of_all Own packets fit all_sent_to) plan_all.trial of_all.laid.trial s inside plain
+  module _ (fit : FitTo Own to now_to) (packets firsts : List Outgoing) (trial_all trial_first : List ℕ) (at_all : trial_all ≡ plan_all.trial) (at_first : trial_first ≡ plan_first.trial) (all_sent_to : AreSent plan_all.planned plan_all.two packets)
+      (first_sent_to : AreSent plan_first.planned plan_first.two firsts) (inside : (m : List ℕ) → s.is_own m → Own m) (plain : All (λ b. b ≢ 47) to.own.now) where
+    pub all_going : AreGoing s.is_own to.outbound.now trial_all packets
+    all_going =
+        fit_going Own to.outbound.now to.own.now (λ a. []) plan_all.planned packets (fitting_of to now now_to at_now plan_all of_all Own packets fit all_sent_to) trial_all (at_all ∙ of_all.laid.trial) s inside plain
 
-    pub first_going : AreGoing s.is_own to.outbound.now plan_first.trial firsts
+    pub first_going : AreGoing s.is_own to.outbound.now trial_first firsts
     first_going =
-        fit_going Own to.outbound.now to.own.now (λ a. []) plan_first.planned firsts (fitting_of to first begun next.begun plan_first of_first Own firsts (begun_fit fit) first_sent_to) plan_first.trial of_first.laid.trial s inside plain
+        fit_going Own to.outbound.now to.own.now (λ a. []) plan_first.planned firsts (fitting_of to first begun next.begun plan_first of_first Own firsts (begun_fit fit) first_sent_to) trial_first (at_first ∙ of_first.laid.trial) s inside plain
 
     pub all_batch : AreFor to now_to packets
     all_batch = sent_for to now now_to at_now plan_all of_all packets all_sent_to
@@ -168,13 +179,16 @@ module _ (Own : List ℕ → Type 0) (to : Sending) (sent more : List Sent) (s :
     pub first_batch : AreFor to begun firsts
     first_batch = sent_for to first begun next.begun plan_first of_first firsts first_sent_to
 
+    pub some_packets : 0 < length now → 0 < length packets
+    some_packets some = let many = all_batch.as_many in let there = some_made now now_to at_now some in omega (arith, many, there)
+
     -- what was written is staged
-    pub group_staged : (s2 : StoreState) → 0 < length now → IsUsedAt (IsAtStaging packets plan_all.trial) s s2 → IsStagedTo Own to (sent ++ more) s s2 now
+    pub group_staged : (s2 : StoreState) → 0 < length now → IsUsedAt (IsAtStaging packets trial_all) s s2 → IsStagedTo Own to (sent ++ more) s s2 now
     group_staged s2 some used = record {
       are = next.are;
       fit = λ there. fit;
       used =
-          used_wider (IsAtStaging packets plan_all.trial) (IsStagingTo to now_to) s s2 (staging_at to now_to packets all_batch plan_all.trial of_all.laid.trial (some_made now now_to at_now some)) used;
+          used_wider (IsAtStaging packets trial_all) (IsStagingTo to now_to) s s2 (staging_at to now_to packets all_batch trial_all (at_all ∙ of_all.laid.trial) (some_made now now_to at_now some)) used;
     }
 
     pub group_making : (d : DiskState) → AreGrowing to (sent ++ more) d → IsMaking Own to (sent ++ more) d now
@@ -280,3 +294,138 @@ module _ (Own : List ℕ → Type 0) (to : Sending) where
   pub drop_fit : (s0 s1 : StoreState) (made : List CountedPacket) → HasStaged Own to s0 s1 made → ((m : List ℕ) → s0.is_own m → Own m) → 0 < length made → FitTo s1.is_own to (addresses_of made)
   drop_fit s0 s1 made was inside some =
       subst (λ (l : List Address). FitTo s1.is_own to l) (sym (made_are links_in was.sent made was.staged.are)) (fit_inside Own to s1.is_own (λ m o. inside m ((was.staged.used.same.own m).0 o)) (made_to links_in was.sent) (was.staged.fit some))
+
+-- ---- the pass so far
+
+pub record IsPassing (Own : List ℕ → Type 0) (to : Sending) (s0 s : StoreState) (pass : Pass) (at : ℕ) : Type 0 where
+  pub sent : List Sent
+  pub counted : IsCounted Own to sent s.disk pass
+  pub used : IsUsedAt (IsStagingTo to (made_to to.source.links.now sent)) s0 s
+  pub rest : Honestly s.disk ((base : Base) → s0.keeps base → sent ++ sent_of to.source.links.now (drop at base.messages) ≡ all_sent to base)
+
+module _ (Own : List ℕ → Type 0) (to : Sending) (s0 : StoreState) where
+  pub passing_starts : AreSettledByOwn s0 → s0.is_ready → (pass : Pass) → IsCounted Own to [] s0.disk pass → IsPassing Own to s0 s0 pass to.source.from
+  passing_starts settled ready pass is = record { sent = []; counted = is; used = used_none (IsStagingTo to (made_to to.source.links.now [])) s0 settled ready; rest = λ honest base kept. refl }
+
+  module _ (s : StoreState) (pass : Pass) (at : ℕ) (was : IsPassing Own to s0 s pass at) where
+    pub passing_staged : HasStaged Own to s0 s pass.made
+    passing_staged = record {
+      sent = was.sent;
+      staged = record { are = was.counted.making.are; fit = was.counted.making.fit; used = was.used };
+      part = λ honest base kept. (sent_of to.source.links.now (drop at base.messages), was.rest honest base kept);
+    }
+
+    pub passing_over : Honestly s.disk ((base : Base) → s0.keeps base → length base.messages ≤ at) → HasPassed Own to s0 s pass.made
+    passing_over past = record {
+      sent = was.sent;
+      staged = record { are = was.counted.making.are; fit = was.counted.making.fit; used = was.used };
+      grows = was.counted.making.grows;
+      whole = λ honest base kept. rest_none Own to base was.sent at (was.rest honest base kept) (past honest base kept);
+    }
+
+    -- a group was read
+    module _ (r : StoreState) (looks : LooksOn s r) where
+      pub used_read : IsUsedAt (IsStagingTo to (made_to to.source.links.now was.sent)) s0 r
+      used_read = used_looked (IsStagingTo to (made_to to.source.links.now was.sent)) s0 s r was.used looks
+
+      pub read_staged : HasStaged Own to s0 r pass.made
+      read_staged = record {
+        sent = was.sent;
+        staged = record { are = was.counted.making.are; fit = was.counted.making.fit; used = used_read };
+        part = λ honest base kept. (sent_of to.source.links.now (drop at base.messages), was.rest (looks.quiet.honest honest) base kept);
+      }
+
+      pub read_counted : IsCounted Own to was.sent r.disk pass
+      read_counted = counted_quiet Own to was.sent s.disk r.disk pass looks.quiet was.counted
+
+      module _ (group : Group) (from : Honestly r.disk ((base : Base) → s.keeps base → IsGroupFrom to.source.links.now base.messages at group)) (e : StoreState) (now : Pass) (stages : StagesNext Own to was.sent group.sent r e now.made) where
+        stages_honest : e.disk.is_honest → r.disk.is_honest
+        stages_honest honest = ⊎_elim (λ staged. staged.used.changes.honest honest) (λ staged. staged.used.changes.honest honest) stages
+
+        -- and written or not
+        pub written_staged : HasStaged Own to s0 e now.made
+        written_staged =
+            stopped_next Own to was.sent group.sent s0 r e now.made used_read stages
+            (λ base honest kept.
+            let at_r = stages_honest honest in (
+              sent_of to.source.links.now (drop group.next base.messages),
+              sym (append_assoc was.sent group.sent (sent_of to.source.links.now (drop group.next base.messages)))
+                  ∙ rest_next Own to base was.sent at group (was.rest (looks.quiet.honest at_r) base kept) (from at_r base (was.used.holds.keeps base kept)),
+            ))
+
+        wide : StagesNext Own to was.sent group.sent r e now.made → IsUsedAt (IsStagingTo to (made_to to.source.links.now (was.sent ++ group.sent))) s0 e
+        wide (inl staged) =
+            used_wider (IsStagingTo to (made_to to.source.links.now was.sent)) (IsStagingTo to (made_to to.source.links.now (was.sent ++ group.sent))) s0 e
+            (staging_wider to (made_to to.source.links.now was.sent) (made_to to.source.links.now (was.sent ++ group.sent)) (made_wider to.source.links.now was.sent group.sent))
+            (used_twice (IsStagingTo to (made_to to.source.links.now was.sent)) s0 r e used_read staged.used)
+        wide (inr staged) = (staged_then Own to was.sent (was.sent ++ group.sent) s0 r e now.made (made_wider to.source.links.now was.sent group.sent) used_read staged).used
+
+        -- the pass goes on
+        pub passing_next : IsCounted Own to (was.sent ++ group.sent) e.disk now → IsPassing Own to s0 e now group.next
+        passing_next counted = record {
+          sent = was.sent ++ group.sent;
+          counted = counted;
+          used = wide stages;
+          rest = λ honest base kept.
+              let at_r = stages_honest honest in
+              rest_next Own to base was.sent at group (was.rest (looks.quiet.honest at_r) base kept) (from at_r base (was.used.holds.keeps base kept));
+        }
+
+        -- a path was in use
+        pub written_taken : e.disk.is_honest → AreTakenTo Own to (made_to to.source.links.now (was.sent ++ group.sent)) r.disk.seen → (base : Base) → s0.keeps base → IsTakenFor Own to base s0.disk.seen
+        written_taken honest taken base kept =
+            let at_r = stages_honest honest in
+            taken_all Own to was.sent (was.sent ++ group.sent) (sent_of to.source.links.now (drop group.next base.messages)) base s0 r
+            (rest_next Own to base was.sent at group (was.rest (looks.quiet.honest at_r) base kept) (from at_r base (was.used.holds.keeps base kept))) used_read taken
+
+-- ---- counted packets are dropped
+
+module _ (to : Sending) (s : StoreState) (made : List CountedPacket) (plan : Plan) (of : IsPlanOf to made plan) (planned : List PlannedPacket) (two : List TwoPaths) (trial : List ℕ) (listed packets : List Outgoing) (planned_is : planned ≡ plan.planned)
+    (two_is : two ≡ plan.two) (trial_is : trial ≡ plan.trial) (packets_is : packets ≡ listed) (sent : AreSent planned two listed) where
+  abbrev counted_to_drop : List Address
+  counted_to_drop = addresses_of made
+
+  pub drop_sent : AreSent plan.planned plan.two packets
+  drop_sent = subst (λ (l : List Outgoing). AreSent plan.planned plan.two l) (sym packets_is) (subst (λ (t : List TwoPaths). AreSent plan.planned t listed) two_is (subst (λ (p : List PlannedPacket). AreSent p two listed) planned_is sent))
+
+  pub drop_for : AreFor to counted_to_drop packets
+  drop_for = sent_for to made counted_to_drop refl plan of packets drop_sent
+
+  at_end : trial ≡ trial_of to
+  at_end = trial_is ∙ of.laid.trial
+
+  pub drop_going : FitTo s.is_own to counted_to_drop → All (λ b. b ≢ 47) to.own.now → AreGoing s.is_own to.outbound.now trial packets
+  drop_going fit plain =
+      fit_going s.is_own to.outbound.now to.own.now (λ a. []) plan.planned packets (fitting_of to made counted_to_drop refl plan of s.is_own packets fit drop_sent) trial at_end s (λ m o. o) plain
+
+  pub drop_used_at : (e : StoreState) → 0 < length made → IsUsedAt (IsAtStaging packets trial) s e → IsUsedAt (IsStagingTo to counted_to_drop) s e
+  drop_used_at e some used =
+      used_wider (IsAtStaging packets trial) (IsStagingTo to counted_to_drop) s e (staging_at to counted_to_drop packets drop_for trial at_end (some_made made counted_to_drop refl some)) used
+
+  -- what was removed is gone
+  pub drop_gone : (e : DiskState) → AreGone packets trial e → (m : List ℕ) → IsStagingTo to counted_to_drop m → e.seen m ≡ None
+  drop_gone e gone m at =
+      ⊎_elim (λ b. ap e.seen b.2 ∙ All-contains (IsStagingGone e) packets b.0 gone.0 b.1) (λ t. ap e.seen t ∙ gone.1) (at_staging_of to counted_to_drop packets drop_for trial at_end m at)
+
+-- ---- the pass stopped
+
+pub stops_none : (Own : List ℕ → Type 0) (to : Sending) (s : StoreState) (why : PublishError) → AreSettledByOwn s → s.is_ready → StopsPassing Own to s s why
+stops_none Own to s why settled ready =
+    let nobody : List CountedPacket = [] in
+    record {
+      made = nobody;
+      staged = record {
+        sent = [];
+        staged = record { are = sym (none_in to.source.links.now); fit = λ some. absurd (omega (arith, some)); used = used_none (IsStagingTo to (made_to to.source.links.now [])) s settled ready };
+        part = λ honest base kept. (all_sent to base, refl);
+      };
+      gone = λ honest dropped m. inr refl;
+    }
+
+pub stops_dropped : (Own : List ℕ → Type 0) (to : Sending) (s0 s1 s2 : StoreState) (made : List CountedPacket) (why : PublishError) (done : Result (Unit {0}) DiskError) → HasStaged Own to s0 s1 made → IsUsedAt (IsStagingTo to (addresses_of made)) s1 s2
+    → Honestly s2.disk (OnOk done ((m : List ℕ) → IsStagingTo to (addresses_of made) m → s2.disk.seen m ≡ None)) → (AreDropped why → done ≡ Ok tt) → StopsPassing Own to s0 s2 why
+stops_dropped Own to s0 s1 s2 made why done staged drop gone all = record {
+  made = made;
+  staged = dropped Own to s0 s1 s2 made staged drop;
+  gone = λ honest is. gone_or_same Own to s0 s1 s2 made staged drop (subst (λ (r : Result (Unit {0}) DiskError). OnOk r ((m : List ℕ) → IsStagingTo to (addresses_of made) m → s2.disk.seen m ≡ None)) (all is) (gone honest));
+}

@@ -44,17 +44,12 @@ use Rattle.station_scan.proofs.Scans.{stops_quiet}
 use Rattle.station_scan.proofs.Staged.{tried_after}
 use Rattle.station_scan.proofs.Stops.{put_whole, put_wider}
 use Rattle.station_scan.proofs.Through.{on_ok_gives}
-use Rattle.station_scan.proofs.Told.{reported_whole}
+use Rattle.station_scan.proofs.Told.{reported_whole, told_wider}
 
 -- a staging path is no packet's path
 path_not_staging : (outbound own : List ℕ) (files : List PacketFile) (m n : List ℕ) → IsStagingOfPacket outbound own files m → All IsNameByte n → m ≡ outbound ++ n → ⊥
 path_not_staging outbound own files m n (inl (sent, has, plain, at)) is e = not_staging own n sent.name is (append_cancel_left outbound n (sent.name ++ ending own) (sym e ∙ at ∙ append_assoc outbound sent.name (ending own)))
 path_not_staging outbound own files m n (inr at) is e = trial_no_path outbound own n is (sym at ∙ e)
-
--- what failed of one part failed of all
-told_wider : (some failed : Type 0) (before after : Files) (why : CommandError) (result : Result (Unit {0}) ScanError) → (some → failed) → TellsBeside some before after why result → TellsBeside failed before after why result
-told_wider some failed before after why result wider (inl (is, gone)) = inl (is, gone)
-told_wider some failed before after why result wider (inr (left, is, cause)) = inr (left, is, put_wider some failed ⊥ ⊥ ⊥ (Err (Staying left)) wider (λ none. none) cause)
 
 stopped_ok : (P failed : Type 0) (before after : Files) (why : CommandError) (result : Result (Unit {0}) ScanError) → TellsBeside failed before after why result → OnOk result P
 stopped_ok P failed before after why result (inl (is, gone)) = subst (λ (r : Result (Unit {0}) ScanError). OnOk r P) (sym is) tt

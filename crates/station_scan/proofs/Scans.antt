@@ -1,5 +1,5 @@
 -- A scan of a store.
-use Rattle.std.proofs.Common.{◌≡◌, ◌<◌, ℕ, List, [], Result, Ok, arith, inl, inr, refl, subst, sym}
+use Rattle.std.proofs.Common.{◌≡◌, ◌<◌, ℕ, List, [], Result, Ok, ⊎_elim, arith, inl, inr, refl, subst, sym}
 use Rattle.std.specs.Prelude.{Err, IsErrOf}
 use Rattle.base_file.specs.Base.{Base}
 use Rattle.disk_io.specs.Disk.{DiskState, Files}
@@ -16,7 +16,10 @@ use Rattle.cmd_store.specs.Scanned.{ScansOn}
 use Rattle.cmd_store.specs.declared.command_error.CommandError.{CommandError}
 use Rattle.cmd_store.specs.declared.command_error.CommandError.TheVariants.{Store}
 use Rattle.echo_toss.specs.PacketsIn.{state_in}
-use Rattle.station_scan.specs.Scanning.{IsPutOn, ScansOnStore, StopsScan, packets_in}
+use Rattle.base_store.proofs.Runs.{same_twice}
+use Rattle.station_scan.specs.Publishing.{KeepsStoreBut}
+use Rattle.station_scan.specs.Scanning.{IsPutOn, IsTouched, ScansOnStore, StopsScan, packets_in}
+use Rattle.station_scan.proofs.Published.{keeps_nothing, keeps_then, keeps_wider}
 use Rattle.station_scan.specs.declared.scan_error.ScanError.{ScanError}
 use Rattle.station_scan.specs.declared.scan_error.ScanError.TheVariants.{Command}
 use Rattle.station_scan.proofs.Lefts.{finishes_none}
@@ -70,4 +73,13 @@ scans_moved stamp Own outbound IsTrue some failed wider s1 sA s2 out now file ba
       answer = scans.answer;
       put = put_moved Own outbound own IsTrue some failed wider s1 sA s2 base (packets_in stamp file base) scans.made result same quiet stays left scans.put;
       whole = scans.whole;
+    }
+
+-- and what it touched
+pub moved_keeps : (outbound : List ℕ) (s1 sA s2 : StoreState) → IsSameStore s1 sA → ChangesNothing s1.disk sA.disk → KeepsStoreBut (IsTouched sA.is_own outbound) sA s2 → KeepsStoreBut (IsTouched s1.is_own outbound) s1 s2
+moved_keeps outbound s1 sA s2 same quiet kept =
+    let at = IsTouched s1.is_own outbound in
+    record {
+      same = same_twice s1 sA s2 same kept.same;
+      keeps = keeps_then at s1.disk sA.disk s2.disk (keeps_nothing at s1.disk sA.disk quiet) (keeps_wider (IsTouched sA.is_own outbound) at sA.disk s2.disk (λ m is. ⊎_elim (λ o. inl ((same.own m).0 o)) (λ name. inr name) is) kept.keeps);
     }

@@ -24,20 +24,23 @@ use Rattle.echo_links.specs.Links.{LinkFile}
 use Rattle.echo_toss.specs.declared.counting.CountedPacket.{CountedPacket}
 use Rattle.echo_toss.specs.Counts.{bytes_for, counted_of, counted_to, link_set}
 use Rattle.echo_toss.specs.Exports.{Outgoing as Sent, sent_of}
+use Rattle.echo_toss.specs.Bounds.{IsFullWhenRead}
 use Rattle.echo_toss.specs.PacketsIn.{state_in}
 use Rattle.echo_toss.proofs.Counts.{all_counted}
 use Rattle.model_steps.specs.PacketFiles.{PacketFile}
 use Rattle.model_steps.specs.Scanning.{scanned}
 use Rattle.model_steps.specs.Stamps.{is_stamp}
-use Rattle.base_store.specs.Store.{LooksOn, StoreState, all_scanned}
+use Rattle.base_store.specs.Store.{HasStoreCause, LooksOn, StoreState, all_scanned}
 use Rattle.base_store.specs.declared.store_error.StoreError.{StoreError}
 use Rattle.base_store.specs.declared.store_error.StoreError.TheVariants as error
+use Rattle.base_store.proofs.Runs.{same_twice}
+use Rattle.station.specs.Beneath.{HoldsAsBefore}
 use Rattle.station_scan.specs.Beneath.{IsFullOnWay, IsUsedAt}
 use Rattle.station_scan.specs.Beside.{HasReported, HasScanCause, IsMoved, IsPutBeside, ScansBeside, SendsBeside, StopsBeside, TellsBeside, files_reported, from_number, left_cause, left_told, told_as}
 use Rattle.station_scan.specs.Fitting.{AreTaken}
 use Rattle.station_scan.specs.Passing.{AreGoneOrSame, HasPassed, HasStaged, IsStagingTo, IsTakenFor, StopsPassing, addresses_of, all_sent, made_in, made_to}
-use Rattle.station_scan.specs.Publishing.{HasPublishCause}
-use Rattle.station_scan.specs.Scanning.{packets_in}
+use Rattle.station_scan.specs.Publishing.{HasPublishCause, KeepsStoreBut}
+use Rattle.station_scan.specs.Scanning.{IsTouched, packets_in}
 use Rattle.station_scan.specs.Sending.{IsStagingOfPacket}
 use Rattle.station_scan.specs.Sends.{WritesBeside}
 use Rattle.station_scan.specs.Stops.{IsOfPlacing, most, scan_done, stop_of}
@@ -48,10 +51,12 @@ use Rattle.station_scan.specs.declared.scan_error.ScanError.{ScanError}
 use Rattle.station_scan.specs.declared.scan_error.ScanError.TheVariants.{Command, Placing, Staying}
 use Rattle.station_scan.specs.declared.sending.Sending.{Sending}
 use Rattle.station_scan.proofs.Besides.{few_keeps, sends_before, writes_before}
-use Rattle.station_scan.proofs.Causes.{full_read}
+use Rattle.station.proofs.Failures.{failed_wider}
+use Rattle.station_scan.proofs.Causes.{full_later, full_read}
 use Rattle.station_scan.proofs.Files.{files_are, files_to, of_files, staged_off, taken_files}
 use Rattle.station_scan.proofs.Lefts.{quiet_start}
-use Rattle.station_scan.proofs.Stops.{placing_why, put_whole}
+use Rattle.station_scan.proofs.Published.{keeps_nothing, keeps_then, keeps_wider}
+use Rattle.station_scan.proofs.Stops.{placing_why, put_whole, put_wider}
 
 -- ---- what was printed
 
@@ -207,3 +212,82 @@ scans_passing state Own to failed s0 s1 base out (Staging left) moved moment ins
     scans_nothing state Own to failed s0 s1 stops.made stops.staged base moved moment inside honest s1 (quiet_start s1.disk) out error.Memory (Err (Staying left)) (inr (left, refl, staying_why failed left (λ e. staying (ap (λ (c : DiskError). Staging c) e)))) (λ e. cc e)
 scans_passing state Own to failed s0 s1 base out (OfBase cause) moved moment inside honest stops never staying unread whole =
     scans_nothing state Own to failed s0 s1 stops.made stops.staged base moved moment inside honest s1 (quiet_start s1.disk) out cause (Err (Command (Store cause))) (inl (refl, stops.gone honest tt)) (λ e. whole (cc e))
+
+-- ---- the lines are reported
+
+module _ {S : Type 0} (state : S → StoreState) (source : Source) (s0 s1 : StoreState) (f0 f1 : ℕ) (out : Output) (looks : LooksOn s0 s1) where
+  module _ (now : Output) (packets : List CountedPacket) (later : f0 ≤ f1) (moment : is_stamp source.stamp ≡ true)
+      (counted : Honestly s1.disk ((base : Base) → s0.keeps base → packets ≡ map counted_of (scanned source.links.now base.messages source.from source.stamp))) where
+    pub reported_ok : (planned : List PlannedPacket) → AnswersOn (ArePlanned source.from packets) RefusesNone out now (Ok planned) → HasReported state source s0 s1 f0 f1 out now (Ok tt)
+    reported_ok planned answer = record {
+      answers = λ honest base kept.
+          let system = state_in source.links.now (from_number source.from base) in
+          let scan = scan_printed source.stamp system packets source.from out now (Ok planned) moment (counted honest base kept) refl answer in
+          subst (λ (l : List PacketFile). ScansOn source.stamp system out now (Ok l)) scan.right.packets scan;
+      looks = looks;
+      many = λ e. absurd (cc e);
+      cause = record { later = later; failed = λ e. absurd (cc e); damaged = λ honest e. absurd (cc e) };
+    }
+
+    pub reported_met : (stop : CommandError) → AnswersOn (ArePlanned source.from packets) RefusesNone out now (Err stop) → store_answer {A = List PlannedPacket} (Err stop) ≡ Ok tt → HasReported state source s0 s1 f0 f1 out now (Err stop)
+    reported_met (Store cause) answer met = absurd (cc met)
+    reported_met (Met fault) answer met = record {
+      answers = λ honest base kept. scan_printed source.stamp (state_in source.links.now (from_number source.from base)) packets source.from out now (Err (Met fault)) moment (counted honest base kept) refl answer;
+      looks = looks;
+      many = λ e. absurd (cc e);
+      cause = record { later = later; failed = λ e. absurd (cc e); damaged = λ honest e. absurd (cc e) };
+    }
+
+  pub reported_store : (cause : StoreError) → (cause ≡ error.TooMany → IsFullWhenRead state s0) → HasStoreCause {T = Unit {0}} s0 s1 f0 f1 (Err cause) → HasReported state source s0 s1 f0 f1 out out (Err (Store cause))
+  reported_store cause many was = record { answers = λ honest base kept. refl; looks = looks; many = λ e. many (cc e); cause = was }
+
+-- ---- one part after another
+
+-- what failed of one part failed of all
+pub told_wider : (some failed : Type 0) (before after : Files) (why : CommandError) (result : Result (Unit {0}) ScanError) → (some → failed) → TellsBeside some before after why result → TellsBeside failed before after why result
+told_wider some failed before after why result wider (inl (is, gone)) = inl (is, gone)
+told_wider some failed before after why result wider (inr (left, is, cause)) = inr (left, is, put_wider some failed ⊥ ⊥ ⊥ (Err (Staying left)) wider (λ none. none) cause)
+
+put_as_wider : {D : Type 0} (state : D → DiskState) (Own : List ℕ → Type 0) (outbound own : List ℕ) (some failed : Type 0) → (some → failed) → (s0 s1 : StoreState) (base : Base) (packets : List PacketFile) (made : Result (List PacketFile) CommandError)
+    (result : Result (Unit {0}) ScanError) → IsPutBeside state Own outbound own some s0 s1 base packets made result → IsPutBeside state Own outbound own failed s0 s1 base packets made result
+put_as_wider state Own outbound own some failed wider s0 s1 base packets (Ok files) result put = record {
+  sent = put.sent;
+  crash = put.crash;
+  keeps = put.keeps;
+  why = put_wider some failed _ _ _ result wider (λ t. t) put.why;
+  tried = put.tried;
+}
+put_as_wider state Own outbound own some failed wider s0 s1 base packets (Err why) result put = record {
+  crash = put.crash;
+  others = put.others;
+  shown = put.shown;
+  told = told_wider some failed s0.disk.seen s1.disk.seen why result wider put.told;
+}
+
+-- more may have failed
+pub scans_wider : {D : Type 0} (state : D → DiskState) (Own : List ℕ → Type 0) (to : Sending) (some failed : Type 0) → (some → failed) → (s0 s1 : StoreState) (out now : Output) (base : Base) (result : Result (Unit {0}) ScanError)
+    → ScansBeside state Own to some s0 s1 out now base result → ScansBeside state Own to failed s0 s1 out now base result
+scans_wider state Own to some failed wider s0 s1 out now base result scans = record {
+  made = scans.made;
+  answer = scans.answer;
+  put = put_as_wider state Own to.outbound.now to.own.now some failed wider s0 s1 base (packets_in to.source.stamp to.source.links.now base) scans.made result scans.put;
+  whole = scans.whole;
+}
+
+pub cause_after : {S : Type 0} (state : S → StoreState) (s0 s1 : StoreState) (f0 f1 f2 : ℕ) (result : Result (Unit {0}) ScanError) → HoldsAsBefore s0 s1 → f0 ≤ f1 → HasScanCause state s1 f1 f2 result → HasScanCause state s0 f0 f2 result
+cause_after state s0 s1 f0 f1 f2 result holds before was = record {
+  later = omega (arith, before, was.later);
+  device = λ e. failed_wider f0 f1 f2 f2 before (omega arith) (was.device e);
+  many = λ e. full_later state s0 s1 holds (was.many e);
+}
+
+pub touched_after : (outbound : List ℕ) (s0 s1 s2 : StoreState) → KeepsStoreBut (IsTouched s0.is_own outbound) s0 s1 → KeepsStoreBut (IsTouched s1.is_own outbound) s1 s2 → KeepsStoreBut (IsTouched s0.is_own outbound) s0 s2
+touched_after outbound s0 s1 s2 one two =
+    let at = IsTouched s0.is_own outbound in
+    record {
+      same = same_twice s0 s1 s2 one.same two.same;
+      keeps = keeps_then at s0.disk s1.disk s2.disk one.keeps (keeps_wider (IsTouched s1.is_own outbound) at s1.disk s2.disk (λ m is. ⊎_elim (λ o. inl ((one.same.own m).0 o)) (λ name. inr name) is) two.keeps);
+    }
+
+pub touched_looked : (outbound : List ℕ) (s0 s1 : StoreState) → LooksOn s0 s1 → KeepsStoreBut (IsTouched s0.is_own outbound) s0 s1
+touched_looked outbound s0 s1 looks = record { same = looks.same; keeps = keeps_nothing (IsTouched s0.is_own outbound) s0.disk s1.disk looks.quiet }

@@ -91,11 +91,11 @@ pub(crate) fn write_group<'a, D: Disk, P: LendStation<'a, D>>(
     requires ready { (P.Kept.state store).is_ready × AreSettledByOwn (P.Kept.state store) }
     requires own { (m : List ℕ) → (P.Kept.state store).is_own m → P.Paths.is_own paths.now m }
     requires making { (sent : List Sent) × IsMaking (P.Paths.is_own paths.now) sending sent (P.Kept.state store).disk made.old × AreNext sending sent group.now.sent counted.made counted.first }
-    ensures stages { (sent : List Sent) → IsMaking (P.Paths.is_own paths.now) sending.entry sent (P.Kept.state store).disk made.old → AreNext sending.entry sent group.now.sent counted.entry.made counted.entry.first
+    ensures stages { (sent : List Sent) → IsMaking (P.Paths.is_own paths.now) sending.entry sent (P.Kept.state store).disk made.old → AreNext sending.entry sent group.now.sent counted.made counted.first
         → StagesNext (P.Paths.is_own paths.now) sending.entry sent group.now.sent (P.Kept.state store) (P.Kept.state result.store) made.new }
-    ensures grows { (sent : List Sent) → IsMaking (P.Paths.is_own paths.now) sending.entry sent (P.Kept.state store).disk made.old → AreNext sending.entry sent group.now.sent counted.entry.made counted.entry.first
+    ensures grows { (sent : List Sent) → IsMaking (P.Paths.is_own paths.now) sending.entry sent (P.Kept.state store).disk made.old → AreNext sending.entry sent group.now.sent counted.made counted.first
         → OnOk result.done (IsMaking (P.Paths.is_own paths.now) sending.entry (sent ++ group.now.sent) (P.Kept.state result.store).disk made.new) }
-    ensures taken { Honestly (P.Kept.state result.store).disk (IsErrOf result.done PlacingError.Taken → (sent : List Sent) → AreNext sending.entry sent group.now.sent counted.entry.made counted.entry.first
+    ensures taken { Honestly (P.Kept.state result.store).disk (IsErrOf result.done PlacingError.Taken → (sent : List Sent) → AreNext sending.entry sent group.now.sent counted.made counted.first
         → AreTakenTo (P.Paths.is_own paths.now) sending.entry (made_to sending.entry.source.links.now (sent ++ group.now.sent)) (P.Kept.state store).disk.seen) }
     ensures cause { HasPlacingCause (P.Kept.failures store) (P.Kept.failures result.store) result.done }
 {
