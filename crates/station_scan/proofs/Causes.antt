@@ -1,6 +1,6 @@
 -- Why packets were not written.
 use Rattle.std.proofs.Common.{◌≡◌, ◌≤◌, ℕ, arith}
-use Rattle.std.specs.Prelude.{Err, Ok}
+use Rattle.std.specs.Prelude.{Err, IsErrOf, Ok}
 use Rattle.base_file.specs.Base.{Base}
 use Rattle.disk_io.specs.Device.{Failed}
 use Rattle.disk_io.specs.Runs.{HasCause}
@@ -18,7 +18,8 @@ use Rattle.station_scan.specs.Publishing.{HasPublishCause}
 use Rattle.station_scan.specs.Writing.{HasStopCause, stop_told}
 use Rattle.station_scan.specs.declared.passing.PassStop.{PassStop}
 use Rattle.station_scan.specs.declared.passing.PassStop.TheVariants.{Placing, Reading}
-use Rattle.station_scan.specs.declared.publish_error.PublishError.TheVariants.{Staging}
+use Rattle.station_scan.specs.declared.publish_error.PublishError.{PublishError}
+use Rattle.station_scan.specs.declared.publish_error.PublishError.TheVariants.{Packets, Staging}
 
 -- a store that holds what one held that holds what this one held
 pub full_later : {S : Type 0} (state : S → StoreState) (s0 s1 : StoreState) → HoldsAsBefore s0 s1 → IsFullOnWay state s1 → IsFullOnWay state s0
@@ -94,3 +95,8 @@ module _ {S T : Type 0} (state : S → StoreState) (s0 s1 s2 : StoreState) (f0 f
     many = λ e. absurd (cc e);
     full = λ e. absurd (cc e);
   }
+
+-- a path in use stopped the pass
+pub told_taken : (stop : PassStop) (why : PublishError) → why ≡ stop_told stop → IsErrOf {T = Unit {0}} (Err why) (Packets placing.Taken) → IsErrOf {T = Unit {0}} (Err stop) (Placing placing.Taken)
+told_taken (Placing cause) why is taken = cc (is, taken)
+told_taken (Reading cause) why is taken = absurd (cc (is, taken))

@@ -104,7 +104,7 @@ add_group-back-requires g c κs =
     (passing.sent, read_counted Own c.args.sending s0 s c.groups.pass c.groups.at passing r looks)))))
 
 pub len-end-requires-in-Ok-done : goal.len-end-requires-in-Ok-done
-len-end-requires-in-Ok-done g c κs =
+len-end-requires-in-Ok-done g c =
     let stages = c.add_group-back.ensures.stages c.groups.invariant.passing.sent
     (read_counted (g.P.Paths.OwnPaths.is_own c.args.paths.now) c.args.sending (g.P.Kept.Store.state c.args.store) (g.P.Kept.Store.state c.groups.store) c.groups.pass c.groups.at c.groups.invariant.passing (g.P.Kept.Store.state c.read_group-read.result.store) c.read_group-read.ensures.looks) in
-    ((refl, tt), ⊎_elim (λ staged. staged.used.holds.ready) (λ staged. staged.used.holds.ready) stages)
+    ⊎_elim (λ staged. staged.used.holds.ready) (λ staged. staged.used.holds.ready) stages
