@@ -1,5 +1,5 @@
 -- A scan once its cursor was moved: packets are sent out behind a pass over the messages.
-use Rattle.std.proofs.Common.{◌≡◌, ◌⊎◌, inl, inr, ⊎_elim, ◌∙◌, ◌<◌, ℕ, List, [], Result, Ok, Err, get_or, length, map, refl, sym, subst, ap, arith}
+use Rattle.std.proofs.Common.{◌≡◌, ◌⊎◌, inl, inr, ⊎_elim, ◌∙◌, ◌<◌, ℕ, true, List, [], Result, Ok, Err, get_or, length, map, refl, sym, subst, ap, arith}
 use Rattle.std.specs.Prelude.{All, IfErr, IsErrOf, OnOk, None}
 use Rattle.std.proofs.lemmas.List.{append-nil, length-map}
 use Rattle.base_file.specs.Base.{Base}

@@ -33,7 +33,7 @@ use Rattle.station_scan.specs.Fitting.{AreFit, AreTaken}
 use Rattle.station_scan.specs.Left.{IsOfNameOff}
 use Rattle.station_scan.specs.Publishing.{AreOpen, IsGoingAt, KeepsStoreBut, ended_in}
 use Rattle.station_scan.specs.Scanning.{IsTouched, packets_in}
-use Rattle.station_scan.specs.Sending.{IsFreeAt, IsStagingOfPacket, for_address}
+use Rattle.station_scan.specs.Sending.{IsFreeAt, IsNamed, IsOffOwn, IsStagingOfPacket, for_address, two_paths}
 use Rattle.station_scan.specs.Passing.{AreFor, AreFreeTo, AreGrowing, FitTo, HasStaged, IsGrowingTo, IsMaking, IsStagedTo, IsStagingTo, IsTakenFor, addresses_of, all_sent, header_for, made_to, path_to, plan_to, staging_to, trial_of}
 use Rattle.station_scan.specs.declared.sending.Sending.{Sending}
 use Rattle.station_scan.proofs.Lists.{all_of_map, all_to_map}
@@ -79,12 +79,14 @@ file_of to base all a has = contains_map (file_with (content_of to base)) (map (
 module _ (Own : List ℕ → Type 0) (to : Sending) where
   -- one of them has a name
   plain_of : (all : List Address) → FitTo Own to all → (a : Address) → Contains all a → All IsNameByte (packet_name a to.source.from)
-  plain_of all fit a has = (All-contains _ all a (fit_at Own to all fit).names has).plain
+  plain_of all fit a has = let named : IsNamed (packet_name a to.source.from) = All-contains (λ x. IsNamed (packet_name x to.source.from)) all a (fit_at Own to all fit).names has in named.plain
 
   -- it is the path of a name that is not the station's own
   off_own : (all : List Address) → FitTo Own to all → (m : List ℕ) → IsStagingTo to all m → IsOfNameOff Own to.outbound.now to.own.now m
   off_own all fit m (a, has, inl at) =
-      ((packet_name a to.source.from, plain_of all fit a has, inl at), λ o. (All-contains _ all a (fit_at Own to all fit).off has).staging (subst Own at o))
+      let off : IsOffOwn Own (two_paths to.outbound.now to.own.now (packet_name a to.source.from)) =
+      All-contains (λ x. IsOffOwn Own (two_paths to.outbound.now to.own.now (packet_name x to.source.from))) all a (fit_at Own to all fit).off has in
+      ((packet_name a to.source.from, plain_of all fit a has, inl at), λ o. off.staging (subst Own at o))
   off_own all fit m (a, has, inr at) =
       (([], λ k d lt. absurd (omega (arith, lt)), inl (at ∙ ap (λ (l : List ℕ). staging_path l to.own.now) (sym (append-nil to.outbound.now)))), λ o. fit.trial (subst Own at o))
 

@@ -186,7 +186,7 @@ module _ {D : Type 0} (state : D → DiskState) (Own : List ℕ → Type 0) (to 
           made = Ok files;
           answer = subst (λ (n : ℕ). ScansOn to.source.stamp (state_in to.source.links.now (from_number n base)) out now (Ok (packets_in to.source.stamp to.source.links.now (from_number n base)))) moved.at answer;
           put = put;
-          whole = put_whole failed _ _ (Err (Placing cause)) put.why;
+          whole = λ e. cc e;
         }
     scans_reported out now cause (Err stop) device taken gone used answer whole = record {
       made = Err stop;
@@ -202,16 +202,23 @@ pub scans_sent : {D : Type 0} (state : D → DiskState) (Own : List ℕ → Type
 scans_sent state Own to failed s0 s2 base out now result answer put = record { made = Ok (packets_in to.source.stamp to.source.links.now base); answer = answer; put = put; whole = put_whole failed _ _ result put.why }
 
 -- the pass stopped, and no packet was why
-pub scans_passing : {D : Type 0} (state : D → DiskState) (Own : List ℕ → Type 0) (to : Sending) (failed : Type 0) (s0 s1 : StoreState) (base : Base) (out : Output) (why : PublishError) → IsMoved s0 to.source.from base → is_stamp to.source.stamp ≡ true
-    → ((m : List ℕ) → s0.is_own m → Own m) → s1.disk.is_honest → StopsPassing Own to s0 s1 why → ((cause : PlacingError) → why ≡ Packets cause → ⊥) → (why ≡ Staging disk.Device → failed) → (why ≡ Reading error.Damaged → ⊥) → (why ≡ OfBase error.Damaged → ⊥)
-    → ScansBeside state Own to failed s0 s1 out out base (Err (stop_of why))
-scans_passing state Own to failed s0 s1 base out (Packets cause) moved moment inside honest stops never staying unread whole = absurd (never cause refl)
-scans_passing state Own to failed s0 s1 base out (Reading cause) moved moment inside honest stops never staying unread whole =
-    scans_nothing state Own to failed s0 s1 stops.made stops.staged base moved moment inside honest s1 (quiet_start s1.disk) out cause (Err (Command (Store cause))) (inl (refl, stops.gone honest tt)) (λ e. unread (cc e))
-scans_passing state Own to failed s0 s1 base out (Staging left) moved moment inside honest stops never staying unread whole =
-    scans_nothing state Own to failed s0 s1 stops.made stops.staged base moved moment inside honest s1 (quiet_start s1.disk) out error.Memory (Err (Staying left)) (inr (left, refl, staying_why failed left (λ e. staying (ap (λ (c : DiskError). Staging c) e)))) (λ e. cc e)
-scans_passing state Own to failed s0 s1 base out (OfBase cause) moved moment inside honest stops never staying unread whole =
-    scans_nothing state Own to failed s0 s1 stops.made stops.staged base moved moment inside honest s1 (quiet_start s1.disk) out cause (Err (Command (Store cause))) (inl (refl, stops.gone honest tt)) (λ e. whole (cc e))
+module _ {D : Type 0} (state : D → DiskState) (Own : List ℕ → Type 0) (to : Sending) (failed : Type 0) (s0 s1 : StoreState) (base : Base) (out : Output) (moved : IsMoved s0 to.source.from base) (moment : is_stamp to.source.stamp ≡ true)
+    (inside : (m : List ℕ) → s0.is_own m → Own m) (honest : s1.disk.is_honest) where
+  pub scans_reading : (cause : StoreError) → StopsPassing Own to s0 s1 (Reading cause) → (cause ≡ error.Damaged → ⊥) → ScansBeside state Own to failed s0 s1 out out base (Err (Command (Store cause)))
+  scans_reading cause stops whole =
+      scans_nothing state Own to failed s0 s1 stops.made stops.staged base moved moment inside honest s1 (quiet_start s1.disk) out cause (Err (Command (Store cause))) (inl (refl, stops.gone honest tt)) (λ e. whole (cc e))
+
+  pub scans_staying : (left : DiskError) → StopsPassing Own to s0 s1 (Staging left) → (left ≡ disk.Device → failed) → ScansBeside state Own to failed s0 s1 out out base (Err (Staying left))
+  scans_staying left stops device =
+      scans_nothing state Own to failed s0 s1 stops.made stops.staged base moved moment inside honest s1 (quiet_start s1.disk) out error.Memory (Err (Staying left)) (inr (left, refl, staying_why failed left device)) (λ e. cc e)
+
+  pub scans_of_base : (cause : StoreError) → StopsPassing Own to s0 s1 (OfBase cause) → (cause ≡ error.Damaged → ⊥) → ScansBeside state Own to failed s0 s1 out out base (Err (Command (Store cause)))
+  scans_of_base cause stops whole =
+      scans_nothing state Own to failed s0 s1 stops.made stops.staged base moved moment inside honest s1 (quiet_start s1.disk) out cause (Err (Command (Store cause))) (inl (refl, stops.gone honest tt)) (λ e. whole (cc e))
+
+pub err_of : {T : Type 0} (done : Result T PublishError) (why what : PublishError) → done ≡ Err why → why ≡ what → IsErrOf done what
+err_of (Ok value) why what is same = absurd (cc is)
+err_of (Err other) why what is same = cc (is, same)
 
 -- ---- the lines are reported
 

@@ -24,7 +24,7 @@ use crate::stopping::{drop_made, pass_waiting};
 use crate::writing::Batch;
 use base_store::Store;
 use cmd_status::MessageProgress;
-use cmd_store::print_counted;
+use cmd_store::{CommandError, print_counted};
 use disk_io::{Disk, DiskError, Sink};
 use echo_toss::CountedPacket;
 use station::LendStation;
@@ -174,9 +174,17 @@ pub(crate) fn send_on<'a, D: Disk, P: LendStation<'a, D>, T: MessageProgress, W:
             let done = told_as(ScanError::Placing(cause), done);
             Used { store, done }
         }
-        Err(why) => Used {
+        Err(PublishError::Reading(cause)) => Used {
             store,
-            done: Err(ScanError::from(why)),
+            done: Err(ScanError::Command(CommandError::Store(cause))),
+        },
+        Err(PublishError::Staging(left)) => Used {
+            store,
+            done: Err(ScanError::Staying(left)),
+        },
+        Err(PublishError::Base(cause)) => Used {
+            store,
+            done: Err(ScanError::Command(CommandError::Store(cause))),
         },
     }
 }

@@ -20,7 +20,7 @@ returns-in-Ok-clause-ended g c = λ honest.
     let d1 = (g.P.Kept.Store.state c.append_on-store.result.store).disk in
     let d2 = (g.P.Kept.Store.state c.end_on.result.store).disk in
     let longer = subst (λ (r : Result (Unit {0}) DiskError). OnOk r (All (IsLonger (λ to. word 0) d0 d1) packets)) c.in-Ok.is (c.append_on-store.ensures.longer (c.end_on.ensures.used.changes.honest honest)) in
-    on_ok_gives c.end_on.result.done (λ (same : All (IsWritten (staged_in d1.seen) d2.seen) packets) k z lt. same k z lt ∙ longer k z lt) (c.end_on.ensures.same honest)
+    on_ok_gives c.end_on.result.done (λ (same : All (IsWritten (staged_in d1.seen) d2.seen) packets) k z lt. same k z lt ∙ longer k z lt) c.end_on.ensures.same
 
 pub returns-in-Ok-clause-tried : goal.returns-in-Ok-clause-tried
 returns-in-Ok-clause-tried g c =

@@ -1,8 +1,15 @@
 use Rattle.std.proofs.Common.{◌≡◌, ◌<◌, List, length, refl, subst, sym}
 use Rattle.echo_toss.specs.declared.counting.CountedPacket.{CountedPacket}
 use Rattle.station_scan.specs.Passing.{HasStaged}
+use Rattle.std.specs.Prelude.{Err, Result}
+use Rattle.disk_io.specs.Runs.{HasCause}
+use Rattle.disk_io.specs.declared.disk_error.DiskError.{DiskError}
 use Rattle.station_scan.specs.Publishing.{HasPublishCause}
-use Rattle.station_scan.proofs.Causes.{left_stop, told_stop, told_taken}
+use Rattle.station_scan.specs.Writing.{HasStopCause}
+use Rattle.station_scan.specs.declared.passing.PassStop.{PassStop}
+use Rattle.station_scan.specs.declared.publish_error.PublishError.{PublishError}
+use Rattle.station_scan.specs.declared.publish_error.PublishError.TheVariants.{Staging}
+use Rattle.station_scan.proofs.Causes.{told_stop, told_taken}
 use Rattle.station_scan.proofs.Passes.{drop_fit, new_counted, stops_dropped, stops_none}
 use Rattle.station_scan.proofs.Written.{used_settled}
 use Rattle.station_scan.proofs.stopping.pass_waiting.Goals as goal
@@ -35,16 +42,6 @@ returns-in-Ok-done-2-clause-stopped g c =
     let staged = subst (λ (l : List CountedPacket). HasStaged Own to s0 s1 l) (sym c.as_slice.ensures) c.pass_on-store.ensures.staged in
     stops_dropped Own to s0 s1 (g.P.Kept.Store.state c.drop_made-store.result.store) made c.stopped.result c.drop_made-store.result.done staged c.drop_made-store.ensures.used c.drop_made-store.ensures.gone (λ is. c.in-Ok-done-2.is)
 
-pub returns-in-Err-done-2-clause-stopped : goal.returns-in-Err-done-2-clause-stopped
-returns-in-Err-done-2-clause-stopped g c =
-    let Own = g.P.Paths.OwnPaths.is_own c.args.paths.now in
-    let to = c.args.sending in
-    let s0 = g.P.Kept.Store.state c.args.store in
-    let s1 = g.P.Kept.Store.state c.pass_on-store.result.store in
-    let made = c.as_slice.result.now in
-    let staged = subst (λ (l : List CountedPacket). HasStaged Own to s0 s1 l) (sym c.as_slice.ensures) c.pass_on-store.ensures.staged in
-    stops_dropped Own to s0 s1 (g.P.Kept.Store.state c.drop_made-store.result.store) made _ c.drop_made-store.result.done staged c.drop_made-store.ensures.used c.drop_made-store.ensures.gone (λ is. absurd is)
-
 pub returns-in-Ok-done-2-clause-taken : goal.returns-in-Ok-done-2-clause-taken
 returns-in-Ok-done-2-clause-taken g c = λ honest is base kept.
     c.pass_on-store.ensures.taken (c.drop_made-store.ensures.used.changes.honest honest) (let told = told_taken c.in-Err-done.stop c.stopped.result c.stopped.ensures (cc is) in cc (c.in-Err-done.is, told)) base kept
@@ -61,14 +58,12 @@ returns-in-Ok-done-2-clause-cause g c =
     (told_stop g.P.Kept.Store.state s0 s1 s2 f0 f1 f2 c.drop_made-store.ensures.used.changes.honest c.in-Err-done.stop
     (subst (λ (r : Result (Unit {0}) PassStop). HasStopCause g.P.Kept.Store.state s0 s1 f0 f1 r) c.in-Err-done.is c.pass_on-store.ensures.cause) c.drop_made-store.ensures.cause.later)
 
-pub returns-in-Err-done-2-clause-cause : goal.returns-in-Err-done-2-clause-cause
-returns-in-Err-done-2-clause-cause g c =
+pub returns-clause-stopped : goal.returns-clause-stopped
+returns-clause-stopped g c =
+    let Own = g.P.Paths.OwnPaths.is_own c.args.paths.now in
+    let to = c.args.sending in
     let s0 = g.P.Kept.Store.state c.args.store in
     let s1 = g.P.Kept.Store.state c.pass_on-store.result.store in
-    let s2 = g.P.Kept.Store.state c.drop_made-store.result.store in
-    let f0 = g.P.Kept.Store.failures c.args.store in
-    let f1 = g.P.Kept.Store.failures c.pass_on-store.result.store in
-    let f2 = g.P.Kept.Store.failures c.drop_made-store.result.store in
-    left_stop g.P.Kept.Store.state s0 s1 s2 f0 f1 f2 c.drop_made-store.ensures.used.changes.honest c.in-Err-done.stop c.in-Err-done-2.left
-    (subst (λ (r : Result (Unit {0}) PassStop). HasStopCause g.P.Kept.Store.state s0 s1 f0 f1 r) c.in-Err-done.is c.pass_on-store.ensures.cause)
-    (subst (λ (r : Result (Unit {0}) DiskError). HasCause f1 f2 r) c.in-Err-done-2.is c.drop_made-store.ensures.cause)
+    let made = c.as_slice.result.now in
+    let staged = subst (λ (l : List CountedPacket). HasStaged Own to s0 s1 l) (sym c.as_slice.ensures) c.pass_on-store.ensures.staged in
+    stops_dropped Own to s0 s1 (g.P.Kept.Store.state c.drop_made-store.result.store) made (Staging c.in-Err-done-2.left) c.drop_made-store.result.done staged c.drop_made-store.ensures.used c.drop_made-store.ensures.gone (λ is. absurd is)
