@@ -48,7 +48,7 @@ use Rattle.station_scan.specs.declared.pieces.Source.{Source}
 use Rattle.station_scan.specs.declared.publish_error.PublishError.{PublishError}
 use Rattle.station_scan.specs.declared.publish_error.PublishError.TheVariants.{Base as OfBase, Packets, Reading, Staging}
 use Rattle.station_scan.specs.declared.scan_error.ScanError.{ScanError}
-use Rattle.station_scan.specs.declared.scan_error.ScanError.TheVariants.{Command, Placing, Staying}
+use Rattle.station_scan.specs.declared.scan_error.ScanError.TheVariants.{Command, Placing, Staying, TooFar}
 use Rattle.station_scan.specs.declared.sending.Sending.{Sending}
 use Rattle.station_scan.proofs.Besides.{few_keeps, sends_before, writes_before}
 use Rattle.station.proofs.Failures.{failed_wider}
@@ -219,6 +219,17 @@ module _ {D : Type 0} (state : D → DiskState) (Own : List ℕ → Type 0) (to 
 pub err_of : {T : Type 0} (done : Result T PublishError) (why what : PublishError) → done ≡ Err why → why ≡ what → IsErrOf done what
 err_of (Ok value) why what is same = absurd (cc is)
 err_of (Err other) why what is same = cc (is, same)
+
+pub placing_err_of : (done : Result (Unit {0}) PlacingError) (why what : PlacingError) → done ≡ Err why → why ≡ what → IsErrOf done what
+placing_err_of (Ok value) why what is same = absurd (cc is)
+placing_err_of (Err other) why what is same = cc (is, same)
+
+-- errors that name no fault of the store
+pub far_other : (e : CommandError) → TooFar ≡ Command e → ⊥
+far_other e is = cc is
+
+pub placing_other : (cause : PlacingError) (e : CommandError) → Placing cause ≡ Command e → ⊥
+placing_other cause e is = cc is
 
 -- ---- the lines are reported
 

@@ -169,22 +169,24 @@ pub(crate) fn send_on<'a, D: Disk, P: LendStation<'a, D>, T: MessageProgress, W:
     let Used { store, done } = pass_waiting::<D, P, T>(alloc, store, paths, sending, watch);
     match done {
         Ok(made) => send_made::<D, P, W>(alloc, store, paths, sending, made.as_slice(), out),
-        Err(PublishError::Packets(cause)) => {
-            let Used { store, done } = report(alloc, sending.source, store, watch, out);
-            let done = told_as(ScanError::Placing(cause), done);
-            Used { store, done }
-        }
-        Err(PublishError::Reading(cause)) => Used {
-            store,
-            done: Err(ScanError::Command(CommandError::Store(cause))),
-        },
-        Err(PublishError::Staging(left)) => Used {
-            store,
-            done: Err(ScanError::Staying(left)),
-        },
-        Err(PublishError::Base(cause)) => Used {
-            store,
-            done: Err(ScanError::Command(CommandError::Store(cause))),
+        Err(why) => match why {
+            PublishError::Packets(cause) => {
+                let Used { store, done } = report(alloc, sending.source, store, watch, out);
+                let done = told_as(ScanError::Placing(cause), done);
+                Used { store, done }
+            }
+            PublishError::Reading(cause) => Used {
+                store,
+                done: Err(ScanError::Command(CommandError::Store(cause))),
+            },
+            PublishError::Staging(left) => Used {
+                store,
+                done: Err(ScanError::Staying(left)),
+            },
+            PublishError::Base(cause) => Used {
+                store,
+                done: Err(ScanError::Command(CommandError::Store(cause))),
+            },
         },
     }
 }

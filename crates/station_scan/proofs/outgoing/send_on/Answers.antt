@@ -50,20 +50,19 @@ returns-in-Ok-clause-keeps g c =
     let passed = subst (λ (l : List CountedPacket). HasPassed Own to s0 s1 l) (sym c.as_slice.ensures) (subst (λ (r : Result (List CountedPacket) PublishError). IfOk r (HasPassed Own to s0 s1)) c.in-Ok.is pass.passed) in
     touched_after to.outbound.now s0 s1 (g.P.Kept.Store.state c.send_made.result.store) (staged_keeps Own to passed.sent s0 s1 made passed.staged) c.send_made.ensures.keeps
 
-pub returns-in-Err-Packets-clause-sends : goal.returns-in-Err-Packets-clause-sends
-returns-in-Err-Packets-clause-sends g c = λ honest base moved.
+pub returns-in-Packets-clause-sends : goal.returns-in-Packets-clause-sends
+returns-in-Packets-clause-sends g c = λ honest base moved.
     let Own = g.P.Paths.OwnPaths.is_own c.args.paths.now in
     let to = c.args.sending in
     let s0 = g.P.Kept.Store.state c.args.store in
     let s1 = g.P.Kept.Store.state c.pass_waiting-store.result.store in
     let pass = c.pass_waiting-store.ensures in
-    let at : c.in-Err-Packets.field-0 ≡ Packets c.in-Err-Packets.cause = cc (c.in-Err-Packets.field-0-is, c.in-Err-Packets.cause-is) in
-    let is : c.pass_waiting-store.result.done ≡ Err (Packets c.in-Err-Packets.cause) = c.in-Err-Packets.is ∙ ap (λ (w : PublishError). Err w) at in
+    let is : c.pass_waiting-store.result.done ≡ Err (Packets c.in-Packets.cause) = c.in-Err.is ∙ ap (λ (w : PublishError). Err w) c.in-Packets.is in
     let stops = subst (λ (r : Result (List CountedPacket) PublishError). IfErr r (StopsPassing Own to s0 s1)) is pass.stopped in
     let f0 = g.P.Kept.Store.failures c.args.store in
     let f1 = g.P.Kept.Store.failures c.pass_waiting-store.result.store in
     let out = output_of g.W.Write.contents g.W.Sink.failures g.W.Sink.holds c.args.out.now in
-    let cause = c.in-Err-Packets.cause in
+    let cause = c.in-Packets.cause in
     let report = c.report-store.ensures in
     let reported = c.report-store.result.done in
     let s2 = g.P.Kept.Store.state c.report-store.result.store in
@@ -77,96 +76,89 @@ returns-in-Err-Packets-clause-sends g c = λ honest base moved.
     (λ e. failed_wider f0 f0 f1 f2 (omega arith) later (pass.cause.packets (err_of c.pass_waiting-store.result.done (Packets cause) (Packets placing.Device) is (ap (λ (w : PlacingError). Packets w) e)))) (λ e. pass.taken honest1 (err_of c.pass_waiting-store.result.done (Packets cause) (Packets placing.Taken) is (ap (λ (w : PlacingError). Packets w) e)) (all_scanned base) moved.keeps) (stops.gone honest1 tt)
     (used_looked (IsStagingTo to (made_to to.source.links.now stops.staged.sent)) s0 s1 s2 stops.staged.staged.used report.looks) (report.answers honest (all_scanned base) kept) (λ e. report.cause.damaged honest e (all_scanned base) kept))
 
-pub returns-in-Err-Packets-clause-keeps : goal.returns-in-Err-Packets-clause-keeps
-returns-in-Err-Packets-clause-keeps g c =
+pub returns-in-Packets-clause-keeps : goal.returns-in-Packets-clause-keeps
+returns-in-Packets-clause-keeps g c =
     let Own = g.P.Paths.OwnPaths.is_own c.args.paths.now in
     let to = c.args.sending in
     let s0 = g.P.Kept.Store.state c.args.store in
     let s1 = g.P.Kept.Store.state c.pass_waiting-store.result.store in
     let pass = c.pass_waiting-store.ensures in
-    let at : c.in-Err-Packets.field-0 ≡ Packets c.in-Err-Packets.cause = cc (c.in-Err-Packets.field-0-is, c.in-Err-Packets.cause-is) in
-    let is : c.pass_waiting-store.result.done ≡ Err (Packets c.in-Err-Packets.cause) = c.in-Err-Packets.is ∙ ap (λ (w : PublishError). Err w) at in
+    let is : c.pass_waiting-store.result.done ≡ Err (Packets c.in-Packets.cause) = c.in-Err.is ∙ ap (λ (w : PublishError). Err w) c.in-Packets.is in
     let stops = subst (λ (r : Result (List CountedPacket) PublishError). IfErr r (StopsPassing Own to s0 s1)) is pass.stopped in
     let s2 = g.P.Kept.Store.state c.report-store.result.store in
     touched_after to.outbound.now s0 s1 s2 (staged_keeps Own to stops.staged.sent s0 s1 stops.made stops.staged.staged) (touched_looked to.outbound.now s1 s2 c.report-store.ensures.looks)
 
-pub returns-in-Err-Reading-clause-sends : goal.returns-in-Err-Reading-clause-sends
-returns-in-Err-Reading-clause-sends g c = λ honest base moved.
+pub returns-in-Reading-clause-sends : goal.returns-in-Reading-clause-sends
+returns-in-Reading-clause-sends g c = λ honest base moved.
     let Own = g.P.Paths.OwnPaths.is_own c.args.paths.now in
     let to = c.args.sending in
     let s0 = g.P.Kept.Store.state c.args.store in
     let s1 = g.P.Kept.Store.state c.pass_waiting-store.result.store in
     let pass = c.pass_waiting-store.ensures in
-    let at : c.in-Err-Reading.field-0 ≡ Reading c.in-Err-Reading.cause = cc (c.in-Err-Reading.field-0-is, c.in-Err-Reading.cause-is) in
-    let is : c.pass_waiting-store.result.done ≡ Err (Reading c.in-Err-Reading.cause) = c.in-Err-Reading.is ∙ ap (λ (w : PublishError). Err w) at in
+    let is : c.pass_waiting-store.result.done ≡ Err (Reading c.in-Reading.cause) = c.in-Err.is ∙ ap (λ (w : PublishError). Err w) c.in-Reading.is in
     let stops = subst (λ (r : Result (List CountedPacket) PublishError). IfErr r (StopsPassing Own to s0 s1)) is pass.stopped in
     let f0 = g.P.Kept.Store.failures c.args.store in
     let f1 = g.P.Kept.Store.failures c.pass_waiting-store.result.store in
     let out = output_of g.W.Write.contents g.W.Sink.failures g.W.Sink.holds c.args.out.now in
-    scans_reading g.D.Disk.state Own to (Failed f0 f1) s0 s1 base out moved c.requires.ready.2 c.requires.own honest c.in-Err-Reading.cause stops (λ e. pass.cause.unread honest (err_of c.pass_waiting-store.result.done (Reading c.in-Err-Reading.cause) (Reading error.Damaged) is (ap (λ (w : StoreError). Reading w) e)) (all_scanned base) moved.keeps)
+    scans_reading g.D.Disk.state Own to (Failed f0 f1) s0 s1 base out moved c.requires.ready.2 c.requires.own honest c.in-Reading.cause stops (λ e. pass.cause.unread honest (err_of c.pass_waiting-store.result.done (Reading c.in-Reading.cause) (Reading error.Damaged) is (ap (λ (w : StoreError). Reading w) e)) (all_scanned base) moved.keeps)
 
-pub returns-in-Err-Reading-clause-keeps : goal.returns-in-Err-Reading-clause-keeps
-returns-in-Err-Reading-clause-keeps g c =
+pub returns-in-Reading-clause-keeps : goal.returns-in-Reading-clause-keeps
+returns-in-Reading-clause-keeps g c =
     let Own = g.P.Paths.OwnPaths.is_own c.args.paths.now in
     let to = c.args.sending in
     let s0 = g.P.Kept.Store.state c.args.store in
     let s1 = g.P.Kept.Store.state c.pass_waiting-store.result.store in
     let pass = c.pass_waiting-store.ensures in
-    let at : c.in-Err-Reading.field-0 ≡ Reading c.in-Err-Reading.cause = cc (c.in-Err-Reading.field-0-is, c.in-Err-Reading.cause-is) in
-    let is : c.pass_waiting-store.result.done ≡ Err (Reading c.in-Err-Reading.cause) = c.in-Err-Reading.is ∙ ap (λ (w : PublishError). Err w) at in
+    let is : c.pass_waiting-store.result.done ≡ Err (Reading c.in-Reading.cause) = c.in-Err.is ∙ ap (λ (w : PublishError). Err w) c.in-Reading.is in
     let stops = subst (λ (r : Result (List CountedPacket) PublishError). IfErr r (StopsPassing Own to s0 s1)) is pass.stopped in
     staged_keeps Own to stops.staged.sent s0 s1 stops.made stops.staged.staged
 
-pub returns-in-Err-Staging-clause-sends : goal.returns-in-Err-Staging-clause-sends
-returns-in-Err-Staging-clause-sends g c = λ honest base moved.
+pub returns-in-Staging-clause-sends : goal.returns-in-Staging-clause-sends
+returns-in-Staging-clause-sends g c = λ honest base moved.
     let Own = g.P.Paths.OwnPaths.is_own c.args.paths.now in
     let to = c.args.sending in
     let s0 = g.P.Kept.Store.state c.args.store in
     let s1 = g.P.Kept.Store.state c.pass_waiting-store.result.store in
     let pass = c.pass_waiting-store.ensures in
-    let at : c.in-Err-Staging.field-0 ≡ Staging c.in-Err-Staging.left = cc (c.in-Err-Staging.field-0-is, c.in-Err-Staging.left-is) in
-    let is : c.pass_waiting-store.result.done ≡ Err (Staging c.in-Err-Staging.left) = c.in-Err-Staging.is ∙ ap (λ (w : PublishError). Err w) at in
+    let is : c.pass_waiting-store.result.done ≡ Err (Staging c.in-Staging.left) = c.in-Err.is ∙ ap (λ (w : PublishError). Err w) c.in-Staging.is in
     let stops = subst (λ (r : Result (List CountedPacket) PublishError). IfErr r (StopsPassing Own to s0 s1)) is pass.stopped in
     let f0 = g.P.Kept.Store.failures c.args.store in
     let f1 = g.P.Kept.Store.failures c.pass_waiting-store.result.store in
     let out = output_of g.W.Write.contents g.W.Sink.failures g.W.Sink.holds c.args.out.now in
-    scans_staying g.D.Disk.state Own to (Failed f0 f1) s0 s1 base out moved c.requires.ready.2 c.requires.own honest c.in-Err-Staging.left stops (λ e. pass.cause.staging (err_of c.pass_waiting-store.result.done (Staging c.in-Err-Staging.left) (Staging disk.Device) is (ap (λ (w : DiskError). Staging w) e)))
+    scans_staying g.D.Disk.state Own to (Failed f0 f1) s0 s1 base out moved c.requires.ready.2 c.requires.own honest c.in-Staging.left stops (λ e. pass.cause.staging (err_of c.pass_waiting-store.result.done (Staging c.in-Staging.left) (Staging disk.Device) is (ap (λ (w : DiskError). Staging w) e)))
 
-pub returns-in-Err-Staging-clause-keeps : goal.returns-in-Err-Staging-clause-keeps
-returns-in-Err-Staging-clause-keeps g c =
+pub returns-in-Staging-clause-keeps : goal.returns-in-Staging-clause-keeps
+returns-in-Staging-clause-keeps g c =
     let Own = g.P.Paths.OwnPaths.is_own c.args.paths.now in
     let to = c.args.sending in
     let s0 = g.P.Kept.Store.state c.args.store in
     let s1 = g.P.Kept.Store.state c.pass_waiting-store.result.store in
     let pass = c.pass_waiting-store.ensures in
-    let at : c.in-Err-Staging.field-0 ≡ Staging c.in-Err-Staging.left = cc (c.in-Err-Staging.field-0-is, c.in-Err-Staging.left-is) in
-    let is : c.pass_waiting-store.result.done ≡ Err (Staging c.in-Err-Staging.left) = c.in-Err-Staging.is ∙ ap (λ (w : PublishError). Err w) at in
+    let is : c.pass_waiting-store.result.done ≡ Err (Staging c.in-Staging.left) = c.in-Err.is ∙ ap (λ (w : PublishError). Err w) c.in-Staging.is in
     let stops = subst (λ (r : Result (List CountedPacket) PublishError). IfErr r (StopsPassing Own to s0 s1)) is pass.stopped in
     staged_keeps Own to stops.staged.sent s0 s1 stops.made stops.staged.staged
 
-pub returns-in-Err-Base-clause-sends : goal.returns-in-Err-Base-clause-sends
-returns-in-Err-Base-clause-sends g c = λ honest base moved.
+pub returns-in-Base-clause-sends : goal.returns-in-Base-clause-sends
+returns-in-Base-clause-sends g c = λ honest base moved.
     let Own = g.P.Paths.OwnPaths.is_own c.args.paths.now in
     let to = c.args.sending in
     let s0 = g.P.Kept.Store.state c.args.store in
     let s1 = g.P.Kept.Store.state c.pass_waiting-store.result.store in
     let pass = c.pass_waiting-store.ensures in
-    let at : c.in-Err-Base.field-0 ≡ OfBase c.in-Err-Base.cause = cc (c.in-Err-Base.field-0-is, c.in-Err-Base.cause-is) in
-    let is : c.pass_waiting-store.result.done ≡ Err (OfBase c.in-Err-Base.cause) = c.in-Err-Base.is ∙ ap (λ (w : PublishError). Err w) at in
+    let is : c.pass_waiting-store.result.done ≡ Err (OfBase c.in-Base.cause) = c.in-Err.is ∙ ap (λ (w : PublishError). Err w) c.in-Base.is in
     let stops = subst (λ (r : Result (List CountedPacket) PublishError). IfErr r (StopsPassing Own to s0 s1)) is pass.stopped in
     let f0 = g.P.Kept.Store.failures c.args.store in
     let f1 = g.P.Kept.Store.failures c.pass_waiting-store.result.store in
     let out = output_of g.W.Write.contents g.W.Sink.failures g.W.Sink.holds c.args.out.now in
-    scans_of_base g.D.Disk.state Own to (Failed f0 f1) s0 s1 base out moved c.requires.ready.2 c.requires.own honest c.in-Err-Base.cause stops (λ e. pass.cause.damaged honest (err_of c.pass_waiting-store.result.done (OfBase c.in-Err-Base.cause) (OfBase error.Damaged) is (ap (λ (w : StoreError). OfBase w) e)) (all_scanned base) moved.keeps)
+    scans_of_base g.D.Disk.state Own to (Failed f0 f1) s0 s1 base out moved c.requires.ready.2 c.requires.own honest c.in-Base.cause stops (λ e. pass.cause.damaged honest (err_of c.pass_waiting-store.result.done (OfBase c.in-Base.cause) (OfBase error.Damaged) is (ap (λ (w : StoreError). OfBase w) e)) (all_scanned base) moved.keeps)
 
-pub returns-in-Err-Base-clause-keeps : goal.returns-in-Err-Base-clause-keeps
-returns-in-Err-Base-clause-keeps g c =
+pub returns-in-Base-clause-keeps : goal.returns-in-Base-clause-keeps
+returns-in-Base-clause-keeps g c =
     let Own = g.P.Paths.OwnPaths.is_own c.args.paths.now in
     let to = c.args.sending in
     let s0 = g.P.Kept.Store.state c.args.store in
     let s1 = g.P.Kept.Store.state c.pass_waiting-store.result.store in
     let pass = c.pass_waiting-store.ensures in
-    let at : c.in-Err-Base.field-0 ≡ OfBase c.in-Err-Base.cause = cc (c.in-Err-Base.field-0-is, c.in-Err-Base.cause-is) in
-    let is : c.pass_waiting-store.result.done ≡ Err (OfBase c.in-Err-Base.cause) = c.in-Err-Base.is ∙ ap (λ (w : PublishError). Err w) at in
+    let is : c.pass_waiting-store.result.done ≡ Err (OfBase c.in-Base.cause) = c.in-Err.is ∙ ap (λ (w : PublishError). Err w) c.in-Base.is in
     let stops = subst (λ (r : Result (List CountedPacket) PublishError). IfErr r (StopsPassing Own to s0 s1)) is pass.stopped in
     staged_keeps Own to stops.staged.sent s0 s1 stops.made stops.staged.staged
