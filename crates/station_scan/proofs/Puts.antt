@@ -26,6 +26,7 @@ use Rattle.base_store.specs.declared.store_error.StoreError.TheVariants as error
 use Rattle.station.specs.Beneath.{HoldsAsBefore}
 use Rattle.station_scan.specs.Beneath.{IsUsedAt}
 use Rattle.station_scan.specs.Beside.{IsMoved, IsPutBeside, ScansBeside, StopsBeside, TellsBeside, files_reported, from_number, left_cause, left_told, told_as}
+use Rattle.station_scan.specs.Fitting.{AreTaken}
 use Rattle.station_scan.specs.Left.{AreFreeLeft, EndsLeft, IsLeftOf, IsOfNameOff}
 use Rattle.station_scan.specs.Scanning.{IsPutOn, IsTaken, ScansOnStore, SendsOut, StopsScan, TriesOn, packets_in}
 use Rattle.station_scan.specs.Sending.{IsStagingOfPacket}
@@ -125,7 +126,8 @@ module _ (Own : List ℕ → Type 0) (to : Sending) (own_is : to.own.now ≡ dot
       put_made (Ok files) put =
           subst (λ (n : ℕ). SendsOut is_true failed Own outbound own (s0.stands base) (s0.stands (all_scanned base)) n files s0.disk s2.disk result) same_cursor
           (sends_out Own outbound own is_true failed cursor files s0 s1 inside used moved.ready honest0 base (all_scanned base) moved.committed ends s2 honest2 put.keeps moved.keeps (λ b. files) refl result put.sent put.crash
-          (subst (λ (n : ℕ). IfErr result (IsOfPlacing failed _ (most < n))) (sym same_cursor) (put_wider some failed _ _ _ result wider (λ t. t) put.why)))
+          (subst (λ (n : ℕ). IfErr result (IsOfPlacing failed (AreTaken Own outbound own files s1.disk.seen) (most < n))) (sym same_cursor)
+          (put_wider some failed (AreTaken Own outbound own files s1.disk.seen) (AreTaken Own outbound own files s1.disk.seen) (most < base.cursor) result wider (λ t. t) put.why)))
       put_made (Err why) put = subst (λ (n : ℕ). StopsScan is_true failed Own outbound own (s0.stands base) n packets s0.disk s2.disk why result) same_cursor (stops_put some wider packets why result put)
 
       pub scans_put : ScansBeside state Own to some s1 s2 out now base result → ScansOnStore to.source.stamp Own outbound IsTrue failed s0 s2 out now to.source.links.now base result
