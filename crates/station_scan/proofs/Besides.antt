@@ -204,10 +204,10 @@ module _ {D : Type 0} (state : D → DiskState) (Own : List ℕ → Type 0) (to 
             bytes = λ honest b kept. (λ k d lt. absurd (nothing k lt));
           }) commits);
           crash = crash_then s2 (weaker_run s1.disk s2.disk (LeavesEither s1 base next) (SendsThese s1 to.outbound.now to.own.now files base next) (may.any_moment honest2 base next committed kept)
-          (λ c either. inr (record {
-            others = λ m other on. either.beside m (λ o. other (inl o)) on.0 on.1;
-            either = ⊎_elim (λ stands. inl (stands, (λ k d lt. absurd (nothing k lt)))) (λ stands. inr (stands, (λ k d lt. absurd (nothing k lt)), (λ k d lt. absurd (nothing k lt)))) either.stands;
-          })));
+              (λ c either. inr (record {
+                others = λ m other on. either.beside m (λ o. other (inl o)) on.0 on.1;
+                either = ⊎_elim (λ stands. inl (stands, (λ k d lt. absurd (nothing k lt)))) (λ stands. inr (stands, (λ k d lt. absurd (nothing k lt)), (λ k d lt. absurd (nothing k lt)))) either.stands;
+              })));
           keeps = keeps_after s2 (record {
             same = may.same;
             keeps = record {
@@ -267,7 +267,7 @@ module _ {D : Type 0} (state : D → DiskState) (Own : List ℕ → Type 0) (to 
             keeps = keeps_after s2 (subst (λ (l : List PacketFile). KeepsStoreBut (IsOfThese s1.is_own out own l) s1 s2) same_files (fit_keeps Own out own content planned packets fitting trial at_end s1 s2 keeps));
             why = why_told (λ e. absurd (taken e (growing_free to passed.sent sent_to packets for s1.disk honest1 passed.grows)));
             tried = on_ok_done (HoldsAsBefore s0 s2 ⊎ WasTriedFor state Own out own files s0.disk) done (on_ok_any _ done
-            (⊎_elim (λ (h : HoldsAsBefore s1 s2). inl (holds_still s0 s1 s2 passed.staged.used.holds h))
-            (λ (was : IsTriedWith state packets trial s1.disk). inr (tried_passed state Own out own (IsStagingTo to sent_to) planned files s0.disk s1.disk (staged_off Own to passed.sent s0 s1 made passed.staged)
-            (ap length (sym same_files) ∙ length-map planned (file_with content)) passed.staged.used.changes.seen (fit_tried Own out own content planned packets fitting trial at_end state s1.disk was))) tried));
+                (⊎_elim (λ (h : HoldsAsBefore s1 s2). inl (holds_still s0 s1 s2 passed.staged.used.holds h))
+                (λ (was : IsTriedWith state packets trial s1.disk). inr (tried_passed state Own out own (IsStagingTo to sent_to) planned files s0.disk s1.disk (staged_off Own to passed.sent s0 s1 made passed.staged)
+                (ap length (sym same_files) ∙ length-map planned (file_with content)) passed.staged.used.changes.seen (fit_tried Own out own content planned packets fitting trial at_end state s1.disk was))) tried));
           }

@@ -122,11 +122,11 @@ module _ (Own : List ℕ → Type 0) (to : Sending) where
 pub taken_files : (Own : List ℕ → Type 0) (to : Sending) (base : Base) (disk : DiskState) → IsTakenFor Own to base disk.seen
     → AreTaken Own to.outbound.now to.own.now (files_to to base (made_to to.source.links.now (all_sent to base))) disk.seen
 taken_files Own to base disk (inl taken) = inl (λ free.
-  let all = made_to to.source.links.now (all_sent to base) in
-  let plans = map (plan_to to.source.from) all in
-  let no_plan = plan_to to.source.from nowhere in
-  taken (all_of_map (plan_to to.source.from) nowhere all (λ (p : PlannedPacket). disk.seen (to.outbound.now ++ p.name) ≡ None)
-  (all_of_map (file_with (content_of to base)) no_plan plans (IsFreeAt to.outbound.now disk.seen) free)))
+    let all = made_to to.source.links.now (all_sent to base) in
+    let plans = map (plan_to to.source.from) all in
+    let no_plan = plan_to to.source.from nowhere in
+    taken (all_of_map (plan_to to.source.from) nowhere all (λ (p : PlannedPacket). disk.seen (to.outbound.now ++ p.name) ≡ None)
+    (all_of_map (file_with (content_of to base)) no_plan plans (IsFreeAt to.outbound.now disk.seen) free)))
 taken_files Own to base disk (inr unfit) = inr (λ fit. unfit (fit_plans to.outbound.now to.own.now (content_of to base) Own (map (plan_to to.source.from) (made_to to.source.links.now (all_sent to base))) fit))
 
 -- ---- what they have

@@ -135,7 +135,7 @@ among f m [] = inr (All-nil (λ x. m ≢ f x))
 among f m (x ∷ xs) = elim (list_either m (f x)) [
   | inl here ↦ inl (x, Contains-get_or (x ∷ xs) 0 x (omega arith), here)
   | inr other ↦ elim (among f m xs) [
-      | inl found ↦ inl (found.0, Contains-append_right (x ∷ []) xs found.0 found.1, found.2)
-      | inr none ↦ inr (All-cons (λ y. m ≢ f y) x xs other none)
-    ]
+    | inl found ↦ inl (found.0, Contains-append_right (x ∷ []) xs found.0 found.1, found.2)
+    | inr none ↦ inr (All-cons (λ y. m ≢ f y) x xs other none)
+  ]
 ]

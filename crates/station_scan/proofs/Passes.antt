@@ -247,15 +247,15 @@ module _ (Own : List ℕ → Type 0) (to : Sending) where
   pub taken_all : (sent now rest : List Sent) (base : Base) (s0 s1 : StoreState) → now ++ rest ≡ all_sent to base → IsUsedAt (IsStagingTo to (made_to links_in sent)) s0 s1 → AreTakenTo Own to (made_to links_in now) s1.disk.seen
       → IsTakenFor Own to base s0.disk.seen
   taken_all sent now rest base s0 s1 is used (inl (fit, taken)) = inl (λ free.
-    taken (λ k d lt.
-    let all = made_to links_in now in
-    let a = get_or all k d in
-    let names = (fit_at Own to all fit).names in
-    let off = path_off to a (names k d lt).plain (made_to links_in sent) in
-    used.changes.seen (path_to to a) off ∙ all_narrow (λ x. s0.disk.seen (path_to to x) ≡ None) (is_made now) (is_made (all_sent to base))
-    (λ x made. subst (λ (l : List Sent). is_made l x ≡ true) is (made_later now rest x made)) (link_set links_in) free k d lt))
+      taken (λ k d lt.
+      let all = made_to links_in now in
+      let a = get_or all k d in
+      let names = (fit_at Own to all fit).names in
+      let off = path_off to a (names k d lt).plain (made_to links_in sent) in
+      used.changes.seen (path_to to a) off ∙ all_narrow (λ x. s0.disk.seen (path_to to x) ≡ None) (is_made now) (is_made (all_sent to base))
+      (λ x made. subst (λ (l : List Sent). is_made l x ≡ true) is (made_later now rest x made)) (link_set links_in) free k d lt))
   taken_all sent now rest base s0 s1 is used (inr unfit) = inr (λ fit.
-    unfit (fit_narrow Own to (is_made now) (is_made (all_sent to base)) (λ x made. subst (λ (l : List Sent). is_made l x ≡ true) is (made_later now rest x made)) (link_set links_in) fit))
+      unfit (fit_narrow Own to (is_made now) (is_made (all_sent to base)) (λ x made. subst (λ (l : List Sent). is_made l x ≡ true) is (made_later now rest x made)) (link_set links_in) fit))
 
   -- ---- the staging files are removed
 
@@ -275,9 +275,9 @@ module _ (Own : List ℕ → Type 0) (to : Sending) where
   staging_or_not all m = elim (among (staging_to to) m all) [
     | inl found ↦ inl (found.0, found.1, inl found.2)
     | inr none ↦ elim (among (λ (a : Address). trial_of to) m all) [
-        | inl found ↦ inl (found.0, found.1, inr found.2)
-        | inr off ↦ inr (λ at. ⊎_elim (λ (e : m ≡ staging_to to at.0). All-contains (λ a. m ≢ staging_to to a) all at.0 none at.1 e) (λ (e : m ≡ trial_of to). All-contains (λ a. m ≢ trial_of to) all at.0 off at.1 e) at.2)
-      ]
+      | inl found ↦ inl (found.0, found.1, inr found.2)
+      | inr off ↦ inr (λ at. ⊎_elim (λ (e : m ≡ staging_to to at.0). All-contains (λ a. m ≢ staging_to to a) all at.0 none at.1 e) (λ (e : m ≡ trial_of to). All-contains (λ a. m ≢ trial_of to) all at.0 off at.1 e) at.2)
+    ]
   ]
 
   pub gone_or_same : (s0 s1 s2 : StoreState) (made : List CountedPacket) → HasStaged Own to s0 s1 made → IsUsedAt (IsStagingTo to (addresses_of made)) s1 s2 → ((m : List ℕ) → IsStagingTo to (addresses_of made) m → s2.disk.seen m ≡ None)

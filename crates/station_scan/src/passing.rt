@@ -64,11 +64,7 @@ fn read_group<S: Store, T: MessageProgress>(
 }
 
 // Counts the group.
-fn count_group(
-    alloc: Global,
-    counts: &mut Counting,
-    group: &Group,
-) -> Result<Counted, AllocError>
+fn count_group(alloc: Global, counts: &mut Counting, group: &Group) -> Result<Counted, AllocError>
     ensures added { OnOk result (counts.new ≡ map (counted_with group.now.sent) counts.old) }
     ensures made { IfOk result (λ counted. counted.made ≡ filter has_messages counts.new) }
     ensures first { IfOk result (λ counted. counted.first ≡ begun_with group.now.sent counts.old) }

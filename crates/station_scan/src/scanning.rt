@@ -136,9 +136,7 @@ fn scan_kept<'a, 's, D: Disk, P: LendStation<'a, D>, G: ListStaged, T: MessagePr
     if !is_stamp(scan.stamp) {
         return Used {
             store,
-            done: Err(ScanError::Command(CommandError::Met(Fault::Scan(
-                ScanFault::BadStamp,
-            )))),
+            done: Err(ScanError::Command(CommandError::Met(Fault::Scan(ScanFault::BadStamp)))),
         };
     }
     let from = store.cursor();

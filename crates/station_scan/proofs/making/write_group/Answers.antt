@@ -51,13 +51,32 @@ append_group-requires g c κs =
     let some : 0 < length now = some_items now (λ e. let yes : c.is_empty.result ≡ true = c.is_empty.ensures.1 e in absurd (cc (yes, c.if-is_empty.false))) in
     let sent = c.requires.making.0 in
     let making = c.requires.making.1 in
-    let next = c.requires.making.2 in
-    ((refl, tt), (c.requires.ready.0, (c.requires.ready.1, ((all_going Own to sent more s now first next plans.all plans.first of_all of_first (group_fit Own to sent more s now first next plans.all plans.first of_all of_first fitting.fit) packets firsts c.as_slice.result.now c.as_slice-3.result.now c.as_slice.ensures c.as_slice-3.ensures all_sent first_sent c.requires.own c.requires.plain,
-    first_going Own to sent more s now first next plans.all plans.first of_all of_first (group_fit Own to sent more s now first next plans.all plans.first of_all of_first fitting.fit) packets firsts c.as_slice.result.now c.as_slice-3.result.now c.as_slice.ensures c.as_slice-3.ensures all_sent first_sent c.requires.own c.requires.plain), ((some_packets Own to sent more s now first next plans.all plans.first of_all of_first (group_fit Own to sent more s now first next plans.all plans.first of_all of_first fitting.fit) packets firsts c.as_slice.result.now c.as_slice-3.result.now c.as_slice.ensures c.as_slice-3.ensures all_sent first_sent c.requires.own c.requires.plain some), (sent, record {
-      all_for = record { outbound = refl; trial = c.as_slice.ensures ∙ of_all.laid.trial; packets = all_batch Own to sent more s now first next plans.all plans.first of_all of_first (group_fit Own to sent more s now first next plans.all plans.first of_all of_first fitting.fit) packets firsts c.as_slice.result.now c.as_slice-3.result.now c.as_slice.ensures c.as_slice-3.ensures all_sent first_sent c.requires.own c.requires.plain };
-      first_for = record { outbound = refl; trial = c.as_slice-3.ensures ∙ of_first.laid.trial; packets = first_batch Own to sent more s now first next plans.all plans.first of_all of_first (group_fit Own to sent more s now first next plans.all plans.first of_all of_first fitting.fit) packets firsts c.as_slice.result.now c.as_slice-3.result.now c.as_slice.ensures c.as_slice-3.ensures all_sent first_sent c.requires.own c.requires.plain };
-      grows = making.grows;
-    }))))))
+    let next = c.requires.making.2 in (
+      (refl, tt),
+      (
+        c.requires.ready.0,
+        (
+          c.requires.ready.1,
+          (
+            (
+              all_going Own to sent more s now first next plans.all plans.first of_all of_first (group_fit Own to sent more s now first next plans.all plans.first of_all of_first fitting.fit) packets firsts c.as_slice.result.now c.as_slice-3.result.now c.as_slice.ensures c.as_slice-3.ensures all_sent first_sent c.requires.own c.requires.plain,
+              first_going Own to sent more s now first next plans.all plans.first of_all of_first (group_fit Own to sent more s now first next plans.all plans.first of_all of_first fitting.fit) packets firsts c.as_slice.result.now c.as_slice-3.result.now c.as_slice.ensures c.as_slice-3.ensures all_sent first_sent c.requires.own c.requires.plain,
+            ),
+            (
+              (some_packets Own to sent more s now first next plans.all plans.first of_all of_first (group_fit Own to sent more s now first next plans.all plans.first of_all of_first fitting.fit) packets firsts c.as_slice.result.now c.as_slice-3.result.now c.as_slice.ensures c.as_slice-3.ensures all_sent first_sent c.requires.own c.requires.plain some),
+              (
+                sent,
+                record {
+                  all_for = record { outbound = refl; trial = c.as_slice.ensures ∙ of_all.laid.trial; packets = all_batch Own to sent more s now first next plans.all plans.first of_all of_first (group_fit Own to sent more s now first next plans.all plans.first of_all of_first fitting.fit) packets firsts c.as_slice.result.now c.as_slice-3.result.now c.as_slice.ensures c.as_slice-3.ensures all_sent first_sent c.requires.own c.requires.plain };
+                  first_for = record { outbound = refl; trial = c.as_slice-3.ensures ∙ of_first.laid.trial; packets = first_batch Own to sent more s now first next plans.all plans.first of_all of_first (group_fit Own to sent more s now first next plans.all plans.first of_all of_first fitting.fit) packets firsts c.as_slice.result.now c.as_slice-3.result.now c.as_slice.ensures c.as_slice-3.ensures all_sent first_sent c.requires.own c.requires.plain };
+                  grows = making.grows;
+                },
+              ),
+            ),
+          ),
+        ),
+      ),
+    )
 
 pub returns-clause-stages : goal.returns-clause-stages
 returns-clause-stages g c = λ sent making next.

@@ -47,9 +47,13 @@ publish-requires g c κs =
     let s1 = g.P.Kept.Store.state c.args.store in
     let some : 0 < length made = let not : length made ≢ 0 = eqb-false _ _ (sym c.is_empty.ensures ∙ c.if-is_empty.false) in omega arith in
     let making = c.requires.making in
-    let for = drop_for to s1 made c.in-Ok.plan c.in-Ok.ensures c.as_slice.result.now c.as_slice-2.result.now c.as_slice-3.result.now c.in-Ok-outgoing_of.packets.items c.deref.result.now c.as_slice.ensures c.as_slice-2.ensures c.as_slice-3.ensures c.deref.ensures.value c.in-Ok-outgoing_of.ensures in
-    ((refl, tt), ((c.requires.ready.0, making_open Own to making.0 s1 made making.1 some c.deref.result.now for),
-    drop_going to s1 made c.in-Ok.plan c.in-Ok.ensures c.as_slice.result.now c.as_slice-2.result.now c.as_slice-3.result.now c.in-Ok-outgoing_of.packets.items c.deref.result.now c.as_slice.ensures c.as_slice-2.ensures c.as_slice-3.ensures c.deref.ensures.value c.in-Ok-outgoing_of.ensures (making_inside Own to making.0 s1 made making.1 some c.requires.own) c.requires.plain))
+    let for = drop_for to s1 made c.in-Ok.plan c.in-Ok.ensures c.as_slice.result.now c.as_slice-2.result.now c.as_slice-3.result.now c.in-Ok-outgoing_of.packets.items c.deref.result.now c.as_slice.ensures c.as_slice-2.ensures c.as_slice-3.ensures c.deref.ensures.value c.in-Ok-outgoing_of.ensures in (
+      (refl, tt),
+      (
+        (c.requires.ready.0, making_open Own to making.0 s1 made making.1 some c.deref.result.now for),
+        drop_going to s1 made c.in-Ok.plan c.in-Ok.ensures c.as_slice.result.now c.as_slice-2.result.now c.as_slice-3.result.now c.in-Ok-outgoing_of.packets.items c.deref.result.now c.as_slice.ensures c.as_slice-2.ensures c.as_slice-3.ensures c.deref.ensures.value c.in-Ok-outgoing_of.ensures (making_inside Own to making.0 s1 made making.1 some c.requires.own) c.requires.plain,
+      ),
+    )
 
 pub returns-clause-sends : goal.returns-clause-sends
 returns-clause-sends g c = λ before passed honest base moved.

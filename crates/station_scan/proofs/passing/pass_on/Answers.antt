@@ -99,9 +99,19 @@ add_group-back-requires g c κs =
     let r = g.P.Kept.Store.state c.read_group-read.result.store in
     let passing = c.groups.invariant.passing in
     let looks = c.read_group-read.ensures.looks in
-    let used = used_read Own c.args.sending s0 s c.groups.pass c.groups.at passing r looks in
-    ((refl, tt), (c.requires.plain, ((looks.ready, used_settled (IsStagingTo c.args.sending (made_to c.args.sending.source.links.now passing.sent)) s0 r used), ((λ m o. c.requires.own m ((used.same.own m).0 o)),
-    (passing.sent, read_counted Own c.args.sending s0 s c.groups.pass c.groups.at passing r looks)))))
+    let used = used_read Own c.args.sending s0 s c.groups.pass c.groups.at passing r looks in (
+      (refl, tt),
+      (
+        c.requires.plain,
+        (
+          (looks.ready, used_settled (IsStagingTo c.args.sending (made_to c.args.sending.source.links.now passing.sent)) s0 r used),
+          (
+            (λ m o. c.requires.own m ((used.same.own m).0 o)),
+            (passing.sent, read_counted Own c.args.sending s0 s c.groups.pass c.groups.at passing r looks),
+          ),
+        ),
+      ),
+    )
 
 pub len-end-requires-in-Ok-done : goal.len-end-requires-in-Ok-done
 len-end-requires-in-Ok-done g c =

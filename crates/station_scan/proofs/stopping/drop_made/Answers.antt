@@ -9,9 +9,14 @@ drop_on-requires g c κs =
     let to = c.args.sending in
     let made = c.args.made.now in
     let s = g.P.Kept.Store.state c.args.store in
-    let some : 0 < length made = let not : length made ≢ 0 = eqb-false _ _ (sym c.is_empty.ensures ∙ c.if-is_empty.false) in omega arith in
-    ((refl, tt), (c.requires.ready.0, drop_going to s made c.in-Ok.plan c.in-Ok.ensures c.as_slice.result.now c.as_slice-2.result.now c.as_slice-3.result.now c.in-Ok-outgoing_of.packets.items c.deref.result.now c.as_slice.ensures c.as_slice-2.ensures c.as_slice-3.ensures c.deref.ensures.value c.in-Ok-outgoing_of.ensures
-    (c.requires.fit some) c.requires.plain))
+    let some : 0 < length made = let not : length made ≢ 0 = eqb-false _ _ (sym c.is_empty.ensures ∙ c.if-is_empty.false) in omega arith in (
+      (refl, tt),
+      (
+        c.requires.ready.0,
+        drop_going to s made c.in-Ok.plan c.in-Ok.ensures c.as_slice.result.now c.as_slice-2.result.now c.as_slice-3.result.now c.in-Ok-outgoing_of.packets.items c.deref.result.now c.as_slice.ensures c.as_slice-2.ensures c.as_slice-3.ensures c.deref.ensures.value c.in-Ok-outgoing_of.ensures
+            (c.requires.fit some) c.requires.plain,
+      ),
+    )
 
 pub returns-clause-used : goal.returns-clause-used
 returns-clause-used g c =
