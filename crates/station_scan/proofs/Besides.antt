@@ -1,10 +1,10 @@
 -- A scan once its cursor was moved: packets are sent out behind a pass over the messages.
-use Rattle.std.proofs.Common.{◌≡◌, ◌⊎◌, inl, inr, ⊎_elim, ◌∙◌, ◌<◌, ℕ, true, List, [], Result, Ok, Err, get_or, length, map, refl, sym, subst, ap, arith}
-use Rattle.std.specs.Prelude.{All, IfErr, IsErrOf, OnOk, None}
+use Rattle.std.proofs.Common.{◌≡◌, ◌⊎◌, inl, inr, ⊎_elim, ◌∙◌, ◌<◌, ℕ, true, List, [], Result, Ok, Err, length, map, refl, sym, subst, ap, arith}
+use Rattle.std.specs.Prelude.{All, IfErr, IsErrOf, OnOk}
 use Rattle.std.proofs.lemmas.List.{append-nil, length-map}
 use Rattle.base_file.specs.Base.{Base}
 use Rattle.disk_io.specs.Device.{Failed}
-use Rattle.disk_io.specs.Disk.{DiskState, Files, Honestly}
+use Rattle.disk_io.specs.Disk.{DiskState, Files}
 use Rattle.disk_io.specs.Runs.{LeavesOnly, OneStepOn}
 use Rattle.disk_io.proofs.Moments.{left_now, then_run, weaker_run}
 use Rattle.disk_io.specs.declared.disk_error.DiskError.TheVariants as disk
@@ -21,14 +21,13 @@ use Rattle.echo_toss.specs.declared.counting.CountedPacket.{CountedPacket}
 use Rattle.model_steps.specs.PacketFiles.{PacketFile}
 use Rattle.model_steps.specs.Stamps.{is_stamp}
 use Rattle.base_store.specs.Store.{Commits, LeavesEither, MayCommit, StoreState, all_scanned}
-use Rattle.base_store.specs.declared.store_error.StoreError.TheVariants as error
 use Rattle.base_store.proofs.Runs.{same_twice}
 use Rattle.station.specs.Beneath.{HoldsAsBefore}
 use Rattle.station_scan.specs.Beneath.{IsUsedAt}
 use Rattle.station_scan.specs.Beside.{IsMoved, SendsBeside}
 use Rattle.station_scan.specs.Fitting.{AreFitting, AreTaken}
 use Rattle.station_scan.specs.Left.{IsOfNameOff}
-use Rattle.station_scan.specs.Passing.{AreFor, HasPassed, IsStagingTo, all_sent, addresses_of, made_to, plan_to, trial_of}
+use Rattle.station_scan.specs.Passing.{AreFor, HasPassed, IsStagingTo, all_sent, made_to, plan_to, trial_of}
 use Rattle.station_scan.specs.Publishing.{ArePublished, HasPublishCause, IsGoingAt, IsPublishedAt, IsTriedWith, KeepsStoreBut, MayPublish, PublishesOn, ended_before}
 use Rattle.station_scan.specs.Scanning.{packets_in}
 use Rattle.station_scan.specs.Sending.{HasBytes, IsAtItsPath, IsOfPacket, IsStagingGone, IsStagingOfPacket, for_address}
@@ -36,7 +35,6 @@ use Rattle.station_scan.specs.Sends.{AreSentOn, IsOfThese, SendsThese, WasTriedF
 use Rattle.station_scan.specs.Stops.{IsOfBase, IsOfPlacing, most, scan_done}
 use Rattle.station_scan.specs.declared.publish_error.PublishError.{PublishError}
 use Rattle.station_scan.specs.declared.publish_error.PublishError.TheVariants.{Base as OfBase, Packets, Reading, Staging}
-use Rattle.station_scan.specs.declared.scan_error.ScanError.{ScanError}
 use Rattle.station_scan.specs.declared.scan_error.ScanError.TheVariants.{Staying}
 use Rattle.station_scan.specs.declared.sending.Sending.{Sending}
 use Rattle.station_scan.proofs.Files.{content_of, ended_has, files_are, files_to, growing_free, of_files, staged_off}

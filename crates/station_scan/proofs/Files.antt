@@ -1,5 +1,5 @@
 -- The packets of a pass as the files of a scan.
-use Rattle.std.proofs.Common.{◌≡◌, ◌⊎◌, inl, inr, ⊎_elim, ◌∙◌, ◌<◌, ℕ, true, List, [], ◌++◌, get_or, length, map, filter, drop, refl, sym, subst, ap, append_assoc, arith}
+use Rattle.std.proofs.Common.{◌≡◌, inl, inr, ⊎_elim, ◌∙◌, ◌<◌, ℕ, true, List, [], ◌++◌, length, map, filter, refl, sym, subst, ap, append_assoc, arith}
 use Rattle.std.specs.Prelude.{All, Contains, None}
 use Rattle.std.specs.List.{flat_map}
 use Rattle.std.proofs.lemmas.List.{append-nil, get_or-map, length-map}
@@ -8,35 +8,32 @@ use Rattle.base_file.specs.Base.{Base}
 use Rattle.disk_io.specs.Disk.{DiskState, bytes_in}
 use Rattle.disk_atomic.specs.ListStaged.{IsNameByte}
 use Rattle.disk_atomic.specs.StagingPaths.{staging_path}
-use Rattle.disk_atomic.specs.Outgoing.{IsAtStaging, IsFree}
+use Rattle.disk_atomic.specs.Outgoing.{IsFree}
 use Rattle.disk_atomic.specs.declared.outgoing.Outgoing.{Outgoing}
 use Rattle.echo_addr.specs.declared.address.Address.{Address}
 use Rattle.echo_packet.specs.Header.{word}
 use Rattle.echo_packet.specs.Message.{messages_bytes}
-use Rattle.echo_links.specs.Links.{LinkFile}
 use Rattle.model_steps.specs.PacketFiles.{PacketFile}
 use Rattle.model_steps.specs.Scanning.{scanned}
 use Rattle.model_steps.specs.Stamps.{is_stamp}
-use Rattle.model_steps.specs.declared.stamp.Stamp.{Stamp}
-use Rattle.cmd_report.specs.Scanned.{counted_line, file_sent, file_with, packet_name, planned_for}
+use Rattle.cmd_report.specs.Scanned.{counted_line, file_with, packet_name, planned_for}
 use Rattle.cmd_report.specs.declared.scanning.PlannedPacket.{PlannedPacket}
 use Rattle.cmd_store.proofs.Scans.{scanned_at}
 use Rattle.echo_toss.specs.declared.counting.CountedPacket.{CountedPacket}
 use Rattle.echo_toss.specs.Counts.{bytes_for, copies_out, counted_of, counted_to, has_messages, link_set}
-use Rattle.echo_toss.specs.Exports.{Outgoing as Sent, nowhere, sent_of}
+use Rattle.echo_toss.specs.Exports.{Outgoing as Sent, nowhere}
 use Rattle.echo_toss.specs.PacketsIn.{state_in}
 use Rattle.echo_toss.proofs.Counts.{all_counted}
-use Rattle.base_store.specs.Store.{StoreState, all_scanned}
-use Rattle.station_scan.specs.Beneath.{IsUsedAt}
+use Rattle.base_store.specs.Store.{StoreState}
 use Rattle.station_scan.specs.Beside.{from_number}
-use Rattle.station_scan.specs.Fitting.{AreFit, AreTaken}
+use Rattle.station_scan.specs.Fitting.{AreTaken}
 use Rattle.station_scan.specs.Left.{IsOfNameOff}
 use Rattle.station_scan.specs.Publishing.{AreOpen, IsGoingAt, KeepsStoreBut, ended_in}
 use Rattle.station_scan.specs.Scanning.{IsTouched, packets_in}
 use Rattle.station_scan.specs.Sending.{IsFreeAt, IsNamed, IsOffOwn, IsStagingOfPacket, for_address, two_paths}
-use Rattle.station_scan.specs.Passing.{AreFor, AreFreeTo, AreGrowing, FitTo, HasStaged, IsGrowingTo, IsMaking, IsStagedTo, IsStagingTo, IsTakenFor, addresses_of, all_sent, header_for, made_to, path_to, plan_to, staging_to, trial_of}
+use Rattle.station_scan.specs.Passing.{AreFor, FitTo, IsGrowingTo, IsMaking, IsStagedTo, IsStagingTo, IsTakenFor, addresses_of, all_sent, header_for, made_to, plan_to, trial_of}
 use Rattle.station_scan.specs.declared.sending.Sending.{Sending}
-use Rattle.station_scan.proofs.Lists.{all_of_map, all_to_map}
+use Rattle.station_scan.proofs.Lists.{all_of_map}
 use Rattle.station_scan.proofs.Passes.{part_wider}
 use Rattle.station_scan.proofs.Grown.{open_growing}
 use Rattle.station_scan.proofs.Plans.{address_for, all_for, fit_at, fit_inside, made_addresses, made_are, plans_are, some_back, some_made}

@@ -1,15 +1,14 @@
 -- Staging files of packets grow by the copies of messages.
-use Rattle.std.proofs.Common.{◌≡◌, ◌≢◌, ◌⊎◌, inl, inr, ⊎_elim, ◌∙◌, ◌<◌, ℕ, List, [], ◌++◌, get_or, length, Ok, Err, refl, sym, subst, ap, append_assoc, arith}
-use Rattle.std.specs.Prelude.{All, AllPairs, Contains, IsSome, None, Option, OnOk, Result}
+use Rattle.std.proofs.Common.{◌≡◌, ◌≢◌, inl, inr, ⊎_elim, ◌∙◌, ◌<◌, ℕ, List, [], ◌++◌, get_or, length, sym, subst, ap, append_assoc, arith}
+use Rattle.std.specs.Prelude.{All, AllPairs, Contains, IsSome, Option}
 use Rattle.std.proofs.lemmas.Bool.{cases_order}
 use Rattle.std.proofs.lemmas.List.{append-nil, get_or_default}
 use Rattle.std.proofs.lemmas.List.Elements.{All-contains, Contains-get_or}
-use Rattle.disk_io.specs.Disk.{DiskState, Files, Honestly, IsIn, bytes_in}
+use Rattle.disk_io.specs.Disk.{DiskState, Honestly, IsIn, bytes_in}
 use Rattle.disk_io.specs.Fixed.{AreBytes}
 use Rattle.disk_atomic.specs.Changes.{CanGrow, ChangesOnly}
 use Rattle.disk_atomic.specs.Outgoing.{AreApart, CanGrowStaging, IsAtStaging, IsFree, IsLonger, IsOfOne, SendsBytes, staged_in}
 use Rattle.disk_atomic.specs.declared.outgoing.Outgoing.{Outgoing}
-use Rattle.disk_atomic.specs.declared.placing_error.PlacingError.{PlacingError}
 use Rattle.disk_atomic.proofs.Packets.{apart_back, nobody}
 use Rattle.echo_addr.specs.declared.address.Address.{Address}
 use Rattle.echo_packet.specs.Message.{messages_bytes}
@@ -17,14 +16,13 @@ use Rattle.echo_toss.specs.Counts.{copies_out, link_set}
 use Rattle.echo_toss.specs.Exports.{Outgoing as Sent, nowhere}
 use Rattle.echo_toss.proofs.Counts.{copies_append, messages_append}
 use Rattle.base_store.specs.Store.{StoreState}
-use Rattle.station_scan.specs.Beneath.{IsUsedAt}
-use Rattle.station_scan.specs.Publishing.{AreGoing, AreOpen, IsWritten}
-use Rattle.station_scan.specs.Passing.{AreFor, AreGrowing, GoesTo, IsAppending, IsBatchFor, IsGrowingTo, begun_to, header_for, is_begun, is_made, made_to, path_to, staging_to, trial_of}
+use Rattle.station_scan.specs.Publishing.{AreOpen, IsWritten}
+use Rattle.station_scan.specs.Passing.{AreFor, AreGrowing, GoesTo, IsAppending, IsGrowingTo, begun_to, header_for, is_begun, is_made, made_to, path_to, staging_to}
 use Rattle.station_scan.specs.Writing.{IsBatchOff, IsOpen}
 use Rattle.station_scan.specs.declared.sending.Sending.{Sending}
 use Rattle.station_scan.specs.declared.writing.Batch.{Batch}
 use Rattle.station_scan.proofs.Lists.{all_either, kept_passes}
-use Rattle.station_scan.proofs.Plans.{address_for, all_back, all_for, begun_is, begun_wider, made_not_begun, made_or_begun, made_wider, no_copies, packet_for}
+use Rattle.station_scan.proofs.Plans.{address_for, all_for, begun_is, begun_wider, made_not_begun, made_or_begun, made_wider, no_copies, packet_for}
 
 module _ (to : Sending) (sent : List Sent) where
   -- one that grows is open, and back

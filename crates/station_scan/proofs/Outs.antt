@@ -1,8 +1,7 @@
 -- What earlier scans left comes to its end, and then the packets of a scan and the commit of its store are put on the disk.
-use Rattle.std.proofs.Common.{◌≡◌, ◌<◌, ◌⊎◌, inl, inr, ⊎_elim, ◌∙◌, ℕ, List, [], All, ap, arith, get_or, refl, subst, sym}
+use Rattle.std.proofs.Common.{◌≡◌, ◌<◌, ◌⊎◌, inl, inr, ⊎_elim, ◌∙◌, ℕ, List, All, get_or, refl, subst}
 use Rattle.std.specs.Prelude.{Err, IfErr, Ok, OnOk, Result}
 use Rattle.std.proofs.lemmas.Bool.{cases_lt}
-use Rattle.std.proofs.lemmas.List.{append-nil}
 use Rattle.std.proofs.lemmas.List.Elements.{All-contains}
 use Rattle.base_file.specs.Base.{Base}
 use Rattle.disk_io.specs.Disk.{DiskState, Files}
@@ -12,11 +11,9 @@ use Rattle.disk_atomic.specs.Finishing.{FinishesEach, IsOfLeft, IsOver}
 use Rattle.disk_atomic.specs.declared.finishing.Left.{Left}
 use Rattle.disk_atomic.specs.declared.placing_error.PlacingError.{PlacingError}
 use Rattle.disk_atomic.specs.declared.placing_error.PlacingError.TheVariants.{Device, Taken}
-use Rattle.disk_atomic.specs.StagingPaths.{staging_path}
 use Rattle.model_steps.specs.PacketFiles.{PacketFile}
 use Rattle.base_store.specs.Store.{StoreState}
 use Rattle.base_store.proofs.Runs.{same_twice}
-use Rattle.station.specs.Beneath.{HoldsAsBefore}
 use Rattle.station_scan.specs.Beneath.{IsUsedAt}
 use Rattle.station_scan.specs.Fitting.{AreTaken}
 use Rattle.station_scan.specs.Left.{AreFreeLeft, EndsLeft, IsEnded, IsLeftOf, IsOfNameOff}
@@ -24,12 +21,10 @@ use Rattle.station_scan.specs.Publishing.{IsOnDisk, KeepsStoreBut}
 use Rattle.station_scan.specs.Sending.{HasBytes, IsAtItsPath, IsStagingGone}
 use Rattle.station_scan.specs.Scanning.{AreSentOut, CommitsScan, IsTaken, IsTouched, PreparesScan, SendsOut}
 use Rattle.station_scan.specs.Sends.{AreSentOn, IsOfThese, SendsThese, WritesBeside}
-use Rattle.station_scan.specs.Stops.{IsOfPlacing, most, scan_done}
+use Rattle.station_scan.specs.Stops.{IsOfPlacing, most}
 use Rattle.station_scan.specs.declared.scan_error.ScanError.{ScanError}
 use Rattle.station_scan.specs.declared.scan_error.ScanError.TheVariants.{Placing}
-use Rattle.station_scan.specs.declared.publish_error.PublishError.{PublishError}
-use Rattle.station_scan.proofs.Published.{holds_still, keeps_only, keeps_then, keeps_wider}
-use Rattle.station_scan.proofs.Staged.{tried_after}
+use Rattle.station_scan.proofs.Published.{keeps_only, keeps_then, keeps_wider}
 use Rattle.station_scan.proofs.Stops.{placing_why, put_wider}
 
 -- one that is over, by what is seen

@@ -1,14 +1,13 @@
 -- A pass over the messages of a store, group by group.
-use Rattle.std.proofs.Common.{◌≡◌, ◌≢◌, ◌⊎◌, inl, inr, ⊎_elim, ◌∙◌, ◌<◌, ◌≤◌, ℕ, true, List, [], ◌∷◌, ◌++◌, get_or, length, drop, map, filter, refl, sym, subst, ap, append_assoc, arith}
+use Rattle.std.proofs.Common.{◌≡◌, ◌≢◌, ◌⊎◌, inl, inr, ⊎_elim, ◌∙◌, ◌<◌, ◌≤◌, ℕ, true, List, [], ◌++◌, get_or, length, drop, map, filter, refl, sym, subst, ap, append_assoc, arith}
 use Rattle.std.specs.Prelude.{All, Contains, IsSome, None, Ok, OnOk, Option, Result}
 use Rattle.disk_io.specs.declared.disk_error.DiskError.{DiskError}
 use Rattle.std.proofs.lemmas.List.{append-nil, append_cancel_left, drop_all, length-map}
-use Rattle.std.proofs.lemmas.List.Elements.{All-contains, Contains-get_or}
+use Rattle.std.proofs.lemmas.List.Elements.{All-contains}
 use Rattle.base_file.specs.Base.{Base}
-use Rattle.disk_io.specs.Disk.{DiskState, Files, Honestly, bytes_in}
+use Rattle.disk_io.specs.Disk.{DiskState, Honestly, bytes_in}
 use Rattle.disk_io.specs.Fixed.{AreBytes}
 use Rattle.disk_io.specs.Runs.{ChangesNothing}
-use Rattle.disk_atomic.specs.StagingPaths.{staging_path}
 use Rattle.disk_atomic.specs.ListStaged.{IsNameByte}
 use Rattle.disk_atomic.specs.Outgoing.{IsAtStaging, IsFree, IsStagingGone}
 use Rattle.disk_atomic.specs.declared.outgoing.Outgoing.{Outgoing}
@@ -19,9 +18,8 @@ use Rattle.echo_links.specs.Links.{LinkFile}
 use Rattle.cmd_report.specs.Scanned.{packet_name}
 use Rattle.cmd_report.specs.declared.scanning.PlannedPacket.{PlannedPacket}
 use Rattle.echo_toss.specs.declared.counting.CountedPacket.{CountedPacket}
-use Rattle.echo_toss.specs.Counts.{IsGroupFrom, Group, counted_to, counted_with, has_messages, link_set}
-use Rattle.echo_toss.specs.Exports.{Outgoing as Sent, nowhere, sent_of}
-use Rattle.echo_toss.proofs.Counts.{group_counted}
+use Rattle.echo_toss.specs.Counts.{IsGroupFrom, Group, counted_to, has_messages, link_set}
+use Rattle.echo_toss.specs.Exports.{Outgoing as Sent, sent_of}
 use Rattle.base_store.specs.Store.{LooksOn, StoreState}
 use Rattle.base_store.proofs.Runs.{same_twice}
 use Rattle.station.specs.Beneath.{AreSettledByOwn}
@@ -30,20 +28,19 @@ use Rattle.disk_atomic.specs.declared.placing_error.PlacingError.{PlacingError}
 use Rattle.disk_atomic.specs.declared.placing_error.PlacingError.TheVariants.{Memory, Taken}
 use Rattle.station_scan.specs.Fitting.{FitPlanned, IsUnfit}
 use Rattle.station_scan.specs.Publishing.{AreGoing, AreGone}
-use Rattle.station_scan.specs.Sending.{AreSent, IsNamed}
-use Rattle.station_scan.specs.Passing.{AreFor, AreFreeTo, AreGoneOrSame, AreGrowing, AreNext, AreTakenTo, FitTo, HasPassed, HasStaged, IsAppending, IsBatchFor, IsCounted, IsGrowingTo, IsMaking, IsNewPass, IsPlanOf, IsStagedTo, IsStagingTo, IsTakenFor, AreDropped, StagesNext, StopsPassing, addresses_of, all_sent, begun_to, is_begun, is_made, made_in, made_to, path_to, plan_to, staging_to, trial_of}
+use Rattle.station_scan.specs.Sending.{AreSent}
+use Rattle.station_scan.specs.Passing.{AreFor, AreGoneOrSame, AreGrowing, AreNext, AreTakenTo, FitTo, HasPassed, HasStaged, IsCounted, IsGrowingTo, IsMaking, IsNewPass, IsPlanOf, IsStagedTo, IsStagingTo, IsTakenFor, AreDropped, StagesNext, StopsPassing, addresses_of, all_sent, begun_to, is_begun, is_made, made_in, made_to, path_to, staging_to, trial_of}
 use Rattle.station_scan.specs.declared.passing.Pass.{Pass}
 use Rattle.station_scan.specs.declared.publish_error.PublishError.{PublishError}
 use Rattle.station_scan.specs.declared.sending.Plan.{Plan}
 use Rattle.station_scan.specs.declared.sending.Sending.{Sending}
 use Rattle.station_scan.specs.declared.sending.TwoPaths.{TwoPaths}
-use Rattle.station_scan.specs.declared.writing.Batch.{Batch}
 use Rattle.station_scan.proofs.Lists.{all_narrow, among, filter_mapped, filter_narrow, no_items}
 use Rattle.station_scan.proofs.Names.{ending, not_staging, trial_no_path}
-use Rattle.station_scan.proofs.Plans.{all_for, at_staging_of, begun_is, fit_at, fit_inside, fit_narrow, fitting_of, made_are, made_later, made_none, made_wider, plan_of_fit, planned_is, sent_for, some_back, some_made, staging_at, staging_wider}
+use Rattle.station_scan.proofs.Plans.{all_for, at_staging_of, begun_is, fit_at, fit_inside, fit_narrow, fitting_of, made_are, made_later, made_none, made_wider, plan_of_fit, planned_is, sent_for, some_made, staging_at, staging_wider}
 use Rattle.station_scan.proofs.Published.{holds_still}
 use Rattle.station_scan.proofs.Sends.{fit_going}
-use Rattle.station_scan.proofs.Written.{looked_used, used_none, used_settled, used_twice}
+use Rattle.station_scan.proofs.Written.{used_none, used_twice}
 
 -- ---- a store that is used at more paths, or looked at
 
@@ -57,11 +54,6 @@ used_looked paths s0 s1 s2 used looks = record {
   holds = holds_still s0 s1 s2 used.holds (record { ready = looks.ready; keeps = looks.keeps; committed = looks.committed });
   changes = then_only paths s0.disk s1.disk s2.disk used.changes (only_nothing paths s1.disk s2.disk looks.quiet);
 }
-
--- what is settled by its own files is so once it was looked at
-pub settled_looked : (s0 s1 : StoreState) → LooksOn s0 s1 → AreSettledByOwn s0 → AreSettledByOwn s1
-settled_looked s0 s1 looks settled base before after same stands =
-    (looks.same.stands base after).1 (settled base before after (λ m own. same m ((looks.same.own m).1 own)) ((looks.same.stands base before).0 stands))
 
 -- ---- nothing has changed
 

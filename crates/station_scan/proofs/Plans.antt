@@ -1,10 +1,9 @@
 -- The packets of messages by their addresses: who gets some, and where they go.
-use Rattle.std.proofs.Common.{◌≡◌, ◌≢◌, ◌⊎◌, inl, inr, ⊎_elim, ◌∙◌, ◌<◌, ◌≤◌, ◌&&◌, ℕ, Bool, true, false, true≢false, List, [], ◌∷◌, ◌++◌, get_or, length, map, filter, refl, sym, subst, ap, arith}
+use Rattle.std.proofs.Common.{◌≡◌, ◌≢◌, ◌⊎◌, inl, inr, ◌∙◌, ◌<◌, ◌&&◌, ℕ, Bool, true, false, true≢false, List, [], ◌∷◌, ◌++◌, get_or, length, map, filter, refl, sym, subst, ap, arith}
 use Rattle.std.specs.Prelude.{All, AllPairs, Contains, nat_lt, not}
 use Rattle.std.proofs.lemmas.Bool.{cases_Bool, lt-ltb}
 use Rattle.std.proofs.lemmas.List.{get_or-map, length-map}
 use Rattle.std.proofs.lemmas.List.Elements.{Contains-get_or}
-use Rattle.disk_io.specs.Disk.{Files}
 use Rattle.disk_atomic.specs.Outgoing.{IsAtStaging}
 use Rattle.disk_atomic.specs.declared.outgoing.Outgoing.{Outgoing}
 use Rattle.disk_atomic.proofs.Packets.{nobody}
@@ -19,12 +18,11 @@ use Rattle.echo_toss.specs.Exports.{Outgoing as Sent, nowhere}
 use Rattle.echo_toss.proofs.Begun.{has_later}
 use Rattle.echo_toss.proofs.Counts.{group_counted}
 use Rattle.station_scan.specs.Fitting.{AreFitting, FitPlanned}
-use Rattle.station_scan.specs.Sending.{AreSent, HaveOtherPaths, IsNamed, IsOffOwn, IsSent, planned_paths, two_paths}
-use Rattle.station_scan.specs.Passing.{AreFor, FitTo, GoesTo, IsBatchFor, IsLaid, IsPlanOf, IsStagingTo, addresses_of, begun_to, is_begun, is_made, made_in, made_to, path_to, plan_to, staging_to, trial_of}
+use Rattle.station_scan.specs.Sending.{AreSent, HaveOtherPaths, IsNamed, IsOffOwn, planned_paths, two_paths}
+use Rattle.station_scan.specs.Passing.{AreFor, FitTo, GoesTo, IsPlanOf, IsStagingTo, addresses_of, begun_to, is_begun, is_made, made_in, made_to, path_to, plan_to, trial_of}
 use Rattle.station_scan.specs.declared.sending.Plan.{Plan}
 use Rattle.station_scan.specs.declared.sending.Sending.{Sending}
 use Rattle.station_scan.specs.declared.sending.TwoPaths.{TwoPaths}
-use Rattle.station_scan.specs.declared.writing.Batch.{Batch}
 use Rattle.station_scan.proofs.Lists.{all_narrow, all_of_map, all_to_map, filter_both, filter_mapped, kept_passes, kept_wider, map_twice, pairs_narrow, pairs_of_map, pairs_to_map}
 
 -- ---- who gets some
@@ -162,9 +160,6 @@ module _ (to : Sending) (made : List CountedPacket) (all : List Address) (are : 
   pub planned_is : plan.planned ≡ map (plan_to to.source.from) all
   planned_is = of.planned ∙ plans_are to.source.from made ∙ ap (map (plan_to to.source.from)) are
 
-  pub fit_of_plan : (Own : List ℕ → Type 0) → FitPlanned Own to.outbound.now to.own.now plan.planned → FitTo Own to all
-  fit_of_plan Own fit = subst (λ (l : List PlannedPacket). FitPlanned Own to.outbound.now to.own.now l) planned_is fit
-
   pub plan_of_fit : (Own : List ℕ → Type 0) → FitTo Own to all → FitPlanned Own to.outbound.now to.own.now plan.planned
   plan_of_fit Own fit = subst (λ (l : List PlannedPacket). FitPlanned Own to.outbound.now to.own.now l) (sym planned_is) fit
 
@@ -201,9 +196,6 @@ module _ (to : Sending) (all : List Address) (packets : List Outgoing) (for : Ar
   -- what is so of each address is so of each packet, and back
   pub all_for : (P : Address → Type 0) (Q : Outgoing → Type 0) → ((a : Address) (p : Outgoing) → GoesTo to a p → P a → Q p) → All P all → All Q packets
   all_for P Q gives each k z lt = gives (get_or all k nowhere) (get_or packets k z) (for.each k nowhere z (low k lt)) (each k nowhere (low k lt))
-
-  pub all_back : (P : Address → Type 0) (Q : Outgoing → Type 0) → ((a : Address) (p : Outgoing) → GoesTo to a p → Q p → P a) → All Q packets → All P all
-  all_back P Q gives each k d lt = gives (get_or all k d) (get_or packets k nobody) (for.each k d nobody lt) (each k nobody (high k lt))
 
   -- the packet of an address
   pub packet_for : (a : Address) → Contains all a → (p : Outgoing) × Contains packets p × GoesTo to a p

@@ -1,13 +1,12 @@
 -- Leftover packets are finished, and then the packets of a scan are put in place.
-use Rattle.std.proofs.Common.{◌≡◌, ◌⊎◌, inl, inr, ⊎_elim, ◌∙◌, ◌<◌, ℕ, true, List, [], ◌++◌, Result, Ok, Err, refl, sym, subst, ap, append_assoc, arith}
-use Rattle.std.specs.Prelude.{All, Contains, IfErr, IsErrOf, None, OnOk}
+use Rattle.std.proofs.Common.{◌≡◌, ◌⊎◌, inl, inr, ⊎_elim, ◌∙◌, ◌<◌, ℕ, List, [], ◌++◌, Result, Ok, Err, refl, sym, subst, ap, append_assoc, arith}
+use Rattle.std.specs.Prelude.{All, IfErr, IsErrOf, None, OnOk}
 use Rattle.std.proofs.lemmas.List.{append_cancel_left}
 use Rattle.std.proofs.lemmas.List.Elements.{All-contains}
 use Rattle.base_file.specs.Base.{Base}
 use Rattle.disk_io.specs.Disk.{DiskState, Files}
 use Rattle.disk_io.specs.Runs.{ChangesNothing}
 use Rattle.disk_io.proofs.Moments.{then_nothing, weaker_run}
-use Rattle.disk_io.specs.declared.disk_error.DiskError.TheVariants as disk
 use Rattle.disk_atomic.specs.Finishing.{IsOver}
 use Rattle.disk_atomic.specs.StagingPaths.{dotted, staging_path}
 use Rattle.disk_atomic.specs.ListStaged.{IsNameByte}
@@ -43,7 +42,7 @@ use Rattle.station_scan.proofs.Names.{ending, not_staging, trial_no_path}
 use Rattle.station_scan.proofs.Outs.{is_ended, not_sent, sends_out, stopped_crash, stopped_only}
 use Rattle.station_scan.proofs.Scans.{stops_quiet}
 use Rattle.station_scan.proofs.Staged.{tried_after}
-use Rattle.station_scan.proofs.Stops.{put_whole, put_wider}
+use Rattle.station_scan.proofs.Stops.{put_wider}
 use Rattle.station_scan.proofs.Through.{on_ok_gives}
 use Rattle.station_scan.proofs.Told.{reported_whole, told_wider}
 
@@ -55,15 +54,6 @@ path_not_staging outbound own files m n (inr at) is e = trial_no_path outbound o
 stopped_ok : (P failed : Type 0) (before after : Files) (why : CommandError) (result : Result (Unit {0}) ScanError) → TellsBeside failed before after why result → OnOk result P
 stopped_ok P failed before after why result (inl (is, gone)) = subst (λ (r : Result (Unit {0}) ScanError). OnOk r P) (sym is) tt
 stopped_ok P failed before after why result (inr (left, is, cause)) = subst (λ (r : Result (Unit {0}) ScanError). OnOk r P) (sym is) tt
-
--- an error tells nothing of a good end
-pub told_ok : (P : Type 0) (why : ScanError) (reported : Result (Unit {0}) CommandError) → OnOk (told_as why reported) P
-told_ok P why (Ok done) = tt
-told_ok P why (Err stop) = tt
-
-pub left_ok : (P : Type 0) (cause : PlacingError) (reported : Result (Unit {0}) CommandError) → OnOk (left_told cause reported) P
-left_ok P cause (Ok done) = tt
-left_ok P cause (Err stop) = tt
 
 -- ---- leftover packets were finished
 

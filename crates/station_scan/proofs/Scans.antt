@@ -1,5 +1,5 @@
 -- A scan of a store.
-use Rattle.std.proofs.Common.{◌≡◌, ◌<◌, ℕ, List, [], Result, Ok, ⊎_elim, arith, inl, inr, refl, subst, sym}
+use Rattle.std.proofs.Common.{ℕ, List, [], Result, Ok, ⊎_elim, arith, inl, inr, refl, subst, sym}
 use Rattle.std.specs.Prelude.{Err, IsErrOf}
 use Rattle.base_file.specs.Base.{Base}
 use Rattle.disk_io.specs.Disk.{DiskState, Files}

@@ -7,7 +7,7 @@ use Rattle.base_file.specs.Base.{Base}
 use Rattle.disk_io.specs.Disk.{DiskState, Files, IsIn}
 use Rattle.disk_io.specs.Runs.{LeavesOnly}
 use Rattle.disk_io.proofs.Moments.{weaker_run}
-use Rattle.disk_atomic.specs.Outgoing.{IsAtStaging, IsFree, IsOfOne}
+use Rattle.disk_atomic.specs.Outgoing.{IsAtStaging, IsOfOne}
 use Rattle.disk_atomic.specs.Trying.{WasTried}
 use Rattle.disk_atomic.specs.Publishing.{IsApartFrom}
 use Rattle.disk_atomic.specs.declared.outgoing.Outgoing.{Outgoing}
@@ -15,19 +15,17 @@ use Rattle.disk_atomic.specs.StagingPaths.{staging_path}
 use Rattle.echo_addr.specs.declared.address.Address.{Address}
 use Rattle.cmd_report.specs.Scanned.{file_with}
 use Rattle.cmd_report.specs.declared.scanning.PlannedPacket.{PlannedPacket}
-use Rattle.echo_toss.specs.Counts.{bytes_for}
 use Rattle.model_steps.specs.PacketFiles.{PacketFile}
 use Rattle.base_store.specs.Store.{StoreState}
-use Rattle.station_scan.specs.Fitting.{AreFit, AreFitting, AreTaken}
+use Rattle.station_scan.specs.Fitting.{AreFit, AreFitting}
 use Rattle.station_scan.specs.Left.{IsOfNameOff}
-use Rattle.station_scan.specs.Publishing.{AreGoing, ArePublished, IsGoingAt, IsPublishedAt, IsTriedWith, KeepsStoreBut, PublishesOn}
+use Rattle.station_scan.specs.Publishing.{AreGoing, IsGoingAt, IsPublishedAt, IsTriedWith, KeepsStoreBut, PublishesOn}
 use Rattle.disk_atomic.specs.ListStaged.{IsNameByte}
 use Rattle.station_scan.specs.Sending.{IsStagingOfPacket, IsNamed, IsOfPacket, for_address}
-use Rattle.station_scan.specs.Sends.{AreSentOn, IsOfThese, SendsThese, WasTriedFor, files_for}
-use Rattle.station_scan.specs.declared.pieces.Source.{Source}
+use Rattle.station_scan.specs.Sends.{IsOfThese, SendsThese, WasTriedFor}
 use Rattle.station_scan.proofs.Names.{trial_in, trial_no_path, trial_not_staging}
 use Rattle.station_scan.proofs.Published.{store_wider}
-use Rattle.station_scan.proofs.Sent.{are_apart_from, fit_files, are_placed, at_its_path, files_bytes, free_packets, have_none, is_staging_file, is_of_file, none_staging, stand_whole}
+use Rattle.station_scan.proofs.Sent.{are_apart_from, fit_files, are_placed, files_bytes, have_none, is_staging_file, is_of_file, stand_whole}
 use Rattle.station_scan.proofs.Staged.{tried_after}
 
 module _ (Own : List ℕ → Type 0) (outbound own : List ℕ) (content : Address → List ℕ) (planned : List PlannedPacket) (packets : List Outgoing) (fitting : AreFitting Own outbound own planned packets) (trial : List ℕ) (at_end : trial ≡ staging_path outbound own) where

@@ -201,8 +201,5 @@ module _ (folder own : List ℕ) (content : Address → List ℕ) (planned : Lis
   pub none_staging : (disk : DiskState) → All (HasItsPath (for_address content) disk) packets → All (IsStagingGone folder own disk.seen) files
   none_staging disk all k f lt = ap disk.seen (sym (goes k f nobody lt).staging) ∙ (all k nobody (back k lt)).gone
 
-  pub free_packets : (disk : DiskState) → All (IsFreeAt folder disk.seen) files → All (outgoing.IsFree disk) packets
-  free_packets disk all k z lt = let high = within k lt in ap disk.seen (goes k no_file z high).path ∙ all k no_file high
-
   pub have_none : (c : Files) → All (IsFreeIn c) packets → All (IsFreeAt folder c) files
   have_none c all k f lt = ap c (sym (goes k f nobody lt).path) ∙ all k nobody (back k lt)

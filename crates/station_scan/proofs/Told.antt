@@ -1,16 +1,14 @@
 -- A scan once its cursor was moved: its lines are printed, or it stops.
-use Rattle.std.proofs.Common.{◌≡◌, ◌⊎◌, inl, inr, ⊎_elim, ◌∙◌, ◌≤◌, ◌<◌, ℕ, true, List, [], ◌++◌, Result, Ok, Err, get_or, length, map, drop, refl, sym, subst, ap, arith}
-use Rattle.std.specs.Prelude.{All, IfErr, IsErrOf, OnOk, None}
+use Rattle.std.proofs.Common.{◌≡◌, inl, inr, ⊎_elim, ◌∙◌, ◌≤◌, ◌<◌, ℕ, true, List, Result, Ok, Err, map, drop, refl, sym, subst, ap}
+use Rattle.std.specs.Prelude.{IsErrOf}
 use Rattle.base_file.specs.Base.{Base}
-use Rattle.disk_io.specs.Device.{Failed}
 use Rattle.disk_io.specs.Disk.{DiskState, Files, Honestly}
-use Rattle.disk_io.specs.Runs.{ChangesNothing, HasCause, LeavesOnly}
+use Rattle.disk_io.specs.Runs.{ChangesNothing}
 use Rattle.disk_io.proofs.Moments.{then_nothing}
 use Rattle.disk_io.specs.declared.disk_error.DiskError.{DiskError}
 use Rattle.disk_io.specs.declared.disk_error.DiskError.TheVariants as disk
 use Rattle.disk_atomic.specs.declared.placing_error.PlacingError.{PlacingError}
 use Rattle.disk_atomic.specs.declared.placing_error.PlacingError.TheVariants as placing
-use Rattle.cmd_status.specs.declared.fault.Fault.{Fault}
 use Rattle.cmd_status.specs.Devices.{Output}
 use Rattle.cmd_report.specs.Scanned.{file_with}
 use Rattle.cmd_report.specs.declared.scanning.PlannedPacket.{PlannedPacket}
@@ -20,40 +18,35 @@ use Rattle.cmd_store.specs.Stops.{store_answer}
 use Rattle.cmd_store.specs.declared.command_error.CommandError.{CommandError}
 use Rattle.cmd_store.specs.declared.command_error.CommandError.TheVariants.{Met, Store}
 use Rattle.cmd_store.proofs.Scans.{scan_printed}
-use Rattle.echo_links.specs.Links.{LinkFile}
 use Rattle.echo_toss.specs.declared.counting.CountedPacket.{CountedPacket}
 use Rattle.echo_toss.specs.Counts.{bytes_for, counted_of, counted_to, link_set}
 use Rattle.echo_toss.specs.Exports.{Outgoing as Sent, sent_of}
-use Rattle.echo_toss.specs.Bounds.{IsFullWhenRead}
 use Rattle.echo_toss.specs.PacketsIn.{state_in}
 use Rattle.echo_toss.proofs.Counts.{all_counted}
 use Rattle.model_steps.specs.PacketFiles.{PacketFile}
 use Rattle.model_steps.specs.Scanning.{scanned}
 use Rattle.model_steps.specs.Stamps.{is_stamp}
-use Rattle.base_store.specs.Store.{HasStoreCause, LooksOn, StoreState, all_scanned}
+use Rattle.base_store.specs.Store.{LooksOn, StoreState, all_scanned}
 use Rattle.base_store.specs.declared.store_error.StoreError.{StoreError}
 use Rattle.base_store.specs.declared.store_error.StoreError.TheVariants as error
 use Rattle.base_store.proofs.Runs.{same_twice}
-use Rattle.station.specs.Beneath.{HoldsAsBefore}
-use Rattle.station_scan.specs.Beneath.{IsFullOnWay, IsUsedAt}
-use Rattle.station_scan.specs.Beside.{HasReported, HasScanCause, IsMoved, IsPutBeside, ScansBeside, SendsBeside, StopsBeside, TellsBeside, files_reported, from_number, left_cause, left_told, told_as}
+use Rattle.station_scan.specs.Beneath.{IsUsedAt}
+use Rattle.station_scan.specs.Beside.{HasReported, IsMoved, IsPutBeside, ScansBeside, SendsBeside, StopsBeside, TellsBeside, files_reported, from_number, told_as}
 use Rattle.station_scan.specs.Fitting.{AreTaken}
-use Rattle.station_scan.specs.Passing.{AreGoneOrSame, HasPassed, HasStaged, IsStagingTo, IsTakenFor, StopsPassing, addresses_of, all_sent, made_in, made_to}
-use Rattle.station_scan.specs.Publishing.{HasPublishCause, KeepsStoreBut}
+use Rattle.station_scan.specs.Passing.{AreGoneOrSame, HasStaged, IsStagingTo, IsTakenFor, StopsPassing, all_sent, made_in, made_to}
+use Rattle.station_scan.specs.Publishing.{KeepsStoreBut}
 use Rattle.station_scan.specs.Scanning.{IsTouched, packets_in}
 use Rattle.station_scan.specs.Sending.{IsStagingOfPacket}
 use Rattle.station_scan.specs.Sends.{WritesBeside}
-use Rattle.station_scan.specs.Stops.{IsOfPlacing, most, scan_done, stop_of}
+use Rattle.station_scan.specs.Stops.{IsOfPlacing, most}
 use Rattle.station_scan.specs.declared.pieces.Source.{Source}
 use Rattle.station_scan.specs.declared.publish_error.PublishError.{PublishError}
-use Rattle.station_scan.specs.declared.publish_error.PublishError.TheVariants.{Base as OfBase, Packets, Reading, Staging}
+use Rattle.station_scan.specs.declared.publish_error.PublishError.TheVariants.{Base as OfBase, Reading, Staging}
 use Rattle.station_scan.specs.declared.scan_error.ScanError.{ScanError}
 use Rattle.station_scan.specs.declared.scan_error.ScanError.TheVariants.{Command, Placing, Staying, TooFar}
 use Rattle.station_scan.specs.declared.sending.Sending.{Sending}
 use Rattle.station_scan.proofs.Besides.{few_keeps, sends_before, writes_before}
-use Rattle.station.proofs.Failures.{failed_wider}
-use Rattle.station_scan.proofs.Causes.{full_later, full_read}
-use Rattle.station_scan.proofs.Files.{files_are, files_to, of_files, staged_off, taken_files}
+use Rattle.station_scan.proofs.Files.{files_are, of_files, staged_off, taken_files}
 use Rattle.station_scan.proofs.Lefts.{quiet_start}
 use Rattle.station_scan.proofs.Published.{keeps_nothing, keeps_then, keeps_wider}
 use Rattle.station_scan.proofs.Stops.{placing_why, put_whole, put_wider}
@@ -84,34 +77,6 @@ no_damage (Store cause) met is = cc met
 pub staying_why : (failed : Type 0) (left : DiskError) → (left ≡ disk.Device → failed) → IsOfPlacing failed ⊥ ⊥ (Staying left)
 staying_why failed disk.Device gives = gives refl
 staying_why failed disk.Memory gives = tt
-
--- ---- what is reported of causes
-
-module _ {S : Type 0} (state : S → StoreState) (old new : StoreState) (f0 f1 : ℕ) where
-  pub scan_cause : (done : Result (Unit {0}) PublishError) → HasPublishCause state old new f0 f1 done → HasScanCause state old f0 f1 (scan_done done)
-  scan_cause (Ok value) was = record { later = was.later; device = λ e. absurd (cc e); many = λ e. absurd (cc e) }
-  scan_cause (Err (Packets why)) was = record { later = was.later; device = λ e. absurd (cc e); many = λ e. absurd (cc e) }
-  scan_cause (Err (Staging why)) was = record { later = was.later; device = λ e. absurd (cc e); many = λ e. absurd (cc e) }
-  scan_cause (Err (Reading why)) was = record { later = was.later; device = λ e. was.reading (cc e); many = λ e. was.many (cc e) }
-  scan_cause (Err (OfBase why)) was = record { later = was.later; device = λ e. was.base (cc e); many = λ e. was.full (cc e) }
-
-  -- of an error that names no fault of the store
-  pub other_cause : (why : ScanError) → ((e : CommandError) → why ≡ Command e → ⊥) → f0 ≤ f1 → HasScanCause state old f0 f1 (Err why)
-  other_cause why not later = record { later = later; device = λ e. absurd (let same : why ≡ Command (Store error.Device) = cc e in not _ same); many = λ e. absurd (let same : why ≡ Command (Store error.TooMany) = cc e in not _ same) }
-
-  pub met_cause : (stop : CommandError) → store_answer {A = List PlannedPacket} (Err stop) ≡ Ok tt → f0 ≤ f1 → HasScanCause state old f0 f1 (Err (Command stop))
-  met_cause (Met fault) met later = record { later = later; device = λ e. absurd (cc e); many = λ e. absurd (cc e) }
-  met_cause (Store cause) met later = absurd (cc met)
-
-  module _ (source : Source) (out now : Output) where
-    pub told_cause : (why : ScanError) (reported : Result (Unit {0}) CommandError) → ((e : CommandError) → why ≡ Command e → ⊥) → HasReported state source old new f0 f1 out now reported → HasScanCause state old f0 f1 (told_as why reported)
-    told_cause why (Ok done) not was = other_cause why not was.cause.later
-    told_cause why (Err (Met fault)) not was = record { later = was.cause.later; device = λ e. absurd (cc e); many = λ e. absurd (cc e) }
-    told_cause why (Err (Store cause)) not was = record { later = was.cause.later; device = λ e. was.cause.failed (cc e); many = λ e. full_read state old (was.many (cc e)) }
-
-    pub left_told_cause : (cause : PlacingError) (reported : Result (Unit {0}) CommandError) → HasReported state source old new f0 f1 out now reported → HasScanCause state old f0 f1 (left_told cause reported)
-    left_told_cause cause (Ok done) was = record { later = was.cause.later; device = λ e. absurd (cc e); many = λ e. absurd (cc e) }
-    left_told_cause cause (Err stop) was = record { later = was.cause.later; device = λ e. absurd (cc e); many = λ e. absurd (cc e) }
 
 -- no message is damaged where the lines were reported
 pub reported_whole : (why : ScanError) (reported : Result (Unit {0}) CommandError) → ((e : CommandError) → why ≡ Command e → ⊥) → (IsErrOf (store_answer reported) error.Damaged → ⊥) → IsErrOf (told_as why reported) (Command (Store error.Damaged)) → ⊥
@@ -256,9 +221,6 @@ module _ {S : Type 0} (state : S → StoreState) (source : Source) (s0 s1 : Stor
       cause = record { later = later; failed = λ e. absurd (cc e); damaged = λ honest e. absurd (cc e) };
     }
 
-  pub reported_store : (cause : StoreError) → (cause ≡ error.TooMany → IsFullWhenRead state s0) → HasStoreCause {T = Unit {0}} s0 s1 f0 f1 (Err cause) → HasReported state source s0 s1 f0 f1 out out (Err (Store cause))
-  reported_store cause many was = record { answers = λ honest base kept. refl; looks = looks; many = λ e. many (cc e); cause = was }
-
 -- ---- one part after another
 
 -- what failed of one part failed of all
@@ -290,13 +252,6 @@ scans_wider state Own to some failed wider s0 s1 out now base result scans = rec
   answer = scans.answer;
   put = put_as_wider state Own to.outbound.now to.own.now some failed wider s0 s1 base (packets_in to.source.stamp to.source.links.now base) scans.made result scans.put;
   whole = scans.whole;
-}
-
-pub cause_after : {S : Type 0} (state : S → StoreState) (s0 s1 : StoreState) (f0 f1 f2 : ℕ) (result : Result (Unit {0}) ScanError) → HoldsAsBefore s0 s1 → f0 ≤ f1 → HasScanCause state s1 f1 f2 result → HasScanCause state s0 f0 f2 result
-cause_after state s0 s1 f0 f1 f2 result holds before was = record {
-  later = omega (arith, before, was.later);
-  device = λ e. failed_wider f0 f1 f2 f2 before (omega arith) (was.device e);
-  many = λ e. full_later state s0 s1 holds (was.many e);
 }
 
 pub touched_after : (outbound : List ℕ) (s0 s1 s2 : StoreState) → KeepsStoreBut (IsTouched s0.is_own outbound) s0 s1 → KeepsStoreBut (IsTouched s1.is_own outbound) s1 s2 → KeepsStoreBut (IsTouched s0.is_own outbound) s0 s2

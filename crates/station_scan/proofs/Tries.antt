@@ -1,18 +1,13 @@
 -- That a scan tries whether a file gets a second path.
-use Rattle.std.proofs.Common.{◌⊎◌, ◌∙◌, inl, inr, ⊎_elim, ℕ, List, Result, Ok, Err, map}
+use Rattle.std.proofs.Common.{◌⊎◌, inl, inr, ℕ, List, Result, Ok, Err}
 use Rattle.std.specs.Prelude.{OnOk}
 use Rattle.base_file.specs.Base.{Base}
 use Rattle.disk_io.specs.Disk.{DiskState, Files}
 use Rattle.disk_io.specs.Runs.{ChangesNothing}
 use Rattle.echo_links.specs.Links.{LinkFile}
-use Rattle.station.specs.Beneath.{HoldsAsBefore}
 use Rattle.disk_atomic.specs.StagingPaths.{dotted, staging_path}
 use Rattle.station.specs.Place.{IsOfPlace, Place}
 use Rattle.cmd_status.specs.Devices.{Output}
-use Rattle.std.proofs.lemmas.List.{length-map}
-use Rattle.echo_addr.specs.declared.address.Address.{Address}
-use Rattle.cmd_report.specs.Scanned.{file_with}
-use Rattle.cmd_report.specs.declared.scanning.PlannedPacket.{PlannedPacket}
 use Rattle.model_steps.specs.PacketFiles.{PacketFile}
 use Rattle.model_steps.specs.declared.stamp.Stamp.{Stamp}
 use Rattle.base_store.specs.Store.{IsSameStore, StoreState}

@@ -1,7 +1,6 @@
 -- Packets that are written group by group, while their store is read.
-use Rattle.std.proofs.Common.{◌≡◌, ◌∙◌, inl, inr, ℕ, List, [], ◌++◌, ap, append_assoc, arith, drop, get_or, length, refl, subst, sym}
+use Rattle.std.proofs.Common.{◌≡◌, ◌∙◌, inl, inr, ℕ, List, [], ◌++◌, ap, arith, get_or, subst, sym}
 use Rattle.std.specs.Prelude.{All, Bool, Err, IfOk, None, Ok, OnOk, Result, true}
-use Rattle.std.proofs.lemmas.List.{append-nil, drop_all}
 use Rattle.disk_io.specs.Disk.{DiskState, Honestly, IsIn, bytes_in}
 use Rattle.disk_io.specs.Fixed.{AreBytes}
 use Rattle.disk_io.specs.Runs.{ChangesNothing, KeepsNamed}
@@ -9,12 +8,12 @@ use Rattle.disk_io.specs.declared.disk_error.DiskError.{DiskError}
 use Rattle.disk_atomic.specs.Changes.{ChangesOnly}
 use Rattle.disk_atomic.specs.Outgoing.{ArePlaced, CanGrowStaging, IsAtStaging, IsLonger, IsMade, IsFree, IsStagingGone, IsStagingOne, SendsBytes, staged_in}
 use Rattle.disk_atomic.specs.declared.outgoing.Outgoing.{Outgoing}
-use Rattle.disk_atomic.proofs.Changes.{only_nothing, only_start, then_only}
+use Rattle.disk_atomic.proofs.Changes.{only_start, then_only}
 use Rattle.disk_atomic.proofs.Growing.{are_both}
 use Rattle.disk_atomic.proofs.Packets.{path_not_staging}
 use Rattle.disk_atomic.proofs.Whole.{some_is_there}
 use Rattle.echo_addr.specs.declared.address.Address.{Address}
-use Rattle.base_store.specs.Store.{IsSameStore, LooksOn, StoreState}
+use Rattle.base_store.specs.Store.{IsSameStore, StoreState}
 use Rattle.base_store.proofs.Runs.{same_store, same_twice}
 use Rattle.station.specs.Beneath.{AreSettledByOwn}
 use Rattle.station_scan.specs.Beneath.{IsUsedAt}
@@ -37,15 +36,6 @@ module _ (paths : List ℕ → Type 0) where
     same = same_twice s0 s1 s2 one.same two.same;
     holds = holds_still s0 s1 s2 one.holds two.holds;
     changes = then_only paths s0.disk s1.disk s2.disk one.changes two.changes;
-  }
-
-  pub looked_used : (s0 s1 s2 : StoreState) → LooksOn s0 s1 → IsUsedAt paths s1 s2 → IsUsedAt paths s0 s2
-  looked_used s0 s1 s2 looks two = record {
-    settled = λ base before after same stands.
-        (looks.same.stands base after).0 (two.settled base before after (λ m own. same m ((looks.same.own m).0 own)) ((looks.same.stands base before).1 stands));
-    same = same_twice s0 s1 s2 looks.same two.same;
-    holds = record { ready = two.holds.ready; keeps = λ base h. two.holds.keeps base (looks.keeps base h); committed = λ base h. two.holds.committed base (looks.committed base h) };
-    changes = then_only paths s0.disk s1.disk s2.disk (only_nothing paths s0.disk s1.disk looks.quiet) two.changes;
   }
 
   pub used_settled : (s0 s1 : StoreState) → IsUsedAt paths s0 s1 → AreSettledByOwn s1

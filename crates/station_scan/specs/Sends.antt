@@ -1,24 +1,16 @@
 -- The packets of a scan and the commit of a store.
-use Rattle.std.specs.Prelude.{◌≡◌, ◌⊎◌, ℕ, List, length, map, All, Result, IsErrOf}
+use Rattle.std.specs.Prelude.{◌≡◌, ◌⊎◌, ℕ, List, length, All}
 use Rattle.base_file.specs.Base.{Base}
 use Rattle.disk_io.specs.Disk.{DiskState, Files, Honestly}
-use Rattle.disk_io.specs.Runs.{LeavesOnly, OneStepOn}
+use Rattle.disk_io.specs.Runs.{OneStepOn}
 use Rattle.disk_atomic.specs.Changes.{DifferAt}
 use Rattle.disk_atomic.specs.Trying.{WasTried}
-use Rattle.disk_atomic.specs.declared.placing_error.PlacingError.TheVariants as placing
 use Rattle.disk_atomic.specs.StagingPaths.{staging_path}
-use Rattle.cmd_report.specs.Scanned.{file_with}
-use Rattle.cmd_report.specs.declared.scanning.PlannedPacket.{PlannedPacket}
-use Rattle.echo_toss.specs.Counts.{bytes_for}
 use Rattle.model_steps.specs.PacketFiles.{PacketFile}
-use Rattle.station_scan.specs.declared.pieces.Source.{Source}
 use Rattle.base_store.specs.Store.{Commits, StoreState}
-use Rattle.station_scan.specs.Fitting.{AreTaken}
 use Rattle.station_scan.specs.Left.{IsOfNameOff}
 use Rattle.station_scan.specs.Publishing.{IsOnDisk}
 use Rattle.station_scan.specs.Sending.{HasBytes, IsAtItsPath, IsStagingOfPacket, IsFreeAt, IsStagingGone, IsOfPacket, StandsWhole}
-use Rattle.station_scan.specs.declared.publish_error.PublishError.{PublishError}
-use Rattle.station_scan.specs.declared.publish_error.PublishError.TheVariants.{Packets}
 
 -- one of these paths, or one of the two paths of a packet
 abbrev pub IsOfThese : (List ℕ → Type 0) → List ℕ → List ℕ → List PacketFile → List ℕ → Type 0
@@ -39,15 +31,6 @@ pub record CommitsThese (old : StoreState) (outbound own : List ℕ) (files : Li
 abbrev pub SendsThese : StoreState → List ℕ → List ℕ → List PacketFile → Base → Base → Files → Type 0
 SendsThese old outbound own files first next c = WritesBeside old outbound own files first c ⊎ CommitsThese old outbound own files first next c
 
--- A crash at any moment leaves such files.
-abbrev pub MaySendThese : List ℕ → List ℕ → (Base → List PacketFile) → StoreState → StoreState → Type 0
-MaySendThese outbound own files old new =
-    Honestly new.disk ((first next : Base) → old.committed first → old.keeps next → LeavesOnly old.disk new.disk (SendsThese old outbound own (files next) first next))
-
--- The files of planned packets, made of what the store holds.
-abbrev pub files_for : Source → List PlannedPacket → Base → List PacketFile
-files_for source planned base = map (file_with (bytes_for source.links.now source.stamp source.from base.messages)) planned
-
 -- Each packet is on the disk at its path alone, and what the store held is committed.
 pub record AreSentOn (outbound own : List ℕ) (files : Base → List PacketFile) (old new : StoreState) : Type 0 where
   pub committed : Commits old new
@@ -58,7 +41,3 @@ pub record AreSentOn (outbound own : List ℕ) (files : Base → List PacketFile
 -- If there are packets, the first step in the folder was to try whether a file gets a second path.
 abbrev pub WasTriedFor : {D F : Type 0} → (D → DiskState) → (List ℕ → Type 0) → List ℕ → List ℕ → List F → DiskState → Type 0
 WasTriedFor state Own outbound own files old = (length files ≡ 0) ⊎ WasTried state (IsOfNameOff Own outbound own) (staging_path outbound own) old
-
--- A used path is reported only if there was one.
-abbrev pub TakenIfTold : (List ℕ → Type 0) → List ℕ → List ℕ → List PacketFile → StoreState → StoreState → Result (Unit {0}) PublishError → Type 0
-TakenIfTold Own outbound own files old new result = Honestly new.disk (IsErrOf result (Packets placing.Taken) → AreTaken Own outbound own files old.disk.seen)

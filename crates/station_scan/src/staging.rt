@@ -18,9 +18,8 @@ fn try_first<D: Disk>(
     packets: &[Outgoing<'_>],
 ) -> Result<bool, DiskError>
     requires placed { ArePlaced outbound.now packets.now }
-    requires trial { IsTrial outbound.now packets.now trial.now }
+    requires trial { IsTrial outbound.now packets.now trial.now × (D.state disk.old).is_named trial.now }
     requires staged { All (IsStaged (staged_in (D.state disk.old).seen) (D.state disk.old)) packets.now }
-    requires named { (D.state disk.old).is_named trial.now }
     ensures tried { IfOk result (λ tried. tried ≡ true → IsTriedWith D.state packets.now trial.now (D.state disk.old)) }
     ensures taken { Honestly (D.state disk.new) (IfOk result (λ tried. tried ≡ false → ⊥)) }
     ensures gone { IfOk result (λ tried. tried ≡ true → (m : List ℕ) → IsIn outbound.now m → m ≢ trial.now → (D.state disk.new).seen m ≡ None → (D.state disk.new).is_flushed m) }

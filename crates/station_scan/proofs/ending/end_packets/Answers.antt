@@ -1,9 +1,9 @@
-use Rattle.std.proofs.Common.{◌≡◌, ◌∙◌, get_or, subst, true}
+use Rattle.std.proofs.Common.{◌≡◌, ◌∙◌, subst, true}
 use Rattle.std.specs.Prelude.{All, OnOk, Result}
 use Rattle.disk_io.specs.declared.disk_error.DiskError.{DiskError}
 use Rattle.disk_atomic.specs.Outgoing.{IsAtStaging, IsLonger, staged_in}
 use Rattle.echo_packet.specs.Header.{word}
-use Rattle.station_scan.specs.Publishing.{IsTriedWith, IsWritten, ended_in}
+use Rattle.station_scan.specs.Publishing.{IsTriedWith, IsWritten}
 use Rattle.station_scan.proofs.Through.{ok_gives, on_ok_gives}
 use Rattle.station_scan.proofs.Written.{tried_written, used_twice}
 use Rattle.station_scan.proofs.ending.end_packets.Goals as goal

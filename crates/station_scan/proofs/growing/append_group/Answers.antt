@@ -1,4 +1,4 @@
-use Rattle.std.proofs.Common.{◌<◌, ◌++◌, ℕ, List, length, refl, subst}
+use Rattle.std.proofs.Common.{◌<◌, ℕ, List, length, refl, subst}
 use Rattle.std.specs.Prelude.{All, OnOk, Result}
 use Rattle.disk_io.specs.Disk.{Honestly, IsIn}
 use Rattle.disk_io.specs.declared.disk_error.DiskError.{DiskError}

@@ -1,4 +1,4 @@
-use Rattle.std.proofs.Common.{◌≡◌, ◌<◌, ◌∙◌, ◌++◌, List, inl, inr, length, refl, subst, sym, true}
+use Rattle.std.proofs.Common.{◌≡◌, ◌<◌, ◌∙◌, List, inl, inr, length, refl, subst, sym, true}
 use Rattle.disk_atomic.specs.declared.outgoing.Outgoing.{Outgoing}
 use Rattle.station_scan.specs.Sending.{AreSent}
 use Rattle.station_scan.specs.declared.sending.TwoPaths.{TwoPaths}

@@ -1,4 +1,4 @@
-use Rattle.std.proofs.Common.{◌≡◌, ◌≢◌, ◌<◌, ◌∙◌, ⊎_elim, arith, inl, length, refl, sym}
+use Rattle.std.proofs.Common.{◌≢◌, ◌<◌, ◌∙◌, ⊎_elim, arith, inl, length, refl, sym}
 use Rattle.std.proofs.lemmas.Bool.{eqb-false, eqb-true}
 use Rattle.disk_io.specs.Device.{Failed}
 use Rattle.station_scan.specs.Passing.{addresses_of, made_to}

@@ -12,7 +12,7 @@ use Rattle.cmd_store.specs.Stops.{store_answer}
 use Rattle.cmd_store.specs.declared.command_error.CommandError.{CommandError}
 use Rattle.station_scan.specs.Beneath.{IsUsedAt}
 use Rattle.station_scan.specs.Beside.{SendsBeside}
-use Rattle.station_scan.specs.Passing.{IsStagingTo, addresses_of, made_to}
+use Rattle.station_scan.specs.Passing.{IsStagingTo, addresses_of}
 use Rattle.station_scan.specs.Scanning.{packets_in}
 use Rattle.station_scan.specs.declared.scan_error.ScanError.{ScanError}
 use Rattle.station_scan.specs.declared.scan_error.ScanError.TheVariants.{Command, Staying}

@@ -1,4 +1,4 @@
-use Rattle.std.proofs.Common.{◌≡◌, ◌≤◌, ◌++◌, ⊎_elim, ℕ, List, arith, length, refl, subst, sym}
+use Rattle.std.proofs.Common.{◌≡◌, ◌++◌, ⊎_elim, ℕ, arith, length, refl, subst, sym}
 use Rattle.std.specs.Prelude.{IfOk, OnOk, Result}
 use Rattle.base_file.specs.Base.{Base}
 use Rattle.base_store.specs.declared.store_error.StoreError.{StoreError}

@@ -1,4 +1,4 @@
-use Rattle.std.proofs.Common.{◌≡◌, Err, List, Ok, Result, map, subst, sym, ◌∙◌}
+use Rattle.std.proofs.Common.{◌≡◌, List, Ok, Result, subst, ◌∙◌}
 use Rattle.cmd_report.specs.declared.scanning.PlannedPacket.{PlannedPacket}
 use Rattle.cmd_status.specs.Devices.{output_of}
 use Rattle.cmd_store.specs.Answered.{AnswersOn, RefusesNone}

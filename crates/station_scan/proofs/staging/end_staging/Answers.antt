@@ -19,8 +19,8 @@ pub try_first-requires-clause-staged : goal.try_first-requires-clause-staged
 try_first-requires-clause-staged g c =
     synced c.args.outbound.now c.args.packets.now c.requires.placed (g.D.Disk.state c.args.disk.now) (g.D.Disk.state c.sync_packets.new.disk) c.requires.opened c.sync_packets.ensures.quiet c.in_ok-sync_packets.ensures.flushed
 
-pub try_first-requires-clause-named : goal.try_first-requires-clause-named
-try_first-requires-clause-named g c = c.sync_packets.ensures.quiet.named c.args.trial.now (λ h. h) (c.requires.opened.named c.args.trial.now c.requires.trial.inside)
+pub try_first-requires-clause-trial : goal.try_first-requires-clause-trial
+try_first-requires-clause-trial g c = (c.requires.trial, c.sync_packets.ensures.quiet.named c.args.trial.now (λ h. h) (c.requires.opened.named c.args.trial.now c.requires.trial.inside))
 
 pub returns-in_err-sync_packets-clause-changes : goal.returns-in_err-sync_packets-clause-changes
 returns-in_err-sync_packets-clause-changes g c =

@@ -17,13 +17,13 @@ try_link-requires-clause-can g c =
     let has = staged_in (g.D.Disk.state c.args.disk.now).seen in
     let some : 0 < length packets = let not : length packets ≢ 0 = eqb-false _ _ (sym c.is_empty.ensures ∙ c.if-is_empty.false) in omega arith in
     let is : x ≡ get_or packets 0 x = get_or_default packets 0 nobody x some in
-    let first = first_staged c.args.outbound.now c.args.trial.now packets c.requires.placed c.requires.trial has x is some (g.D.Disk.state c.args.disk.now) c.requires.staged in
+    let first = first_staged c.args.outbound.now c.args.trial.now packets c.requires.placed c.requires.trial.0 has x is some (g.D.Disk.state c.args.disk.now) c.requires.staged in
     record {
-      other = first_other c.args.outbound.now c.args.trial.now packets c.requires.placed c.requires.trial has x is some;
+      other = first_other c.args.outbound.now c.args.trial.now packets c.requires.placed c.requires.trial.0 has x is some;
       there = λ honest. some_is_there _ _ first.file.seen;
       durable = first.file.flushed;
       staging_named = first.file.named;
-      path_named = c.requires.named;
+      path_named = c.requires.trial.1;
     }
 
 pub returns-then-is_empty-clause-tried : goal.returns-then-is_empty-clause-tried
@@ -38,7 +38,7 @@ returns-clause-tried g c =
     let is : x ≡ get_or packets 0 x = get_or_default packets 0 nobody x some in
     let d = g.D.Disk.state c.args.disk.now in
     IfOk-weaker c.try_link.result (λ b. b ≡ true → WasTried g.D.Disk.state (λ m. (m ≡ x.staging.now) ⊎ (m ≡ c.args.trial.now)) c.args.trial.now d) (λ b. b ≡ true → IsTriedWith g.D.Disk.state packets c.args.trial.now d)
-    (λ b was yes. inr (tried_after g.D.Disk.state (λ m. (m ≡ x.staging.now) ⊎ (m ≡ c.args.trial.now)) (IsAtStaging packets c.args.trial.now) c.args.trial.now d d (at_staging c.args.outbound.now c.args.trial.now packets c.requires.placed c.requires.trial has x is some) (λ m out. refl) (was yes))) c.try_link.ensures.tried
+    (λ b was yes. inr (tried_after g.D.Disk.state (λ m. (m ≡ x.staging.now) ⊎ (m ≡ c.args.trial.now)) (IsAtStaging packets c.args.trial.now) c.args.trial.now d d (at_staging c.args.outbound.now c.args.trial.now packets c.requires.placed c.requires.trial.0 has x is some) (λ m out. refl) (was yes))) c.try_link.ensures.tried
 
 pub returns-clause-staged : goal.returns-clause-staged
 returns-clause-staged g c =
@@ -47,7 +47,7 @@ returns-clause-staged g c =
     let has = staged_in (g.D.Disk.state c.args.disk.now).seen in
     let some : 0 < length packets = let not : length packets ≢ 0 = eqb-false _ _ (sym c.is_empty.ensures ∙ c.if-is_empty.false) in omega arith in
     let is : x ≡ get_or packets 0 x = get_or_default packets 0 nobody x some in
-    still_staged c.args.outbound.now c.args.trial.now packets c.requires.placed c.requires.trial has x is some (g.D.Disk.state c.args.disk.now) (g.D.Disk.state c.try_link.new.disk) c.try_link.ensures.tries c.requires.staged
+    still_staged c.args.outbound.now c.args.trial.now packets c.requires.placed c.requires.trial.0 has x is some (g.D.Disk.state c.args.disk.now) (g.D.Disk.state c.try_link.new.disk) c.try_link.ensures.tries c.requires.staged
 
 pub returns-clause-changes : goal.returns-clause-changes
 returns-clause-changes g c =
@@ -56,4 +56,4 @@ returns-clause-changes g c =
     let has = staged_in (g.D.Disk.state c.args.disk.now).seen in
     let some : 0 < length packets = let not : length packets ≢ 0 = eqb-false _ _ (sym c.is_empty.ensures ∙ c.if-is_empty.false) in omega arith in
     let is : x ≡ get_or packets 0 x = get_or_default packets 0 nobody x some in
-    tried_changes c.args.outbound.now c.args.trial.now packets c.requires.placed c.requires.trial has x is some (g.D.Disk.state c.args.disk.now) (g.D.Disk.state c.try_link.new.disk) c.try_link.ensures.tries
+    tried_changes c.args.outbound.now c.args.trial.now packets c.requires.placed c.requires.trial.0 has x is some (g.D.Disk.state c.args.disk.now) (g.D.Disk.state c.try_link.new.disk) c.try_link.ensures.tries

@@ -1,4 +1,4 @@
-use Rattle.std.proofs.Common.{◌≡◌, ◌≢◌, ◌<◌, ◌∙◌, ℕ, arith, length, refl, sym}
+use Rattle.std.proofs.Common.{◌≢◌, ◌<◌, ◌∙◌, arith, length, refl, sym}
 use Rattle.std.proofs.lemmas.Bool.{eqb-false}
 use Rattle.station_scan.proofs.Passes.{drop_going, drop_gone, drop_used_at}
 use Rattle.station_scan.proofs.Through.{on_ok_gives}

@@ -1,9 +1,7 @@
-use Rattle.std.proofs.Common.{◌≡◌, ◌<◌, List, length, refl, subst, sym}
+use Rattle.std.proofs.Common.{List, refl, subst, sym}
 use Rattle.echo_toss.specs.declared.counting.CountedPacket.{CountedPacket}
 use Rattle.station_scan.specs.Passing.{HasStaged}
 use Rattle.std.specs.Prelude.{Err, Result}
-use Rattle.disk_io.specs.Runs.{HasCause}
-use Rattle.disk_io.specs.declared.disk_error.DiskError.{DiskError}
 use Rattle.station_scan.specs.Publishing.{HasPublishCause}
 use Rattle.station_scan.specs.Writing.{HasStopCause}
 use Rattle.station_scan.specs.declared.passing.PassStop.{PassStop}
