@@ -1,5 +1,5 @@
 -- A folder that is looked at can be read, and what is wrong with it. The log goes on meanwhile.
-use Rattle.std.proofs.Common.{◌≡◌, ◌≤◌, ◌∙◌, ◌-◌, ap, ℕ, Bool, List, [], ◌∷◌, length, take, drop, Result, Ok, Err, sym, subst, arith}
+use Rattle.std.proofs.Common.{◌≡◌, ◌∙◌, ◌-◌, ap, ℕ, Bool, List, [], ◌∷◌, length, take, drop, Result, Ok, Err, sym, subst, arith}
 use Rattle.std.specs.Result.{IfErr, IfOk, IsErrAnd}
 use Rattle.disk_io.specs.Disk.{DiskState, Files, Honestly}
 use Rattle.disk_io.specs.Runs.{ChangesNothing}

@@ -1,5 +1,5 @@
 -- Messages that are read one by one, wherever they are kept.
-use Rattle.std.specs.Prelude.{◌≡◌, ◌≤◌, ◌/◌, ℕ, List, length, Option}
+use Rattle.std.specs.Prelude.{◌≡◌, ◌/◌, ℕ, List, length, Option}
 use Rattle.disk_io.specs.Disk.{DiskState}
 use Rattle.base_file.specs.Base.{Base}
 use Rattle.echo_filed.specs.Filed.{Filed}

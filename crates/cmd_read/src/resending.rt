@@ -2,7 +2,7 @@
 ghost use Rattle.std.specs.Prelude.{◌≡◌, None};
 
 use base_file::BaseFault;
-use base_folder::{address_of, log_end};
+use base_folder::{judge_owner, log_end};
 use cmd_input::{
     LinkLock, base_bytes, folder_path, is_folder, is_strange, moment_of, output_fault,
 };
@@ -90,18 +90,9 @@ fn check_owner<'a, D: Disk>(
     let strange = is_strange(rt, base)?;
     let path = folder_path(rt, base)?;
     match log_end(rt.alloc(), disk, path.as_bytes(), strange) {
-        Ok(end) => judge_owner(end.told.mark.owner, own),
+        Ok(end) => judge_owner(end.told.mark, own).map_err(|why| why.fault(base)),
         Err(why) => Err(why.fault(base)),
     }
-}
-
-// The same by the owner that the folder keeps, 0 where it has none.
-fn judge_owner<'a>(owner: u64, own: Address) -> Result<(), Fault<'a>> {
-    let address = address_of(owner);
-    if owner == 0 || address == own {
-        return Ok(());
-    }
-    Err(Fault::NotOwner(address))
 }
 
 // Prints the line of a packet and writes it, where it has a message.

@@ -1,4 +1,4 @@
-use Rattle.std.proofs.Common.{◌≡◌, ◌∙◌, ◌<◌, ◌≤◌, ◌/◌, List, ℕ, ap, refl, sym, subst}
+use Rattle.std.proofs.Common.{◌≡◌, ◌∙◌, List, ℕ, ap, refl, sym, subst}
 use Rattle.disk_io.specs.Disk.{DiskState}
 use Rattle.disk_io.specs.Runs.{ChangesNothing}
 use Rattle.base_log.specs.Standing.{BaseBytes, base_at}
