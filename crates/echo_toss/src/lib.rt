@@ -44,7 +44,7 @@ pub use model_steps::{Draft, Outcome, Packet, PostFault, ScanFault, Stamp};
 pub use packets::{check_destination, toss_packet_in};
 pub use packing::header_to;
 pub use posting::post_step;
-pub use resending::{Resend, resend_in};
+pub use resending::{Resend, push_resent, resend_in};
 pub use scanning::scan_step;
 pub use step_error::{PostStepError, ScanStepError, StoppedToss, TossStepError};
 pub use tally::Tally;
