@@ -1,27 +1,29 @@
-# `make` proves what has changed and builds bin/echonet, `make test` is the gate, `make demo` runs the
-# first example, `make show-examples` compares what `show` prints of the packets in examples/ with what
-# it is to print, and `make cases` what each command prints and leaves in the runs of examples/cases. `make
-# story` runs three systems on real files, `make net-test` the scripts of
-# examples/net; `make manual-test` compares the manual page with the program's help; `make small-nets` holds the
-# verdicts on all small nets against the definitions; `make follow` does
-# what docs/OPERATORS.md says (it needs binkd); `make interop` runs a net with another tosser, and holds that
-# to the rules of docs/INTEROP.md (it needs binkd and crashmail); `make trials` tries the program from
-# outside (docs/TRIALS.md). `make install` puts what was built, the program, its page, the scripts, the documents
-# and what shells complete, under PREFIX, or under DESTDIR and PREFIX, and `make uninstall` takes it away; `make
-# deb` makes a Debian package of the same.
+# `make` proves what has changed and builds bin/echonet. `make test` is the gate. `make demo` runs the first example.
+#
+# These compare the built program with what is expected:
+# - `make show-examples`: what `show` prints of the packets in examples/packets.
+# - `make cases`: what each command prints and leaves in the tables of examples/cases.
+# - `make story`: three systems on real files. `make net-test`: the scripts of examples/net.
+# - `make manual-test`: the manual page against the program's help.
+# - `make small-nets`: the verdicts on all small nets against the definitions.
+# - `make follow`: the sessions of docs/OPERATORS.md. It needs binkd.
+# - `make interop`: a net with another tosser, and the rules of docs/INTEROP.md. It needs binkd and crashmail.
+# - `make trials` tries the program from outside (docs/TRIALS.md).
+#
+# `make install` copies the program, its manual page, the scripts, the documents and the shell completions to PREFIX,
+# below DESTDIR if that is set. `make uninstall` removes them. `make deb` makes a Debian package of the same files.
 .PHONY: all test edits edit-table crate-table times seconds demo show-examples cases story net-test manual-test small-nets follow interop trials install uninstall deb toolchain clean
 PREFIX = /usr/local
 
-# The program that the examples are run with. After the gate that is the one that it built and left in
-# crates/echonet/out.
+# The program that these targets run. After the gate, that is the one in crates/echonet/out.
 program ?= bin/echonet
 
 lower = $(shell sed -n 's/^$(1):\(.*\)/\1/p' crates.txt)
 ours := $(shell sed -n 's/^\([a-z_]*\):.*/\1/p' crates.txt)
 
-# Proves crates and what they stand on side by side, as many as memory holds: first those with the longest chain of others
-# behind them. make takes their number from a command line alone. What has to be proved anew is known to the make that is
-# called here. Words: crates, and what else to make.
+# Proves crates and the crates below them, as many at a time as memory allows. Crates with the longest chain of crates
+# above them come first. make accepts the number of jobs only on a command line, so this calls make again. The called
+# make finds out what has to be proved again. Arguments: crates, and other targets.
 prove = +@mkdir -p bin && scripts/order.sh $(1) > bin/order && \
   $(MAKE) --no-print-directory --jobs=$$(scripts/jobs.sh) proving=1 $$(sed 's/^\([a-z_]*\).*/bin\/proved\/\1/' bin/order) $(2)
 
@@ -31,12 +33,12 @@ toolchain:
 	@command -v rt >/dev/null || { echo "echonet: the Rattle toolchain's command rt is not on the PATH" >&2; exit 1; }
 
 ifdef proving
-# One rule for each crate: it is proved after those that it stands on.
+# One rule for each crate: it is proved after the crates below it.
 define crate_rule
 bin/proved/$(1): crates.txt $$(shell find crates/$(1) -name out -prune -o \( -name '*.rt' -o -name '*.antt' \) -print) $$(patsubst %,bin/proved/%,$$(filter $$(ours),$$(call lower,$(1)))) | toolchain
 	@scripts/prove.sh $(1) $$(run_$(1))
 endef
-# How a program is run once it is built.
+# How a program is run after it is built.
 run_echonet = run --help
 run_test_trials = run
 $(foreach name,$(ours),$(eval $(call crate_rule,$(name))))
@@ -45,13 +47,13 @@ bin/echonet: bin/proved/echonet
 	@cp crates/echonet/out/echonet bin/echonet
 else
 .PHONY: bin/echonet
-# With the program that trials run: it replays events, and crashes commands on a disk in memory.
+# For `make trials` this also proves a program that replays events, and crashes commands on a disk in memory.
 bin/echonet: toolchain
 	$(call prove,echonet $(if $(filter trials,$(MAKECMDGOALS)),test_trials),bin/echonet)
 endif
 
-# One process for each crate, since each process loads all that stands below it. Alone `rt ci` gives a crate up to four,
-# and lets some wait for memory that they do not take.
+# One process for each crate, since each process loads all crates below it. By default `rt ci` gives a crate up to
+# four. Then some crates wait for memory that nothing uses.
 test: toolchain
 	RT_JOBS=$$(scripts/jobs.sh 0) rt ci
 
@@ -59,11 +61,14 @@ edits: toolchain
 	$(call prove,$(or $(only),$(notdir $(wildcard edits/*))))
 	scripts/edits.sh $(only)
 
+# Replaces a table in a document. Arguments: the script that prints it, the word of its marks, the document.
+put_table = $(1) | sed -i -e '/^<!-- $(2) -->/,/^<!-- end of $(2) -->/{//!d}' -e '/^<!-- $(2) -->/r /dev/stdin' $(3)
+
 edit-table:
-	scripts/edit_table.sh | sed -i -e '/^<!-- edits -->/,/^<!-- end of edits -->/{//!d}' -e '/^<!-- edits -->/r /dev/stdin' docs/PROOFS.md
+	$(call put_table,scripts/edit_table.sh,edits,docs/PROOFS.md)
 
 crate-table:
-	scripts/crate_table.sh | sed -i -e '/^<!-- crates -->/,/^<!-- end of crates -->/{//!d}' -e '/^<!-- crates -->/r /dev/stdin' docs/ARCHITECTURE.md
+	$(call put_table,scripts/crate_table.sh,crates,docs/ARCHITECTURE.md)
 
 times: toolchain
 	@mkdir -p bin
@@ -105,7 +110,7 @@ follow: bin/echonet
 interop: bin/echonet
 	interop/run.sh bin/echonet
 
-# What was built before; the toolchain is not needed.
+# This installs the files of an earlier build. It does not need the toolchain.
 install:
 	scripts/install.sh "$(DESTDIR)" "$(PREFIX)"
 

@@ -1,8 +1,8 @@
 """How long `check --all` takes on a net of many areas, by processor time. The yardstick is one reading of its link
-files: `check` of an area that no file has, which reads them all and judges nothing. The areas are trees
-of ten of all systems, and the files come in no order.
+files: `check` of an area that no file has reads them all and judges nothing. Each area is a tree of all systems with
+ten below each. The files are in no order.
 
-Words: AREAS SYSTEMS (300 1000). ECHONET names the program, bin/echonet without it.
+Arguments: AREAS SYSTEMS (300 1000). ECHONET names the program, by default bin/echonet.
 """
 import os
 import random
@@ -15,10 +15,11 @@ sys.path.insert(0, os.path.join(TOP, "trials"))
 import files
 import making
 import nets
+from contents import write
 
 
 def put_net(folder, areas, count):
-    """Writes the link files of the net, and a list of their paths, which it answers."""
+    """Writes the link files of the net, and a list of their paths. Returns the list."""
     chosen = random.Random(1)
     paths = []
     for number, others in enumerate(files.tree(count)):
@@ -26,9 +27,9 @@ def put_net(folder, areas, count):
         tags = ["GROUP.AREA.%d" % area for area in range(areas)]
         chosen.shuffle(tags)
         path = os.path.join(folder, "%d.links" % number)
-        paths.append(files.put(path, making.link_file(nets.address(number), [(tag, links) for tag in tags])))
+        paths.append(write(path, making.link_file(nets.address(number), [(tag, links) for tag in tags])))
     chosen.shuffle(paths)
-    return files.put(os.path.join(folder, "names"), "".join(path + "\n" for path in paths).encode())
+    return write(os.path.join(folder, "names"), "".join(path + "\n" for path in paths).encode())
 
 
 def seconds(wanted, *words):

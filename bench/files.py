@@ -1,14 +1,14 @@
-"""How long commands take of link files and of scripts: processor time of three runs and the most memory. The yardstick
-is `cat` over the same files.
+"""How long commands take for link files and for scripts: processor time of three runs, and the most memory. The
+yardstick is `cat` over the same files.
 
-Words: pairs of a name and a size; with none, those of SIZES. ECHONET names the program, bin/echonet without it.
+Arguments: pairs of a name and a size, by default those of SIZES. ECHONET names the program, by default bin/echonet.
 
     star, chain, tree, polygons   `check` of a net of so many systems, a tree of ten, a chain of polygons of ten
     polygon                       `check` of so many systems that are all linked with each other
     areas, links                  `links` of a link file of so many areas, of one area of so many links
-    again                         `replay` of one packet of a thousand messages that comes so often
+    again                         `replay` of one packet of a thousand messages, that is tossed so many times
     postings                      `replay` of so many postings at one system
-    rounds                        `replay` of so many messages, each of which goes through a tree of ten of 1,000 systems
+    rounds                        `replay` of so many messages through a tree of ten of 1,000 systems
 """
 import os
 import shutil
@@ -20,6 +20,7 @@ sys.path.insert(0, os.path.join(TOP, "trials"))
 import making
 import nets
 import running
+from contents import write
 
 PROGRAM = os.environ.get("ECHONET", os.path.join(TOP, "bin", "echonet"))
 ROUNDS = 3
@@ -27,18 +28,11 @@ SIZES = ["star", 100000, "chain", 100000, "tree", 100000, "polygons", 100000, "p
          "links", 80000, "again", 1, "again", 100000, "postings", 100000, "rounds", 1000]
 
 
-def put(path, content):
-    """Writes a file, and answers its path."""
-    with open(path, "wb") as file:
-        file.write(content)
-    return path
-
-
 def put_net(folder, links):
-    """Writes the link files of a net, and a list of their paths, which it answers."""
+    """Writes the link files of a net, and a list of their paths. Returns the list."""
     names, _ = nets.write_net(folder, links)
     paths = [os.path.join(folder, name) for name in names]
-    return put(os.path.join(folder, "names"), "".join(path + "\n" for path in paths).encode())
+    return write(os.path.join(folder, "names"), "".join(path + "\n" for path in paths).encode())
 
 
 def runs(wanted, *words):
@@ -61,7 +55,7 @@ def polygon(count):
 
 
 def check(make):
-    """The yardstick and the command of a row of such nets."""
+    """The yardstick and the command of a row for such nets."""
     def row(top, size):
         names = put_net(os.path.join(top, "net"), make(size))
         return ["xargs", "-a", names, "cat"], [PROGRAM, "check", "--links-from", names, "TEST"]
@@ -69,18 +63,18 @@ def check(make):
 
 
 def links(areas_of):
-    """Those of a row of one link file with such areas."""
+    """Those of a row for one link file with such areas."""
     def row(top, size):
-        path = put(os.path.join(top, "one.links"), making.link_file(nets.address(0), areas_of(size)))
+        path = write(os.path.join(top, "one.links"), making.link_file(nets.address(0), areas_of(size)))
         return ["cat", path], [PROGRAM, "links", path]
     return row
 
 
 def replay(systems, lines_of):
-    """Those of a row of such a script, on a tree of ten."""
+    """Those of a row for such a script, on a tree of ten."""
     def row(top, size):
         names = put_net(os.path.join(top, "net"), tree(systems))
-        script = put(os.path.join(top, "script"), "".join(lines_of(size)).encode())
+        script = write(os.path.join(top, "script"), "".join(lines_of(size)).encode())
         return ["cat", script], [PROGRAM, "replay", "--links-from", names, script]
     return row
 
@@ -91,13 +85,13 @@ def postings(count):
 
 
 def again(times):
-    """The lines of a packet that comes so often."""
+    """The lines of a packet that is tossed so many times."""
     return postings(1000) + ["SCAN 0\n"] + ["DELIVER 0\n"] * times
 
 
 def rounds(messages):
-    """Postings, each of which goes through all of a thousand systems: the packet to a system comes after that to the
-    one before it."""
+    """Postings, each passed on by all of a thousand systems. The packet to a system follows the packet to the system
+    before it."""
     for message, posting in enumerate(postings(messages)):
         yield posting + "SCAN 0\n"
         for system in range(1, 1000):

@@ -1,9 +1,9 @@
 #!/usr/bin/env bash
-# How fast the messages of one packet are tossed, on a file system in memory: into an empty base folder and an empty base
-# file, and the same packet again into both. A packet whose area the link file lacks is read, and nothing is filed.
-# Each row has messages a second of time and of processor time, the middle one of three runs by its processor time, and
-# the most memory. The yardstick is a plain sum over the bytes of the packet, by `sum -s`.
-# Words: how many messages of 1.2 kB, the folder to work in; without words 100,000, in /dev/shm.
+# How fast the messages of one packet are tossed, on a file system in memory: into an empty base folder and an empty
+# base file, and the same packet again into both. A packet of an area that the link file lacks is read, but not filed.
+# Each row has messages a second of time and of processor time, from the middle one of three runs by its processor
+# time, and the most memory. The yardstick is a plain sum over the bytes of the packet, by `sum -s`. Arguments: how
+# many messages of 1.2 kB, the folder to work in; by default 100,000, in /dev/shm.
 set -eu
 cd "$(dirname "$0")/.."
 top=$PWD

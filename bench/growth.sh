@@ -1,12 +1,11 @@
 #!/usr/bin/env bash
-# How the cost of the commands grows with the base. The rows: loading it (a posting that is refused), `list` of the last
-# ten messages, a posting that is filed, tossing a packet of a hundred messages, scanning these to two links, purging all,
-# and loading what is purged. Each has time, processor time and memory, and how many times those of the size before.
-# Each is run three times on the same base, and the middle one by its processor time is printed. That time has no wait for
-# the disk in it. The yardstick is `sum -s` over the base file, or over the keys of the folder.
-# Words: the sizes; with none, 1,000 to 1,000,000 messages of 1.2 kB. With `purged` before the sizes, the bases
-# have purged messages alone; then the largest with no words is 10,000,000. With `folders` before all of that the bases
-# are folders.
+# How the cost of the commands grows with the base. The rows: loading it (a refused posting), `list` of the last ten
+# messages, a posting that is filed, tossing a packet of a hundred messages, scanning these to two links, purging all,
+# and loading the purged base. Each has time, processor time and memory, and their ratios to those of the size before.
+# Each runs three times on the same base. The row is the middle one by its processor time, which includes no wait for
+# the disk. The yardstick is `sum -s` over the base file, or over the keys of the folder. Arguments: the sizes, by
+# default 1,000 to 1,000,000 messages of 1.2 kB. With `purged` before the sizes all messages are purged. Then the
+# largest default size is 10,000,000. With `folders` before all of that the bases are folders.
 set -eu
 cd "$(dirname "$0")/.."
 top=$PWD
@@ -24,7 +23,7 @@ stamp=2026-07-03T12:34:56
 words="--to x --from x --subject x --serial 00000001 --at $stamp"
 work_in "${TMPDIR:-/tmp}"
 
-# Prints the middle row of a command. Words: its name, the messages of the base.
+# Prints the middle row of a command. Arguments: its name, the messages of the base.
 tell() {
   local name=$1 many=$2 before
   before=$(cat "last.$name" 2> /dev/null || true)
@@ -35,7 +34,7 @@ tell() {
     printf "\n" }'
 }
 
-# Puts the base in place that was made.
+# Copies the made base to its place.
 put_base() {
   rm -rf out base
   mkdir out

@@ -1,8 +1,8 @@
 #!/usr/bin/env bash
-# How what a scan takes grows with the links: of 8,000 messages of 1.2 kB to one link, to ten and to a hundred, from a
-# base file and from a base folder. Each row has time, processor time and memory, and how many times the memory of the
-# row before. Each is run three times, and the middle one by its processor time is printed. The yardstick is `cksum` of
-# the packets that it made. Words: how many messages, and then how many links.
+# How the cost of a scan grows with the links: of 8,000 messages of 1.2 kB to one link, to ten and to a hundred, from
+# a base file and from a base folder. Each row has time, processor time and memory, and the ratio of the memory to
+# that of the row before. Each runs three times, and the middle one by its processor time is printed. The yardstick is
+# `cksum` of the made packets. Arguments: how many messages, and then how many links.
 set -eu
 cd "$(dirname "$0")/.."
 top=$PWD

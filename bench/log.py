@@ -1,9 +1,9 @@
-"""How long a posting takes onto a base folder whose log has many records: processor time, time and memory, the middle
-one of three runs, and beside it the same with a log of one record and a plain sum over the bytes of the log.
+"""How long a posting takes on a base folder whose log has many records: processor time, time and memory, the middle
+one of three runs. The other rows are the same with a log of one record, and a plain sum over the bytes of the log.
 
-The folder is made by `convert`, and then its log is written anew by docs/FORMATS.md: a record for each of its messages,
-as if each had been committed by itself. Words: how many messages; with none, 1,000 to 1,000,000. ECHONET names the
-program, bin/echonet without it.
+`convert` makes the folder. Then its log is written again by docs/FORMATS.md, with a record for each message, as if
+each had its own commit. Arguments: how many messages, by default 1,000 to 1,000,000. ECHONET names the program, by
+default bin/echonet.
 """
 import os
 import struct
@@ -15,24 +15,13 @@ import time
 TOP = os.path.dirname(os.path.dirname(os.path.abspath(__file__)))
 sys.path.insert(0, os.path.join(TOP, "trials"))
 import making
+from contents import read, write
 
 PROGRAM = os.environ.get("ECHONET", os.path.join(TOP, "bin", "echonet"))
 ROUNDS = 3
 RECORD = 50
 BODY = 100
 STAMP = "2026-07-03T12:34:56"
-
-
-def write(path, content):
-    """Writes a file."""
-    with open(path, "wb") as file:
-        file.write(content)
-
-
-def read(path):
-    """The bytes of a file."""
-    with open(path, "rb") as file:
-        return file.read()
 
 
 def make_folder(place, count):
@@ -46,7 +35,7 @@ def make_folder(place, count):
 
 
 def long_log(folder):
-    """The log of a folder, with a record for each of its messages in place of its last one."""
+    """Replaces the log of a folder by one with a record for each of its messages."""
     last = read(os.path.join(folder, "log"))[-RECORD - 1:-1]
     gate, messages, keys, cursor, number = struct.unpack("<BQQQB", last[:26])
     assert gate == 1

@@ -1,18 +1,18 @@
-# What other scripts share. They set `top`, the folder of the repository, before they read this.
+# Shared by other scripts. They set `top`, the folder of the repository, before they source this.
 program=${ECHONET:-$top/bin/echonet}
 rounds=3
 export MOST_MEMORY=$((20 << 30))
 
 make_file() { python3 "$top/trials/make.py" "$@"; }
 
-# Makes a folder in this one, works in it, and removes it at the end.
+# Makes a folder in the current one, works in it, and removes it at the end.
 work_in() {
   work=$(mktemp -d "$1/echonet-bench.XXXXXX")
   trap 'rm -rf "$work"' EXIT
   cd "$work"
 }
 
-# Runs a command and keeps its processor time, its time and its kilobytes. Words: a name, the wanted status, the command.
+# Runs a command and keeps its processor time, time and kilobytes. Arguments: a name, the wanted status, the command.
 measure() {
   local name=$1 wanted=$2 status processor seconds kilobytes fault
   shift 2

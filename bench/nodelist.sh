@@ -1,8 +1,8 @@
 #!/usr/bin/env bash
-# How long `nodelist` takes of a list of many entries, printed and looked through, and of one long note. Each row has the
-# processor time of the middle one of three runs by it, the rate, and the memory. The first line states a wrong checksum,
-# so that it is taken; in a bare list it states none. The yardstick is `cksum` over the same bytes.
-# Words: how many entries, how many bytes the note has.
+# How long `nodelist` takes for a list of many entries, printed and searched, and for one long note. Each row has the
+# processor time of the middle one of three runs, the rate, and the memory. The first line states a wrong checksum, so
+# that the program computes it. In a bare list it states none. The yardstick is `cksum` over the same bytes.
+# Arguments: how many entries, how many bytes the note has.
 set -eu
 cd "$(dirname "$0")/.."
 top=$PWD

@@ -1,11 +1,10 @@
 #!/usr/bin/env bash
-# How fast packets are tossed here and by CrashMail II, where that is installed (Debian's package
-# crashmail): the same packets on the same disk, alternating. Each row has the messages a second of both
-# and their ratio, from the middle one of the rounds by time, and how long echonet waited for the disk to
-# take its files (fsync), which CrashMail never asks for; that is told where there is a C compiler, for the calls are timed
-# by waits.c, which is loaded in front of the C library. The rows that end in `folder` are those of a base folder here, the
-# others of a base file.
-# Words: how many messages, how many rounds, the folder to work in, and `files` or `folders` for these rows alone.
+# How fast echonet and CrashMail II toss packets: the same packets on the same disk, alternating. It needs crashmail
+# (Debian's package crashmail). Each row has the messages a second of both and their ratio, from the middle one of the
+# rounds by time. With a C compiler it also has how long echonet waited for the disk to take its files (fsync, which
+# CrashMail never calls). waits.c, which is loaded before the C library, times these calls. The rows that end in
+# `folder` are those of a base folder, the others of a base file. Arguments: how many messages, how many rounds, the
+# folder to work in, and `files` or `folders` for these rows only.
 set -eu
 cd "$(dirname "$0")/.."
 program=${ECHONET:-$PWD/bin/echonet}
@@ -22,7 +21,7 @@ stamp=2026-07-03T12:34:56
 make_file() { python3 "$top/trials/make.py" "$@"; }
 cd "$work"
 
-# The configuration of CrashMail at 1:10/1. Words: the kind of message base, the links, the areas.
+# The configuration of CrashMail at 1:10/1. Arguments: the kind of message base, the links, the areas.
 configure() {
   local kind=$1 links=$2 area
   shift 2
@@ -89,7 +88,7 @@ own_count() {
 
 want_count() { [ "$1" = "$2" ] || { echo "$3 has $1 messages in place of $2" >&2; exit 1; }; }
 
-# The shell's own clock in nanoseconds, of which it tells microseconds; no program is started for it.
+# The shell's own clock in nanoseconds, of which it has microseconds. It starts no program.
 now() { moment=${EPOCHREALTIME/./}000; }
 
 # Runs a command and adds its nanoseconds to a file.
@@ -103,7 +102,7 @@ timed() {
   echo $((moment - begin)) >> "$file"
 }
 
-# The same of echonet, with the nanoseconds of its calls of fsync beside it.
+# The same for echonet, with the nanoseconds of its calls of fsync.
 timed_own() {
   local begin
   echo 0 > waited
@@ -114,7 +113,7 @@ timed_own() {
   echo $((moment - begin)) "$(cat waited)" >> own.times
 }
 
-# CrashMail takes packets of eight digits from its inbound, and removes them.
+# CrashMail tosses packets with names of eight digits from its inbound folder, and removes them.
 peer_toss() {
   ln "$1" peer/in/00000001.pkt
   crashmail SETTINGS peer/prefs TOSS
@@ -123,7 +122,7 @@ peer_toss() {
 # The middle one of the lines of a file, by the first number.
 middle() { sort -n "$1" | sed -n "$((($(wc -l < "$1") + 1) / 2))p"; }
 
-# Prints a row from the times of both. Words: the name, how many messages a time is for.
+# Prints a row from the times of both. Arguments: the name, how many messages a time is for.
 row() {
   local name=$1
   if [ $kind = folder ]; then name="$1, folder"; fi
@@ -133,7 +132,7 @@ row() {
   rm -f peer.times own.times
 }
 
-# New messages into one area. Words: the name, the kind of CrashMail's base, the links.
+# New messages in one area. Arguments: the name, the kind of CrashMail's base, the links.
 new_messages() {
   for round in $(seq "$rounds"); do
     configure "$2" "$3" TEST
@@ -155,7 +154,7 @@ scan_too() {
   cat others last > own.times
 }
 
-# A packet again whose messages both know. CrashMail remembers no more than 65,536.
+# A packet whose messages both know. CrashMail remembers only 65,536.
 known_messages() {
   configure "$2" 1:10/2 TEST
   peer_toss known.pkt > said 2>&1
@@ -170,8 +169,8 @@ known_messages() {
   row "$1" "$known"
 }
 
-# A hundred packets of a hundred messages, each tossed by a run of its own, on top of a large base of a
-# hundred areas. The time is that of one packet.
+# A hundred packets of a hundred messages, each tossed by a run of its own, onto a large base of a hundred areas. The
+# time is that of one packet.
 small_packets() {
   local number tags
   tags=$(seq -f 'T%.0f' 0 $((areas - 1)))

@@ -1,7 +1,7 @@
 #!/usr/bin/env bash
-# How fast echomail texts of about 1,200 bytes are taken apart and written, by processor time: the middle one of three
-# runs, less that of making the texts. The yardstick is a plain sum over the same bytes. It needs the built
-# crates/test_trials/out/test_trials. Words: how many texts, how many rounds.
+# How fast echomail texts of about 1,200 bytes are parsed and written, by processor time: the middle one of three
+# runs, minus the time for making the texts. The yardstick is a plain sum over the same bytes. It needs the built
+# crates/test_trials/out/test_trials. Arguments: how many texts, how many rounds.
 set -eu
 cd "$(dirname "$0")/.."
 top=$PWD

@@ -1,5 +1,5 @@
-// Loaded in front of the C library: how long the calls of fsync and fdatasync took, in nanoseconds, is added up, and goes
-// at the end to the file that WAITED names.
+// Loaded before the C library. It adds up how long the calls of fsync and fdatasync took, in nanoseconds, and writes
+// the sum to the file WAITED at the end.
 #include <fcntl.h>
 #include <stdio.h>
 #include <stdlib.h>

@@ -1,10 +1,11 @@
-"""How long `check` and `why` take on great nets with a loop, beside the yes of the same net without its last
-links, by processor time, and on great nets with another fault at their last system, beside the yes without it. For
-each net three figures: the yes of `check`, its no, and `why`, each the middle one of three runs with the link files
-read, and how many times the yes the others take; then how many events the shown run has.
+"""How long `check` and `why` take on large nets, by processor time. Each net has a loop or, at its last system,
+another fault. It is compared with the same net without the last links of the loop, or without the fault, where the
+answer is yes. Each row has three figures: the yes of `check`, its no, and `why`. Each is the middle one of three
+runs, which read the link files. The row also has the ratios of the others to the yes, and how many events the shown
+run has.
 
-Words: names of nets; with none, all but the rings, and of the `far` ones, whose run is as long as the net, only those of
-4,000 systems. ECHONET names the program, bin/echonet without it.
+Arguments: names of nets. The default is all but the rings, and of the `far` ones, whose run is as long as the net,
+only those of 4,000 systems. ECHONET names the program, by default bin/echonet.
 """
 import os
 import shutil
@@ -24,7 +25,7 @@ def tree(count):
 
 
 def with_ring(links, count, at, size):
-    """A ring of so many systems, of which the first is linked with `at`, after the others; and its last link."""
+    """A ring of so many systems. The first is linked with `at`. It comes after the others. Also its last link."""
     ring = list(range(count, count + size))
     return links + [(at, count)] + list(zip(ring, ring[1:])), [(ring[-1], ring[0])]
 
@@ -94,7 +95,7 @@ SHAPES = {
     "chain4000": lambda: nets.chain(4000),
     "star4000": lambda: nets.star(4000),
 }
-# The last system lists itself; an address that no file has; nobody, though it is listed; the second system.
+# The last system lists itself; an address without a file; no system, though it is listed; the second system.
 FAULTS = {
     "self": lambda links: links[-1].append(len(links) - 1),
     "unknown": lambda links: links[-1].append(len(links)),
@@ -111,7 +112,7 @@ def middle(wanted, *words):
 
 
 def pair(name):
-    """What each system of the net lists where it is in order, and with the fault."""
+    """What each system of the net lists without the fault, and with it."""
     if name in NETS:
         links, last = NETS[name]()
         count = 1 + max(map(max, links))

@@ -1,8 +1,8 @@
-# What `make interop` counts.
+# The comparisons of `make interop`.
 
 . "$(dirname "${BASH_SOURCE[0]}")/../scripts/checks.sh"
 
-# Each message that was posted anywhere is at each station once, unchanged, and nothing else is there.
+# Each station has each posted message once, unchanged, and no other message.
 same_everywhere() {
   local station line
   for station in $stations; do

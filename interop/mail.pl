@@ -1,12 +1,12 @@
 #!/usr/bin/env perl
 # Prints the messages of a base of echonet, of folders of *.msg files, or of packets, read from their bytes.
-# Words: base FILE | msg FOLDER.. | packet FILE.. | posted FIELD.. A message is one line of fields with bars
-# between them; `posted` prints that of a posting without the last two, whose body is standard input.
-# `make FROM TO LINE..` prints a packet from 1:10/FROM to 1:10/TO of one message with these lines (^A is 01).
+# Arguments: base FILE | msg FOLDER.. | packet FILE.. | posted FIELD.. A message is one line of fields with bars
+# between them. `posted` prints the line of a posting without the last two fields. Its body is standard input. `make
+# FROM TO LINE..` prints a packet from 1:10/FROM to 1:10/TO of one message with these lines (^A is 01).
 #
 #     AREA|ID|REPLY|FROM|TO|SUBJECT|DATETIME|BODY|SEEN|PATH
 #
-# BODY is the lines with \r after each; bytes that do not print, bars and backslashes stand as \xNN. SEEN and
+# BODY is the lines with \r after each. Bytes that do not print, bars and backslashes are printed as \xNN. SEEN and
 # PATH are full net/node entries. The area of a *.msg file is its folder's name, in upper case.
 use strict;
 use warnings;
@@ -38,7 +38,7 @@ sub entries {
   return join ' ', @full;
 }
 
-# A text: control lines told from the rest. SEEN-BY counts only behind the last line that is none.
+# Splits a text into control lines and the rest. SEEN-BY counts only after the last line of another kind.
 sub told {
   my ($area, $from, $to, $subject, $date, $text) = @_;
   my ($id, $reply, @body, @seen, @path) = ('', '');
@@ -95,7 +95,7 @@ sub folder {
   }
 }
 
-# Words: the fields up to the date, then the lines that follow the body.
+# Arguments: the fields up to the date, then the lines after the body.
 sub posted {
   my @fields = splice @_, 0, 7;
   local $/ = "\n";

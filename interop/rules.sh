@@ -1,7 +1,7 @@
 #!/usr/bin/env bash
-# Holds CrashMail II to the rules of docs/INTEROP.md, and prints which it keeps. Words: trials to hold (all
-# without a word), and -v to print what was broken. The program is bin/echonet, or the one that ECHONET names.
-# Needs crashmail and Python 3; without a C compiler the trial half-a-year is left out.
+# Tests whether CrashMail II keeps the rules of docs/INTEROP.md, and prints which rules it keeps. Arguments: the
+# trials to run, by default all, and -v to print what was broken. The program is bin/echonet, or the one that ECHONET
+# names. It needs crashmail and Python 3. Without a C compiler the trial half-a-year is left out.
 set -euo pipefail
 here=$(cd "$(dirname "$0")" && pwd)
 export ECHONET=${ECHONET:-$here/../bin/echonet}

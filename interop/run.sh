@@ -1,9 +1,8 @@
 #!/usr/bin/env bash
-# Three systems on this machine, of which Beta runs CrashMail II and the other two echonet, joined by binkd
-# daemons on local ports. What is posted at each is to come to each other one exactly once, unchanged. Then
-# CrashMail is held to the rules of docs/INTEROP.md (rules.sh).
-# Word: the program. PORT is the first of the four ports that are used (24570 where it is not given).
-# Needs binkd and crashmail, Python 3, and perl, flock and setsid, which Debian always has.
+# Three systems on this machine: Beta runs CrashMail II, the other two run echonet. binkd daemons on local ports join
+# them. Each message posted at one has to reach each other system exactly once, unchanged. Then CrashMail is tested by
+# the rules of docs/INTEROP.md (rules.sh). Argument: the program. PORT is the first of the four ports, by default
+# 24570. It needs binkd and crashmail, Python 3, and perl, flock and setsid, which Debian always has.
 set -euo pipefail
 here=$(cd "$(dirname "$0")" && pwd)
 export PATH=$PATH:/usr/sbin
@@ -31,13 +30,13 @@ make_stations() {
   for station in $stations; do
     mkdir -p $station/{inbound,outbound,strangers,partly,packets,kept}
   done
-  # Alpha has a base folder, Gamma a base file; Beta gets a folder when it moves.
+  # Alpha has a base folder, Gamma a base file. Beta gets a folder when it moves.
   mkdir one/base
   links_text 1 Alpha > one/links
   links_text 2 Beta > two/links
   links_text 3 Gamma > three/links
   crashmail_text "$work" > two/prefs
-  # A copy of each packet that comes stays in STATION/kept.
+  # A copy of each received packet stays in STATION/kept.
   for station in $stations; do
     printf '#!/bin/sh\nset -eu\nn=$(ls %s | wc -l)\ncp "$1" %s/$n.pkt\n' "$work/$station/kept" \
       "$work/$station/kept" > $station/keep.sh
@@ -57,13 +56,13 @@ END
   binkd_text two 2 two/toss.sh > two/binkd.conf
 }
 
-# Starts the daemon of a station as a group of processes of its own.
+# Starts the daemon of a station in a process group of its own.
 start_daemon() {
   setsid binkd "$1/binkd.conf" > "$1/daemon.log" 2>&1 &
   daemons[$1]=$!
 }
 
-# Ends it, and what it has started. Words: station, signal.
+# Ends it, and the processes that it started. Arguments: station, signal.
 stop_daemon() {
   kill "-${2:-TERM}" -- "-${daemons[$1]}" 2> /dev/null || true
   wait "${daemons[$1]}" 2> /dev/null || true
@@ -77,8 +76,8 @@ trap stop_all EXIT
 
 scan() { "$scripts/scan-outbound.sh" "$1" >> "$1/scan.log" 2>&1; }
 
-# Posts at a station of echonet, and notes what is to be found everywhere. Words: station, area, to, from,
-# subject, serial, moment, reply; the body is standard input.
+# Posts at a station of echonet, and notes what each station has to get. Arguments: station, area, to, from, subject,
+# serial, time, reply. The body is standard input.
 post_echonet() {
   local number name id date reply=()
   number=$(number_of "$1")
@@ -88,15 +87,15 @@ post_echonet() {
   cat > body.txt
   "$program" post --area "$2" --to "$3" --from "$4" --subject "$5" --serial "$6" --at "$7" \
     "${reply[@]}" "$1/links" "$1/base" < body.txt > posted.txt
-  same "a posting at $1 is told" "posted $2 $id" "$(cat posted.txt)"
+  same "a posting at $1 is printed" "posted $2 $id" "$(cat posted.txt)"
   date=$(LC_ALL=C date -u -d "$7Z" '+%d %b %y  %H:%M:%S')
   perl "$here/mail.pl" posted "$2" "$id" "${8:-}" "$4" "$3" "$5" "$date" \
     "--- echonet" " * Origin: $name (1:10/$number)" < body.txt >> "expected/$1"
 }
 
-# Posts at Beta. Words: area, to, from, subject, further words of crashwrite; the body is standard input. Both
-# crashwrite and crashmail name their packets after the second, and the second packet of a second takes
-# the place of the first, so each waits for a new one.
+# Posts at Beta. Arguments: area, to, from, subject, further arguments of crashwrite. The body is standard input.
+# crashwrite and crashmail name their packets after the second. The second packet of a second replaces the first, so
+# each waits for a new second.
 post_crashmail() {
   cat > body.txt
   sleep 1.1
@@ -122,7 +121,7 @@ messages_of() {
   esac
 }
 
-# Waits until each station has so many messages and nothing is on its way. Words: how many, seconds.
+# Waits until each station has so many messages and no packet waits. Arguments: how many, seconds.
 wait_for() {
   local until=$((SECONDS + $2)) station missing
   while [ $SECONDS -lt $until ]; do

@@ -1,6 +1,6 @@
-# The three systems of `make interop`: what the other files here share. Alpha (1:10/1) and Gamma (1:10/3)
-# run echonet, Beta (1:10/2) runs CrashMail II. In the area MIDDLE Beta stands between the two, in LEAF
-# Alpha does, in ALL each is linked with each.
+# The three systems of `make interop`, which the other files source. Alpha (1:10/1) and Gamma (1:10/3) run echonet,
+# Beta (1:10/2) runs CrashMail II. In the area MIDDLE Beta is between the two, in LEAF Alpha is. In ALL each is linked
+# with each.
 
 areas="MIDDLE LEAF ALL"
 stations="one two three"
@@ -9,7 +9,7 @@ number_of() { case $1 in one) echo 1 ;; two) echo 2 ;; three) echo 3 ;; esac; }
 # The system that passes mail on in an area, if one does.
 hub_of() { case $1 in MIDDLE) echo 2 ;; LEAF) echo 1 ;; ALL) ;; esac; }
 
-# The systems that a system is linked with. Words: area, number.
+# The systems that a system is linked with. Arguments: area, number.
 linked() {
   local hub other
   hub=$(hub_of "$1")
@@ -19,7 +19,7 @@ linked() {
   done
 }
 
-# The PATH of a message where it comes. Words: area, the poster's number, the receiver's.
+# The PATH of a received message. Arguments: area, the poster's number, the receiver's.
 path_of() {
   case " $(linked "$1" "$2" | tr '\n' ' ')" in
     *" $3 "*) echo "10/$2" ;;
@@ -27,7 +27,7 @@ path_of() {
   esac
 }
 
-# Its SEEN-BY there: each system of the PATH with its links.
+# Its SEEN-BY: each system of the PATH with its links.
 seen_of() {
   local system
   for system in $(path_of "$1" "$2" "$3"); do
@@ -36,7 +36,7 @@ seen_of() {
   done | sort -u | tr '\n' ' ' | sed 's/ $//'
 }
 
-# The link file of a station. Words: number, name.
+# The link file of a station. Arguments: number, name.
 links_text() {
   echo "SYSTEM 1:10/$1"
   echo "NAME $2"
@@ -45,7 +45,7 @@ links_text() {
   done
 }
 
-# The configuration of a station's binkd. Words: station, number, the hook.
+# The configuration of a station's binkd. Arguments: station, number, the hook.
 binkd_text() {
   local other
   cat <<END
@@ -76,7 +76,7 @@ END
   done
 }
 
-# The configuration of CrashMail at Beta. Word: the folder of all stations.
+# The configuration of CrashMail at Beta. Argument: the folder of all stations.
 crashmail_text() {
   sed "s,FOLDER,$1/two,g" "$here/crashmail.prefs"
   printf 'NODE 1:10/%s "" ""\n' 1 3

@@ -1,5 +1,5 @@
 #!/usr/bin/env bash
-# Prints the crates of this tree that a crate stands on, and it, each behind those that it stands on. Word: the crate.
+# Prints a crate and all crates below it. Each crate comes after those that it uses. Argument: the crate.
 set -eu
 cd "$(dirname "$0")/.."
 awk -v wanted="$1" '

@@ -1,6 +1,6 @@
 #!/usr/bin/env bash
-# Runs each row of the tables in examples/cases, and compares what the program prints, its status and the
-# files that it leaves with what the row says (examples/cases/README.md). Words: the program.
+# Runs each row of the tables in examples/cases. It compares what the program prints, its status and the files that it
+# leaves with the row (examples/cases/README.md). Argument: the program.
 set -eu
 cd "$(dirname "$0")/.."
 program=$(realpath "${1:-bin/echonet}")
@@ -10,10 +10,10 @@ trap 'rm -rf "$place"' EXIT
 passed=0
 failed=0
 
-# The bytes that hexadecimal digits stand for.
+# Converts hexadecimal digits to bytes.
 bytes_of() { printf "$(tr -d ' \n' | sed 's/../\\x&/g')"; }
 
-# The link files of a net. Words: the folder, how many systems, the links.
+# The link files of a net. Arguments: the folder, how many systems, the links.
 make_net() {
   local own link links
   mkdir -p "$1"
@@ -27,7 +27,7 @@ make_net() {
   done
 }
 
-# A packet with a message for each line. Words: the nodes from which and to which it goes, in two digits.
+# A packet with a message for each line. Arguments: the nodes of the sender and of the receiver, in two digits.
 make_packet() {
   local nodes="\\x$1\\x00\\x$2\\x00" nets='\x0a\x00\x0a\x00' zeros='\x00\x00\x00\x00' count=0 text
   printf '%b' "$nodes" '\xea\x07\x06\x00\x03\x00\x0c\x00\x22\x00\x38\x00\x00\x00\x02\x00' "$nets" \
@@ -39,7 +39,7 @@ make_packet() {
   printf '\0\0'
 }
 
-# Makes the file that stands in lines. Words: how, its name, and for a packet its nodes.
+# Makes a file from the lines in $place/lines. Arguments: how, its name, and for a packet its nodes.
 make_file() {
   case $1 in
     @) cat ;;
@@ -49,7 +49,7 @@ make_file() {
   esac < "$place/lines" > "files/$2"
 }
 
-# The bytes of a file with others in place of some. Words: from where on, these in digits, the file.
+# Prints a file with some bytes replaced. Arguments: the offset, the new bytes in digits, the file.
 changed() {
   head -c "$1" "$3"
   bytes_of <<< "$2"
@@ -63,7 +63,7 @@ trimmed() {
   printf '%s' "${text%"${text##*[! ]}"}"
 }
 
-# The bytes that a cell stands for.
+# Prints the bytes that a cell describes.
 expected() {
   local name
   case $1 in
@@ -73,7 +73,7 @@ expected() {
   esac
 }
 
-# Whether a file has the bytes that a cell stands for. Words: the file, the cell.
+# Whether a file has the bytes that a cell describes. Arguments: the file, the cell.
 has() { expected "$2" > wanted && cmp -s "$1" wanted; }
 
 # Whether the files that a run left are those of the cell.
@@ -87,7 +87,7 @@ left_as() {
   done
 }
 
-# Runs the program on the words of a cell. Words: the words, the file of standard input.
+# Runs the program with the arguments in a cell. Arguments: the cell, the file of standard input.
 run_words() {
   local word words=()
   cd run
@@ -100,7 +100,7 @@ run_words() {
   "$program" "${words[@]}" < "${2:-/dev/null}" > ../printed 2> ../fault
 }
 
-# Runs a row and counts it. Words: its cells.
+# Runs a row and counts it. Arguments: its cells.
 run_row() {
   local status=0 wrong=
   if [[ $1 != then* ]]; then

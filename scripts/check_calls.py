@@ -1,9 +1,9 @@
 #!/usr/bin/env python3
-"""check_calls.py: only the modules below call the system for files. All others get files by a `Disk`, a `Source` or a `Sink`, and
-their contracts say what they do with them. A module of READS changes no file. Tests may call anything.
+"""check_calls.py: only the modules below call the system for files. All others get files by a `Disk`, a `Source` or a
+`Sink`. Their contracts say what they do with them. A module of READS changes no file. Tests may call anything.
 
-The program makes a disk of the system only to hand it to a function of OVER_ANY_DISK, which is proved for every disk. It calls
-nothing of a disk itself."""
+The program makes a disk of the system only to pass it to a function of OVER_ANY_DISK, which is proved for every disk.
+It calls no method of a disk itself."""
 import glob
 import os
 import re

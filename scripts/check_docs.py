@@ -1,7 +1,8 @@
 #!/usr/bin/env python3
-"""check_docs.py: names in documents exist. In README.md, CONTRIBUTING.md and docs it looks at each word in backquotes that is
-a path of this repository, a crate, a function or a law, a target of make, a command or an option. It also looks at each link with
-its anchor, and at each word in italics that has an underscore: a clause of a contract or a field of a definition."""
+"""check_docs.py: names in documents exist. It reads README.md, CONTRIBUTING.md and docs. It looks at each word in
+backquotes that is a path of this repository, a crate, a function, a law, a target of make, a command or an option. It
+also looks at each link with its anchor, and at each word in italics that has an underscore: a clause of a contract or
+a field of a definition."""
 import glob
 import os
 import re

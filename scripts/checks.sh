@@ -1,9 +1,9 @@
-# What scripts that compare things count; they read this file.
+# Counts comparisons. Other scripts source this file.
 
 passed=0
 failed=0
 
-# Counts one comparison. Words: what is compared, what it is to be, what it is.
+# Counts one comparison. Arguments: what is compared, the expected text, the found text.
 same() {
   if [ "$2" = "$3" ]; then
     passed=$((passed + 1))

@@ -1,11 +1,11 @@
 #!/usr/bin/env bash
-# completions.sh PROGRAM bash|zsh|fish: prints what a shell completes after `echonet`, made of the program's own help.
+# completions.sh PROGRAM bash|zsh|fish: prints completions of `echonet` for a shell, made from the program's own help.
 set -eu
 program=$1 shell=$2
 helps=$(mktemp -d)
 trap 'rm -rf "$helps"' EXIT
 
-# The commands, each with what it does: NAME|TEXT.
+# The commands, each with its description: NAME|TEXT.
 commands() {
   awk '/^Commands:/ { on = 1; next } /^$/ { on = 0 } on { name = $1; sub(/^ *[^ ]+ +/, ""); print name "|" $0 }' "$helps/help"
 }
@@ -28,7 +28,7 @@ options() {
     }' "$helps/$1"
 }
 
-# Every command with its options, a line each: NAME and the options behind it.
+# Every command with its options, a line each: NAME and then the options.
 table() {
   commands | while IFS='|' read -r name _; do
     [ "$name" = help ] || echo "$name $(options "$name" | cut -d'|' -f1 | tr '\n' ' ')"
@@ -61,7 +61,7 @@ complete -F _echonet echonet
 END
 }
 
-# A text between single quotes, of which brackets and colons are marked.
+# A text for single quotes. Brackets and colons are escaped.
 zsh_text() {
   sed "s/'/'\\\\''/g; s/[]:[]/\\\\&/g"
 }
@@ -106,7 +106,7 @@ case $shell in
   bash | zsh | fish) ;;
   *) echo "completions.sh: no such shell: $shell" >&2; exit 2 ;;
 esac
-# All helps come first: a program that fails ends this before anything is printed.
+# The help of all commands is read first: where the program fails, this script ends before it prints anything.
 "$program" --help > "$helps/help"
 names=$(commands | cut -d'|' -f1)
 for name in $names; do

@@ -1,10 +1,12 @@
 #!/usr/bin/env bash
-# Prints the diagram of crates for docs/ARCHITECTURE.md, and fails if crates.txt has a crate that it lacks, or one that uses a
-# crate of a group above. With the word `all` it prints a table of crates instead, with the first sentence of each.
+# Prints the diagram of crates for docs/ARCHITECTURE.md. It fails if crates.txt has a crate that the diagram lacks, or
+# one that uses a crate of a group above. With the argument `all` it prints a table of crates instead, with the first
+# sentence of each.
 set -eu
 cd "$(dirname "$0")/.."
 
-# A line for each row: the group (none goes on with the one before), the crates, what they are for.
+# A line for each row: the group, the crates, and their purpose. A row without a group belongs to the group of the row
+# before.
 rows='
 tests      | test_calls test_disks test_trials |
 program    | echonet cmd_words | picks the command; the command line

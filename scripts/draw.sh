@@ -1,6 +1,6 @@
 #!/usr/bin/env bash
-# Draws each net of examples/nets as bin/pictures/NAME.svg where Graphviz is installed, else as the text
-# NAME.dot. Needs the built bin/echonet.
+# Draws each net of examples/nets as bin/pictures/NAME.svg. Without Graphviz it writes the text NAME.dot only. It
+# needs the built bin/echonet.
 set -eu
 cd "$(dirname "$0")/.."
 mkdir -p bin/pictures

@@ -1,5 +1,6 @@
 #!/usr/bin/env bash
-# Prints a table of edits for docs/PROOFS.md: how many the gate tries of each crate, and how many more `make edits` tries.
+# Prints a table of edits for docs/PROOFS.md: for each crate how many the gate tries, and how many more `make edits`
+# tries.
 set -eu
 shopt -s nullglob
 cd "$(dirname "$0")/.."

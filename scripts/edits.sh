@@ -1,7 +1,7 @@
 #!/usr/bin/env bash
-# Tries the edits that the gate leaves out: those of edits/CRATE, each of which the prover has to refuse. Words: crates;
-# none: all that have such edits. The variable `jobs` is how many crates are tried at a time. Libraries that are not built yet
-# are proved first, once for each crate above them.
+# Tries the edits of edits/CRATE, which the gate leaves out. The prover has to refuse each of them. Arguments: crates;
+# without any, all that have such edits. The variable `jobs` is the number of crates that are tried at a time.
+# Libraries that are not built yet are proved first, once for each crate above them.
 set -u
 cd "$(dirname "$0")/.." || exit 3
 mkdir -p bin/edits
@@ -11,7 +11,7 @@ export room top
 trap 'rm -rf "$room"' EXIT
 trap 'exit 3' HUP INT TERM
 
-# Tries the edits of one crate, in a tree in which they take the place of its own.
+# Tries the edits of one crate, in a tree where they replace the edits of must-fail.
 try() {
   scripts/tree.sh "$room/$1" "$1"
   rm -rf "$room/$1/crates/$1/must-fail"
@@ -26,7 +26,7 @@ export -f try
 for name in "$@"; do
   [ -d "edits/$name" ] || { echo "edits.sh: edits/$name has no edits" >&2; exit 2; }
 done
-# Those with the most edits come first.
+# Crates with the most edits come first.
 wanted=$(find edits -name '*.edit' | cut -d / -f 2 | sort | uniq -c | sort -rn | awk '{ print $2 }')
 [ $# -eq 0 ] || wanted=$(printf '%s\n' "$@" | sort -u)
 all=$(for name in $wanted; do ls "edits/$name"/*.edit; done | wc -l)

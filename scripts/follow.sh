@@ -1,8 +1,7 @@
 #!/usr/bin/env bash
-# Follows the sessions of a document from its first line to its last in an empty folder: each line
-# `    $ COMMAND` is typed, and what is printed is compared with the lines below it. Serials of eight
-# hexadecimal digits, moments and dates may differ. Words: the document, the program, and the folder that has
-# `examples`, where that is not the one of the sources.
+# Follows the sessions of a document from its first line to its last in an empty folder. It runs each line
+# `    $ COMMAND`, and compares the output with the lines below it. Serials of eight hexadecimal digits, timestamps and
+# dates may differ. Arguments: the document, the program, and the folder that has `examples`, by default the sources.
 set -eu
 cd "$(dirname "$0")/.."
 document=$(realpath "${1:-docs/OPERATORS.md}")
@@ -14,7 +13,7 @@ ln -s "$program" "$place/bin/echonet"
 ln -s "$sources" "$place/echonet"
 export HOME=$place PATH=$place/bin:$PATH:/usr/sbin LC_ALL=C
 
-# Ends the mailers where a session did not come to its end.
+# Ends the mailers of a session that did not end them.
 end_mailers() {
   for file in "$place"/empty/*/binkd.pid; do
     if [ -e "$file" ]; then kill "$(cat "$file")" || true; fi
@@ -24,7 +23,7 @@ end_mailers() {
 trap end_mailers EXIT
 cd "$place/empty"
 
-# What may differ from day to day is written alike.
+# Replaces what differs from day to day.
 alike() {
   sed -E 's/\b[0-9a-f]{8}\b/SERIAL/g; s/[0-9]{4}-[0-9]{2}-[0-9]{2}[T ][0-9:]{8}/MOMENT/g
     s/[0-9]{2} [A-Z][a-z]{2} [0-9]{2}  [0-9:]{8}/DATE/g'
@@ -35,7 +34,7 @@ bad=0
 expected=
 command=
 
-# Types the command, in this shell so that folders, variables and jobs stay.
+# Runs the command, in this shell so that folders, variables and jobs stay.
 type_it() {
   if [ -z "$command" ]; then return; fi
   set +eu
@@ -45,7 +44,7 @@ type_it() {
     good=$((good + 1))
   else
     bad=$((bad + 1))
-    printf 'DIFFERS: %s\n  told:\n%s\n  printed:\n%s\n' "$command" "$expected" "$(cat "$place/printed")"
+    printf 'DIFFERS: %s\n  expected:\n%s\n  printed:\n%s\n' "$command" "$expected" "$(cat "$place/printed")"
   fi
   command=
   expected=
@@ -62,5 +61,5 @@ while IFS= read -r line; do
   esac
 done < "$document"
 type_it
-echo "$good commands printed what is told, $bad did not"
+echo "$good commands printed what the document says, $bad did not"
 [ $bad -eq 0 ]

@@ -1,9 +1,9 @@
 #!/usr/bin/env python3
-"""Runs the gate, or another command, and writes what each crate cost it. Words: the file to write, and the command.
+"""Runs the gate, or another command, and writes what each crate cost. Arguments: the file to write, and the command.
 
-Each second it reads from /proc how much processor time each process of `rattle` below the command has used, with the
-copies of itself that such a process starts. What a process uses after it was last seen is not counted for its crate; the
-line of the whole command has it.
+Each second it reads from /proc how much processor time each process of `rattle` below the command has used. That
+includes the copies of itself that such a process starts. What a process uses after its last reading is not counted
+for its crate. The line of the whole command includes it.
 """
 import os
 import subprocess
@@ -17,14 +17,14 @@ EVERY = 1.0
 
 
 def stat_of(number):
-    """Returns the parent of a process, the moment it began, and its seconds with those of children that ended."""
+    """Returns the parent of a process, when it began, and its seconds with those of children that ended."""
     with open(f"/proc/{number}/stat") as file:
         words = file.read().rsplit(")", 1)[1].split()
     return int(words[1]), words[19], sum(map(int, words[11:15])) / TICK
 
 
 def task_of(number):
-    """Returns the crate and the kind of work of a process, or None where it is no check or build of rattle."""
+    """Returns the crate and the kind of work of a process, or None if it is no check or build of rattle."""
     with open(f"/proc/{number}/cmdline", "rb") as file:
         words = file.read().decode(errors="replace").split("\0")
     if os.path.basename(words[0]) != "rattle" or words[1:2] not in (["check"], ["build"]):
@@ -42,9 +42,9 @@ class Sampler:
 
     def __init__(self, top):
         self.top = top
-        self.tasks = {}  # process and its beginning: its task, once it is one of rattle's
+        self.tasks = {}  # process and its beginning: its task, if it is one of rattle's
         self.spent = {}  # the same: its seconds, in the order in which they began
-        self.strangers = defaultdict(int)  # how often a process was looked at that is none of rattle's
+        self.strangers = defaultdict(int)  # how often a process was read that is not one of rattle's
 
     def sample(self):
         """Reads all processes once."""
@@ -64,7 +64,7 @@ class Sampler:
             self.spent[owner] = max(used, self.spent.get(owner, 0.0))
 
     def owner(self, number, stats):
-        """Returns the highest process of rattle that this one is or stands below, if it stands below the command."""
+        """Returns the highest process of rattle among this one and its parents, if it is below the command."""
         found, at = None, number
         while at in stats and at != self.top:
             if self.is_task((at, stats[at][1])):
@@ -73,7 +73,7 @@ class Sampler:
         return found if at == self.top else None
 
     def is_task(self, process):
-        # A process may become rattle some moments after it began.
+        # A process may become rattle some time after it began.
         if process not in self.tasks and self.strangers[process] < 5:
             self.strangers[process] += 1
             try:
@@ -85,7 +85,7 @@ class Sampler:
         return process in self.tasks
 
     def table(self):
-        """Returns the seconds of each crate by kind. A crate's first process of edits proves it once more."""
+        """Returns the seconds of each crate by kind. A crate's first process of edits proves the crate again."""
         crates = defaultdict(lambda: dict.fromkeys(KINDS, 0.0))
         begun = set()
         for process, used in self.spent.items():
@@ -98,7 +98,7 @@ class Sampler:
 
 
 def page(crates, clock, all_seconds):
-    """Returns the table as Markdown, the dearest crate first."""
+    """Returns the table as Markdown, the crate with the most seconds first."""
     lines = ["| Crate | " + " | ".join(it.capitalize() for it in KINDS) + " | All |", "|---" * (len(KINDS) + 2) + "|"]
     sums = {kind: sum(it[kind] for it in crates.values()) for kind in KINDS}
     rows = sorted(crates.items(), key=lambda it: -sum(it[1].values()))

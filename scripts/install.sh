@@ -1,7 +1,7 @@
 #!/usr/bin/env bash
-# install.sh ROOT PREFIX: puts in place what was built, below ROOT and PREFIX: the program, its page, the scripts of
-# examples/net, the tools of examples/move, the examples of packaging, the documents with their nets, and what shells
-# complete. The unit gets the paths below PREFIX. uninstall.sh takes the same away.
+# install.sh ROOT PREFIX: installs below ROOT and PREFIX. It copies the program, its manual page and shell
+# completions. It also copies the scripts of examples/net, the tools of examples/move, the examples of packaging, and
+# the documents with their nets. The unit gets the paths below PREFIX. uninstall.sh removes the same files.
 set -eu
 cd "$(dirname "$0")/.."
 to=$1$2
@@ -26,7 +26,7 @@ install -m 644 docs/pictures/* "$to/share/doc/echonet/pictures"
 cp -R examples/net examples/nets "$to/share/doc/echonet/examples"
 chmod -R u=rwX,go=rX "$to/share/doc/echonet/examples"
 
-# Words: the shell, the file that it looks for.
+# Arguments: the shell, the file that it reads.
 completions() {
   install -d "$(dirname "$to/share/$2")"
   scripts/completions.sh "$program" "$1" > "$to/share/$2"

@@ -1,6 +1,6 @@
 #!/usr/bin/env bash
-# Prints how many crates to prove side by side: one for each 3.5 GB of free memory, at least 2, and at most two more than
-# there are processors. Word: how many more, instead of two.
+# Prints how many crates to prove at a time: one for each 3.5 GB of free memory, at least 2, and at most two more than
+# the processors. Argument: how many more, instead of two.
 set -eu
 most=$(($(nproc) + ${1:-2}))
 cd /sys/fs/cgroup 2> /dev/null || cd /

@@ -1,6 +1,6 @@
 #!/usr/bin/env bash
-# A view that outlives its text is refused before the prover is asked. An edit of must-fail has to reach the prover, so
-# this tries what crates/echo_text/must-fail/view_outlives_its_text.md says, on a copy.
+# A view that outlives its text is refused before the prover runs. An edit of must-fail has to reach the prover. So
+# this tries the code of crates/echo_text/must-fail/view_outlives_its_text.md on a copy.
 set -eu
 cd "$(dirname "$0")/.."
 page=crates/echo_text/must-fail/view_outlives_its_text.md

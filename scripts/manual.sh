@@ -1,7 +1,6 @@
 #!/usr/bin/env bash
-# Compares the words of the manual page with those that the program's help prints: its commands, of each
-# the words and options with what stands for their values, the statuses, and the version. Words: the page,
-# the program.
+# Compares the manual page with the program's help: the commands, the arguments, options and values of each, the
+# statuses, and the version. Arguments: the page, the program.
 set -eu
 cd "$(dirname "$0")/.."
 . scripts/checks.sh
@@ -13,13 +12,13 @@ trap 'rm -rf "$place"' EXIT
 # The page without its font changes.
 sed -E 's/\\-/-/g; s/\\f[A-Z]//g' "$page" > "$place/page"
 
-# The lines of a section of the page, or of a command in it. Words: the beginning of its heading.
+# The lines of a section of the page, or of a command in it. Argument: the beginning of its heading.
 part_of_page() { awk -v from="$1" 'index($0, ".S") == 1 { on = index($0, from) == 1 } on' "$place/page"; }
 
-# The lines of a part of a help text. Words: the help, the part's heading.
+# The lines of a part of a help text. Arguments: the help, the part's heading.
 part_of_help() { awk -v from="$2:" '/^[^ ]/ { on = $0 == from; next } on && NF' <<< "$1"; }
 
-# The options of a page's part, with their values, a line each: those of its heading and of its paragraphs.
+# The options of a part of the page, with their values, a line each: from its paragraphs, and from its heading.
 page_options() {
   sed -nE 's/^\.BI (--[a-z-]+) " ([A-Z0-9]+)"$/\1 \2/p; s/^\.B (--[a-z-]+)$/\1/p' <<< "$1" | sort
 }
@@ -30,7 +29,7 @@ help_options() {
     grep -v -e '^--help$' -e '^--explain$' | sort
 }
 
-# Those of the options that the usage line leaves out. Words: the help, the options.
+# The options that the usage line leaves out. Arguments: the help, the options.
 left_out() {
   local usage option
   usage=$(grep '^Usage' <<< "$1")
@@ -39,14 +38,14 @@ left_out() {
   done <<< "$2"
 }
 
-# The statuses of a help text, and those of the page. Words: the help.
+# The statuses of a help text, and those of the page. Argument: the help.
 help_statuses() { part_of_help "$1" 'Exit status' | sed -E 's/^ +([0-9]) +/\1 /'; }
 page_statuses() {
   part_of_page '.SH EXIT STATUS' | awk '/^\.B [0-9]$/ { number = $2; getline; print number, $0 }' |
     sed -e 's/, or help that was asked for//' -e 's/\.$//'
 }
 
-# The statuses that a command has: 1 is of those that print a verdict, and of `nodelist`.
+# The statuses of a command. Only commands that print a verdict have 1, and `nodelist`.
 differing() {
   case $1 in
     check | picture | why) sed '/^1 /s/.*/1 the verdict is no/' ;;
@@ -65,8 +64,8 @@ for command in $commands; do
   heading=$(sed -n 's/^\.SS //p' <<< "$part")
   options=$(help_options "$help")
   same "$command: options in the heading" "$options" "$(heading_options "$heading" || true)"
-  same "$command: options told" "$options" "$(page_options "$part")"
-  # An option stands in brackets in the heading where the usage line leaves it out.
+  same "$command: options described" "$options" "$(page_options "$part")"
+  # An option has brackets in the heading if the usage line leaves it out.
   same "$command: options that may be left out" "$(left_out "$help" "$options")" \
     "$(grep -oE '\[--[a-z-]+' <<< "$heading" | tr -d '[' | sort || true)"
   same "$command: words" "$(sed -n 's/^Usage: echonet [a-z]* //p' <<< "$help" |

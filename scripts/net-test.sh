@@ -1,8 +1,8 @@
 #!/usr/bin/env bash
-# Tries the scripts of examples/net on a net of three whose mailer is `mv`: stopped scans, packets that are
-# cut or for others or not filed, flow files that are held, runs at the same moment, readers that are stopped, the log
-# and the settings of a station. Words: the program, and whether the bases are `files` or `folders`; the last station
-# has one of the other kind.
+# Tries the scripts of examples/net on a net of three systems whose mailer is `mv`: stopped scans; packets that are
+# cut, for another system or not filed; held links; runs at the same time; stopped readers; the log and the settings
+# of a station. Arguments: the program, and whether the bases are `files` or `folders`. The last station has a base of
+# the other kind.
 set -eu
 cd "$(dirname "$0")/.."
 . scripts/checks.sh
@@ -19,13 +19,13 @@ post() { echo "Body of $3" | "$scripts/post.sh" "$1" TEST All "$2" "$3" "${@:4}"
 scan() { "$scripts/scan-outbound.sh" "$1"; }
 toss() { "$scripts/toss-inbound.sh" "$1"; }
 
-# Tosses, and sets the status. Its lines go to printed.txt.
+# Tosses, and sets the status. Its output goes to printed.txt.
 toss_some() {
   status=0
   toss "$1" > printed.txt || status=$?
 }
 
-# The last line of the log of a station, with its moment as MOMENT.
+# The last line of the log of a station, with its timestamp as MOMENT.
 last_log() { tail -n 1 "$1/log" | sed -E 's/^[0-9]{4}-[0-9]{2}-[0-9]{2}T[0-9]{2}:[0-9]{2}:[0-9]{2}Z /MOMENT /'; }
 
 # The cursor of a base, and how many messages it has.
@@ -39,11 +39,11 @@ counts() {
   od -An -v -tu4 -j8 -N8 "$file" | tr -s ' ' | sed 's/^ //'
 }
 
-# Keeps the base of Beta, and puts it back.
+# Keeps the base of Beta, and restores it.
 keep_base() { rm -rf two.base && cp -r two/base two.base; }
 put_back() { rm -rf two/base && cp -r two.base two/base; }
 
-# Does what the mailer does with a flow file. Words: from which station, the flow file, to which station.
+# Does with a flow file what the mailer does. Arguments: the sending station, the flow file, the receiving station.
 carry() {
   local path
   while IFS= read -r path; do
@@ -56,7 +56,7 @@ to_three=000a0003
 mkdir -p two/inbound three/inbound four
 if [ "$kind" = folders ]; then mkdir {one,two,three}/base; else mkdir four/base; fi
 
-# A posting, and how its packet is handed over. Its text: 10 + 24 + 14 + 12 + 26 + 16 + 12 = 114; the packet:
+# A posting, and how its packet is handed over. The text has 10 + 24 + 14 + 12 + 26 + 16 + 12 = 114 bytes, the packet
 # 58 + 14 + 20 + 4 + 4 + 6 + 115 + 2.
 printed=$(post one Ann First)
 same "post.sh prints what post prints" yes "$([[ $printed =~ ^posted\ TEST\ 1:10/1\ [0-9a-f]{8}$ ]] && echo yes)"
@@ -69,7 +69,7 @@ same "the log of Alpha" "MOMENT sent $(ls one/packets) to 1:10/2 1 messages 223 
 same "nothing waits" 0 "$(scan one; echo $?)"
 same "the flow file has one line" 1 "$(wc -l < one/outbound/$to_two.flo)"
 
-# It is tossed and removed.
+# The packet is tossed and removed.
 cp one/packets/*.pkt kept.pkt
 name=$(ls one/packets)
 carry one $to_two two
@@ -78,7 +78,7 @@ same "the packet is gone" "" "$(ls two/inbound two/bad | grep pkt || true)"
 same "the log of Beta" "MOMENT came $name from 1:10/1 filed 1 known 0 notecho 0 badtag 0 noarea 0 notlinked 0" \
   "$(last_log two)"
 
-# A packet that is cut, one that is for another system, and one that comes again in other letters.
+# A packet that is cut, one for another system, and a second copy under a name in other letters.
 head -c 98 kept.pkt > two/inbound/cut.pkt
 cp kept.pkt two/inbound/AGAIN.PKT
 cp kept.pkt three/inbound/wrong.pkt
@@ -101,7 +101,7 @@ same "two of one name lie apart" \
   "cut.pkt cut.pkt.1 cut.pkt.1.why cut.pkt.why" "$(ls two/bad | tr '\n' ' ' | sed 's/ $//')"
 rm two/bad/* three/bad/*
 
-# Messages that are not filed: the link is missing, then mended.
+# Messages that are not filed: first the link is missing, then it is restored.
 post one Ann Second > /dev/null
 scan one > /dev/null
 carry one $to_two two
@@ -136,7 +136,7 @@ put_back
 toss two > /dev/null
 keep_base
 
-# A scan that was stopped before its base was written: it is made anew, with what has come since.
+# A scan stopped before it wrote its base. The next scan makes its packet again, with the messages posted since then.
 before=$(counts two)
 mkdir -p two/scanned
 "$program" scan --at 2026-07-03T12:34:56 two/links two/base two/scanned > /dev/null
@@ -145,14 +145,14 @@ put_back
 same "the stopped scan left its packet" 1.10.3.0.pkt.~1.10.2~.new "$(ls two/scanned)"
 same "and its cursor stood" "$before" "$(counts two)"
 post two Bob Third > /dev/null
-# Third has a text of 10 + 24 + 14 + 12 + 25 + 18 + 12 = 115, First and Second grow to 118 and 119. Packets:
-# 58 + (14 + 20 + 4 + 4 + 6 + 116) + 2; 58 + (48 + 119) + (49 + 120) + 164 + 2.
+# The text of Third has 10 + 24 + 14 + 12 + 25 + 18 + 12 = 115 bytes. First and Second grow to 118 and 119. The
+# packets have 58 + (14 + 20 + 4 + 4 + 6 + 116) + 2 and 58 + (48 + 119) + (49 + 120) + 164 + 2.
 same "the next scan" "packet 1:10/1 1 messages 224 bytes
 packet 1:10/3 3 messages 560 bytes" "$(scan two)"
 same "one packet for each link" 2 "$(ls two/packets | wc -l)"
 same "nothing of the stopped one is left" "" "$(ls two/scanned)"
 
-# A scan that was stopped before its packets had their names, and one of which the mailer was not told.
+# A scan stopped before its packets had their names, and one that the mailer has no line of.
 post two Bob Fourth > /dev/null
 "$program" scan --at 2026-07-03T12:34:56 two/links two/base two/scanned > /dev/null
 for packet in two/scanned/1.10.3.*.pkt; do mv "$packet" "$packet.~1.10.2~.new"; done
@@ -160,7 +160,7 @@ scan two
 same "its packets are handed over" "4 2 2" \
   "$(ls two/packets | wc -l) $(cat two/outbound/$to_three.flo | wc -l) $(cat two/outbound/000a0001.flo | wc -l)"
 
-# The name that was given last is lost: no packet takes the place of another.
+# The last given name is lost. No packet replaces another.
 rm two/last-name
 post two Bob 'Fourth and a half' > /dev/null
 scan two > /dev/null
@@ -188,7 +188,7 @@ post two Bob Sixth > /dev/null
 scan two > /dev/null
 same "the folder of zone 2" 139c03e7.flo "$(ls two/outbound.002)"
 
-# A link file without an own address: what an earlier run scanned is not handed over.
+# A link file without an own address. The packets of an earlier scan are not handed over.
 touch two/outbound.002/139c03e7.bsy
 post two Bob Seventh > /dev/null
 scan two > /dev/null
@@ -203,7 +203,7 @@ echonet: note: $place/two/links: no line SYSTEM with the own address
 scan-outbound.sh: no own address in $place/two/links: nothing is handed over" "$status $(cat fault.txt)"
 same "nothing is handed over" "1 $(cat before.txt)" "$(ls two/scanned | wc -l) $(ls two/outbound* | sort)"
 
-# A flow file whose last line has no end.
+# A flow file whose last line has no line end.
 sed 's/^AREA.*/& 2:5020\/999/' two.links > two/links
 printf '^/elsewhere/first.pkt' > two/outbound.002/139c03e7.flo
 scan two > /dev/null
@@ -212,7 +212,7 @@ same "a flow file without a last line end" "^/elsewhere/first.pkt ^$place/two/pa
 cp two.links two/links
 rm -r two/outbound.002
 
-# Twenty postings, five scans and five tosses at the same moment.
+# Twenty postings, five scans and five tosses at the same time.
 rm -f one/packets/* one/outbound/* two/inbound/* two/packets/* two/outbound/*
 for number in $(seq 1 20); do post one Ann "At once $number" "1:10/1 00000001" > "told.$number" & done
 for number in $(seq 1 5); do scan one > /dev/null & done
@@ -226,7 +226,7 @@ same "twenty were filed, once" 20 "$(cat tossed.* | awk '{ filed += $2 } END { p
 same "and no packet is left" "" "$(ls two/inbound two/tossing two/bad | grep pkt || true)"
 same "what Beta has" "8 28" "$(counts two)"
 
-# Scans and tosses that are killed at any moment.
+# Scans and tosses that are killed at any time.
 for number in $(seq 1 15); do
   post one Ann "Killed $number" > /dev/null
   for run in "scan-outbound.sh one" "toss-inbound.sh two"; do
@@ -242,7 +242,7 @@ if [ -e one/outbound/$to_two.flo ]; then carry one $to_two two; fi
 toss two > /dev/null
 same "all has come, once" "8 43" "$(counts two)"
 
-# A serial that is looked for: those of the coming seconds are taken.
+# A posting looks for a free serial: those of the next seconds are in use.
 cp one/links four/
 second=$(date +%s)
 for number in $(seq 0 19); do
@@ -255,7 +255,7 @@ same "the first serial that is free" "posted TEST 1:10/1 $(printf '%08x' $((seco
 same "the moment of the clock" yes "$("$program" list --from 20 four/base \
   | grep -q -e "^date $today" -e "^date $(day)" && echo yes)"
 
-# A JAM base for a reader, with an entry of eight bytes for each message.
+# A JAM base for a reader. Its index has an entry of eight bytes for each message.
 to_jam() { "$scripts/reader.sh" --jam four TEST four/jam; }
 same "reader.sh adds what the base has to a JAM base" "exported 21 messages, next 21" "$(to_jam)"
 same "and nothing twice" "exported 0 messages, next 21" "$(to_jam)"
@@ -267,7 +267,8 @@ post one Ann Refused "no id" 2> fault.txt || status=$?
 same "a reply to no id" "2 echonet: B6 BadReply" "$status $(cat fault.txt)"
 same "names and subjects that begin with a hyphen" posted "$(post one -a --help | cut -d ' ' -f 1)"
 
-# A reader of the field. Words: a file, from, to, subject, the two bytes of its attribute word, body.
+# Stored messages as an editor writes them. Arguments: a file, from, to, subject, the two bytes of its attribute word,
+# body.
 field() { { printf '%s' "$1"; head -c "$2" /dev/zero; } | head -c "$2"; }
 stored() {
   { field "$2" 36; field "$3" 36; field "$4" 72; field '26 Nov 26  12:00:00' 20; field '' 22
@@ -303,11 +304,11 @@ wait
 same "runs at the same moment post a file once" "1 23" \
   "$(cat read.? | grep -c ^posted) $("$program" list four/base | grep -c ^message)"
 
-# A reader whose base cannot be read, by the fault of one command or since it is damaged, posts nothing.
+# A reader cannot read its base, since a command fails or the base is damaged. It posts nothing.
 cat > stand-in << 'END'
 #!/bin/sh
-# Runs the program. FAILS is a command that fails, ENDS one behind which the script that called it is killed, TAKES one
-# before whose first run another one takes its serial.
+# Runs the program. FAILS is a command that fails. After the command ENDS the calling script is killed. Before the
+# first run of the command TAKES another posting uses its serial.
 if [ "${FAILS:-}" = "$1" ]; then
   echo "echonet: out of memory" >&2
   exit 3
@@ -347,7 +348,7 @@ same "so does a damaged base" "2  echonet: F2 Truncated record $((many - 1)) $fi
 rm -rf four/base
 cp -r four.base four/base
 
-# A reader that is stopped behind a posting, and one that is stopped before it.
+# A reader that is stopped after a posting, and one that is stopped before it.
 stored four/again/90.msg Ann 'B\303\266b' 'Once\\' '\0\1' 'Only once.'
 { ENDS=post ECHONET=$place/stand-in reader TEST four/again > told.txt || true; } 2> fault.txt
 same "a stopped reader has posted" $((many + 1)) "$(how_many four/base)"
@@ -396,14 +397,14 @@ same "OUTBOUND and PACKETS" "^$place/six/sent/$(ls six/sent)" "$(cat six/outb/$t
 same "no other folders" "base inb last-name links log outb scan.lock scanned sent settings toss.lock tossing" \
   "$(LC_ALL=C ls six | grep -v '^bad$' | xargs)"
 
-# Posts a message with this subject at a link file and a base.
+# Posts a message with this subject. Arguments: the subject, a link file, a base.
 post_at() { echo "$1" | "$program" post --area TEST --to All --from Ann --subject "$1" --serial auto --at now "$2" "$3"; }
 
 # How many messages a base has.
 end_of() { "$program" list "$1" | tail -n 1; }
 
-# An editor replaces the link file while a posting waits for its lock, and another run the base: the posting takes the lock
-# of the new one.
+# A posting waits for a lock. Meanwhile an editor replaces the link file, or another run replaces the base. The
+# posting takes the lock of the new file.
 for locked in links base; do
   mkdir seven
   if [ "$kind" = folders ]; then mkdir seven/base; fi
@@ -428,7 +429,7 @@ for locked in links base; do
   rm -r seven
 done
 
-# A posting has the moment that the clock shows in a time zone: that of `date` before it or after it.
+# A posting has the local time of a time zone: the time of `date` before it or after it.
 for zone in EST5 IST-5:30 Europe/Berlin; do
   if [ "${zone%/*}" != "$zone" ] && [ ! -e "/usr/share/zoneinfo/$zone" ]; then continue; fi
   mkdir eight
@@ -443,7 +444,8 @@ for zone in EST5 IST-5:30 Europe/Berlin; do
   rm -r eight
 done
 
-# A base is converted under the lock of its link file while a posting waits for that: it goes to what is there then.
+# A base is converted under the lock of its link file while a posting waits for that lock. The posting uses the new
+# base.
 mkdir eight
 cp one/links eight/links
 if [ "$kind" = folders ]; then mkdir eight/base; else mkdir eight/new; fi
@@ -461,7 +463,7 @@ status=0
 wait $waiting || status=$?
 same "a posting that waits while its base is converted" "0 end 2 messages, 2 waiting" "$status $(end_of eight/base)"
 
-# Two link files name one base: runs at the same moment wait for each other.
+# Two link files name one base. Runs at the same time wait for each other.
 mkdir nine
 cp one/links nine/links
 cp one/links nine/other
@@ -474,7 +476,8 @@ done
 wait
 same "postings with two link files" "end 41 messages, 41 waiting" "$(end_of nine/base)"
 
-# A stopped scan left a packet. A base folder refuses a scan into another folder until one into the first finishes it.
+# A stopped scan left a packet. A base folder refuses a scan into another folder until a scan into the first folder
+# finishes it.
 scan_into() { "$program" scan --at 2026-07-03T12:34:56 "${@:2}" ten/links ten/base "ten/$1" > printed.txt 2>&1; }
 if [ "$kind" = folders ]; then
   mkdir -p ten/base ten/first ten/second

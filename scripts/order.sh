@@ -1,7 +1,7 @@
 #!/usr/bin/env bash
-# Prints in what order crates are to be proved: a line for each crate that these stand on, and for them, with the number of
-# its processes and its niceness. First comes the crate with the longest chain of others behind it, in seconds of
-# scripts/seconds.txt. A crate that the file lacks counts by its lines. Words: crates.
+# Prints in what order to prove crates: a line for each of these crates and of the crates below them. Each line has
+# the number of processes and the niceness of the crate. The crate with the longest chain of crates above it comes
+# first, in seconds of scripts/seconds.txt. A crate that the file lacks counts by its lines. Arguments: crates.
 set -eu
 cd "$(dirname "$0")/.."
 {
@@ -14,7 +14,7 @@ cd "$(dirname "$0")/.."
   $1 == "uses" { for (i = 3; i <= NF; i++) uses[$2, $i] = 1 }
   $1 == "seconds" { seconds[$2] = $3 }
   $1 == "lines" { split($3, path, "/"); lines[path[2]] += $2 }
-  # The seconds of the longest chain from a crate upwards, and from it downwards, its own with them.
+  # The seconds of the longest chain from a crate upwards, and from it downwards. Both include its own.
   function above(crate, most, other) {
     if (crate in aboves) return aboves[crate]
     for (other in wanted)
@@ -27,7 +27,7 @@ cd "$(dirname "$0")/.."
       if ((crate, other) in uses && below(other) > most) most = below(other)
     return belows[crate] = seconds[crate] + most
   }
-  # Counts the crates that one stands on.
+  # Counts the crates below one.
   function count(top, crate, other) {
     for (other in wanted)
       if ((crate, other) in uses && !((top, other) in under)) { under[top, other]; number[top]++; count(top, other) }
@@ -41,8 +41,8 @@ cd "$(dirname "$0")/.."
       if (above(crate) > longest) longest = above(crate)
     for (crate in wanted) {
       chain = above(crate) + below(crate) - seconds[crate]
-      # Each process loads all that stands below the crate. So only crates of the longest chain that stand on at most
-      # twelve others have a second one.
+      # Each process loads all crates below. So only crates of the longest chain with at most twelve crates below them
+      # get a second process.
       processes = chain >= 0.95 * longest && number[crate] <= 12 ? 2 : 1
       print above(crate), crate, processes, int(18 * (1 - above(crate) / longest))
     }

@@ -1,10 +1,10 @@
 #!/usr/bin/env bash
-# package.sh: makes a Debian package of what `make install` puts in place, in bin/, and prints its path.
+# package.sh: makes a Debian package of the files that `make install` installs, in bin/, and prints its path.
 set -euo pipefail
 cd "$(dirname "$0")/.."
 version=$(bin/echonet --version | cut -d ' ' -f 2)
 architecture=$(dpkg --print-architecture)
-# The newest version of the C library that the program asks for.
+# The newest version of the C library that the program needs.
 libc=$(objdump -T bin/echonet | grep -o 'GLIBC_[0-9.]*' | cut -d _ -f 2 | sort -V | tail -1)
 root=$(mktemp -d)
 trap 'rm -rf "$root"' EXIT

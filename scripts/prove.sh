@@ -1,9 +1,9 @@
 #!/usr/bin/env bash
-# Proves one crate and says so in one line; what the prover prints goes to bin/NAME.log, and to bin/times/NAME how long a
-# whole proof took: the seconds of the clock and of the processor. Words: the crate, and `lib`, or `run` for a program,
-# which is built, and the words to run it with. bin/order has the crates to prove, with their processes and niceness.
+# Proves one crate and prints the result in one line. The output of the prover goes to bin/NAME.log. The clock and
+# processor seconds of a whole proof go to bin/times/NAME. Arguments: the crate, and `lib`, or `run` and the arguments
+# of a program, which is then built and run. bin/order lists the crates to prove, with their processes and niceness.
 #
-# Two runs of `rt` wait for each other where both need some crate. So each crate is proved in a tree of its own.
+# Two runs of `rt` wait for each other if both need the same crate. So each crate is proved in a tree of its own.
 set -u
 cd "$(dirname "$0")/.." || exit 3
 top=$PWD
@@ -12,13 +12,13 @@ log=$top/bin/$name.log
 tree=$top/bin/trees/$name
 mkdir -p bin/proved bin/times
 
-# Puts what is kept of earlier runs back, however this one ends.
+# Puts the kept proofs back, however this script ends.
 put_back() {
   if [ -d "$tree/crates/$name/out" ]; then mv -T "$tree/crates/$name/out" "crates/$name/out"; fi
   rm -rf "$tree"
 }
 
-# No `rt` of somebody else works in the crate meanwhile.
+# Keeps other runs of this script out of the crate.
 exec 8< "crates/$name"
 flock 8
 put_back
@@ -38,7 +38,7 @@ begun=$SECONDS
 if [ "$kind" = run ]; then
   (cd "$tree/crates/$name" && "$top/scripts/rt.py" run --jobs "$jobs" -- "${@:3}") > "$log" 2>&1
 else
-  # Such a library holds what other crates can cite of it and no checked proofs, so the crates above it load less.
+  # Such a library has what other crates can cite and no checked proofs, so the crates above it load less.
   (cd "$tree/crates/$name" && "$top/scripts/rt.py" lib --jobs "$jobs" --statements) > "$log" 2>&1
 fi
 status=$?
@@ -47,7 +47,7 @@ if [ $status -ne 0 ]; then
   grep -E 'error|^fn .*: (not|failed)|^rt: ' "$log" | head -20 >&2
   exit 1
 fi
-# The second line of `times` is of the processes that this one started: their user and system time.
+# The second line of `times` has the user and system time of the processes that this one started.
 if [ $whole = yes ]; then
   times > "$tree/times"
   awk -v name="$name" -v clock=$((SECONDS - begun)) 'NR == 2 {

@@ -1,7 +1,7 @@
 #!/usr/bin/env python3
-"""Runs the toolchain's `rt`, with the same words. To learn whether a crate has to be proved, `rt` takes a sum of its sources
-and of all that it stands on, anew for each way down to a crate: minutes where the ways are many thousand. Here each sum is
-taken once. A sum that is asked for later is taken anew, so a change meanwhile is seen."""
+"""Runs the toolchain's `rt` with the same arguments. To learn whether a crate has to be proved, `rt` takes a sum of
+its sources and of all crates below it. It does so again for each path down to a crate: minutes where there are many
+thousand paths. Here each sum is taken once for each question, so a later change is seen."""
 import importlib.machinery
 import importlib.util
 import os
@@ -36,6 +36,6 @@ try:
     rt.rtlib.Crate.stamp = once(rt.rtlib.Crate.stamp)
     main = rt.main
 except (AttributeError, ImportError, SyntaxError):
-    # Another toolchain may be made otherwise.
+    # Another toolchain may lack these names.
     os.execv(path, [path, *sys.argv[1:]])
 sys.exit(main(sys.argv[1:]))

@@ -1,6 +1,6 @@
 #!/usr/bin/env bash
-# Writes scripts/seconds.txt: the processor seconds of each crate's last whole proof, as scripts/prove.sh left them in
-# bin/times. The other crates of crates.txt keep what the file has of them.
+# Writes scripts/seconds.txt: the processor seconds of each crate's last whole proof, from the files that
+# scripts/prove.sh wrote to bin/times. For the other crates of crates.txt the old lines stay.
 set -eu
 cd "$(dirname "$0")/.."
 table=$(cat scripts/seconds.txt; cat bin/times/* 2> /dev/null | awk '{ print $1, int($3 + 0.5) }')

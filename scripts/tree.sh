@@ -1,6 +1,7 @@
 #!/usr/bin/env bash
-# Makes a tree of one crate and of those below it: their sources as hard links, and the libraries that are built of those
-# below. Words: the folder, and the crate. Runs of `rt` in different trees do not wait for each other.
+# Makes a tree of one crate and of those below it. It has hard links to their sources, and to the libraries that are
+# built of those below. Arguments: the folder, and the crate. Runs of `rt` in different trees do not wait for each
+# other.
 set -eu
 cd "$(dirname "$0")/.."
 tree=$1 name=$2

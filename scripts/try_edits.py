@@ -1,7 +1,7 @@
 #!/usr/bin/env python3
-"""try_edits.py CRATE [EDIT..]: tries wrong bodies of a crate that is proved, those of must-fail and of edits/, or the ones that
-are named without `.edit`. Each is tried over a copy of what the crate's own proof kept, so only what it changes is proved
-again. That is for who writes an edit; the gate tries its edits from nothing."""
+"""try_edits.py CRATE [EDIT..]: tries wrong bodies of a proved crate: the edits of must-fail and of edits/, or those
+named without `.edit`. Each starts from a copy of the crate's kept proof, so only what it changes is proved again.
+This is for writing an edit. The gate tries its edits without a kept proof."""
 import glob
 import importlib.machinery
 import importlib.util

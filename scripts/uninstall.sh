@@ -1,5 +1,5 @@
 #!/usr/bin/env bash
-# uninstall.sh ROOT PREFIX: takes away what install.sh put below ROOT and PREFIX, and nothing else.
+# uninstall.sh ROOT PREFIX: removes what install.sh installed below ROOT and PREFIX, and nothing else.
 set -eu
 from=$1$2
 rm -f "$from/bin/echonet" "$from/share/man/man1/echonet.1" \

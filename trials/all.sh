@@ -1,8 +1,8 @@
 #!/usr/bin/env bash
-# Runs all trials of the built program, and prints the last line of each at the end. Those that use one core
-# each run side by side, then each that uses all cores, and then those that measure, on no more than half of
-# the cores and one. What a trial says is printed when it ends.
-# Words: how many small hostile inputs, the size of the grown ones; with none, those of docs/TRIALS.md.
+# Runs all trials of the built program, and prints the last line of each at the end. First trials of one core each run
+# at the same time. Then each trial that uses all cores runs alone. At last the trials that measure run, on at most
+# half of the cores and one. The output of a trial is printed when it ends. Arguments: how many small hostile inputs,
+# the size of the grown ones; by default those of docs/TRIALS.md.
 set -u
 cd "$(dirname "$0")/.."
 inputs=${1:-100000}
@@ -11,7 +11,7 @@ cores=$(nproc)
 told=$(mktemp -d)
 trap 'rm -rf "$told"' EXIT
 
-# Runs a trial, prints what it said, and keeps its last line, and whether it failed.
+# Runs a trial, prints its output, keeps its last line, and notes whether it failed.
 each() {
   local begin=$SECONDS said
   said=$(mktemp "$told/XXXXXX")

@@ -1,10 +1,10 @@
-"""Answers what `export` wrote, as people do: by Python's email and in mutt's form, posted by `post --mail`, and by
-`reply`.
+"""Answers the messages that `export` wrote, as people do: with mails of Python's email and in mutt's form, posted by
+`post --mail`, and with `reply`.
 
-Bases are made by chance from a seed, as for export.py. Each answer is to stand in the base byte for byte as making.py
-makes it of the message that is answered and of what was written, in Python's own codec of the charset; or it is
-refused where a character is none of that charset, or where a name or a subject is too long in it. Words: how many
-messages are answered.
+The bases are random from a seed, as in export.py. The base has to contain each answer, byte for byte as making.py
+writes it. It is written from the answered message and the answer's text, in Python's own codec of the charset. An
+answer has to be refused if the charset lacks a character of it, or if a name or a subject is too long. Argument: how
+many messages are answered.
 """
 import email.header
 import email.message
@@ -18,6 +18,7 @@ import tempfile
 
 import export
 import making
+from contents import PROGRAM
 
 CODECS = {
     "ASCII": "ascii", "CP437": "cp437", "CP850": "cp850", "CP866": "cp866", "CP1251": "cp1251", "KOI8-R": "koi8_r",
@@ -28,22 +29,20 @@ LETTERS = {
     "LATIN-1": "éÿþ¼", "UTF-8": "éЖ中\U0001f600"}
 FORMS = (("us-ascii", "7bit"), ("utf-8", "8bit"), ("utf-8", "quoted-printable"), ("utf-8", "base64"),
          ("iso-8859-1", "quoted-printable"), ("koi8-r", "8bit"), ("windows-1251", "base64"), ("cp866", "8bit"))
-TOP = os.path.dirname(os.path.dirname(os.path.abspath(__file__)))
-PROGRAM = os.environ.get("ECHONET", os.path.join(TOP, "bin", "echonet"))
 LINKS = making.link_file((1, 10, 1), [("TEST", [(1, 10, 2)])])
 MARKS = ",:;()@\"\\"
 LONGEST_NAME, LONGEST_SUBJECT, MOST = 35, 71, 20
 
 
 def some_text(chance, letters, most, marks=""):
-    """A text that stands in a field as it is: no blank at an end, and none beside another."""
+    """A text that a field keeps unchanged: no blank at an end, and no two together."""
     words = ["".join(chance.choice("abc XYZ019._'-" + marks + letters * 3) for _ in range(chance.randrange(1, 9)))
              for _ in range(chance.randrange(1, 5))]
     return " ".join(" ".join(words).split())[:most].strip() or "x"
 
 
 def encoded(text, charset):
-    """A text in the bytes of a charset, or None where it has none there."""
+    """A text in the bytes of a charset, or None if the charset lacks a character."""
     try:
         return text.encode(CODECS[charset])
     except UnicodeEncodeError:
@@ -51,13 +50,13 @@ def encoded(text, charset):
 
 
 class Letter:
-    """An answer to a message that was exported: what its author writes, and in which form."""
+    """An answer to a message that was exported: its author's text, and its form."""
 
     def __init__(self, chance, message, mail):
         self.message, self.mail = message, mail
         self.charset = chance.choice(list(CODECS))
         letters = LETTERS[chance.choice([self.charset] * 8 + ["ASCII", "UTF-8"])]
-        # Python leaves a comma in a name out of its quotes, so names have none of these marks.
+        # Python writes a name with a comma without quotes, so names have none of these marks.
         self.by, self.subject = some_text(chance, letters, 40), "Re: " + some_text(chance, letters, 70, MARKS)
         self.lines = [some_text(chance, letters, 70, MARKS) for _ in range(chance.randrange(1, 5))] + ["", "-- ", "end."]
         self.form = self.chosen(chance)
@@ -86,12 +85,12 @@ class Letter:
         made["Newsgroups"] = self.mail["Newsgroups"]
         made["In-Reply-To"] = self.mail["Message-ID"]
         made.set_content(self.body(), charset=self.form[0], cte=self.form[1])
-        # The other header stands as the answered mail has it.
+        # The other header is that of the answered mail.
         front = b"To: " + str(self.mail["From"]).encode() + b"\n"
         return (front + made.as_bytes()).replace(b"\n", self.ends.linesep.encode())
 
     def by_mutt(self):
-        """The mail as mutt writes it: encoded words in short lines, the body as it is."""
+        """The mail as mutt writes it: encoded words in short lines, the body unchanged."""
         name = email.header.Header(self.by, "utf-8", header_name="From").encode()
         subject = email.header.Header(self.subject, "utf-8", header_name="Subject").encode()
         head = ["Date: Fri, 3 Jul 2026 12:34:56 +0000", "From: %s <ann@example.org>" % name, "To: " + str(self.mail["From"]),
@@ -102,11 +101,11 @@ class Letter:
         return "".join(line + "\n" for line in head + self.lines).encode()
 
     def to(self):
-        """To whom the answer is, as text: what stands before the `@` where the author has no name."""
+        """To whom the answer is, as text: the part before the `@` if the author has no name."""
         return export.decoded(self.message.charset, self.message.by) or "fido"
 
     def expected(self, serial):
-        """The message that stands in the base, or the fault."""
+        """The message that the base has to contain, or the fault."""
         texts = [self.to(), self.by, self.subject, self.body()]
         said = [encoded(text, self.charset) for text in texts]
         if None in said or (export.LOST in self.to() and self.charset != "UTF-8"):
@@ -128,7 +127,7 @@ def posted(serial, reply, lines, to, by, subject):
 
 
 def posting(words, content, folder):
-    """Runs a command that posts: its fault, or None."""
+    """Runs a command that posts. Returns its fault, or None."""
     run = subprocess.run([PROGRAM] + words + [os.path.join(folder, "links"), os.path.join(folder, "base")], input=content,
                          stdout=subprocess.PIPE, stderr=subprocess.PIPE)
     if (run.returncode == 0) == bool(run.stderr) or run.returncode not in (0, 2):
@@ -137,7 +136,7 @@ def posting(words, content, folder):
 
 
 def check(what, fault, expected, base, folder):
-    """A posting was refused as expected, or the base has the message behind the others. The answer is the base."""
+    """A posting was refused as expected, or the base has its message at the end. Returns the base."""
     with open(os.path.join(folder, "base"), "rb") as file:
         found = file.read()
     if isinstance(expected, bytes) and expected.startswith(b"echonet: "):
@@ -174,7 +173,7 @@ def answer_by_number(chance, message, serial, base, folder):
 
 
 def try_base(chance, count, folder):
-    """One base: each of its messages is answered in both ways. The answer is how many mails were refused."""
+    """One base: each of its messages is answered in both ways. Returns how many mails were refused."""
     messages, ids, refused = [], [], 0
     while len(messages) < count:
         message = export.Message(chance, len(messages), ids)

@@ -1,8 +1,9 @@
-"""Tries `--assume` of `check`, `why` and `picture` on random nets of which some systems send no file. Each answer is
-compared with that on the other files and one more for each of these systems, written here: it has the area, and
-links with just those who list it. Behind that answer comes a line for each of them, and `why` prints no path of it.
+"""Tries `--assume` of `check`, `why` and `picture` on random nets. Some of their systems send no file. Each answer is
+compared with that on the other files and one more file for each of these systems. The trial writes that file: it has
+the area, and links with those who list it. After that answer there is a line for each of these systems, and `why`
+prints no path of it.
 
-Words: how many nets (2,000). SEED makes the same nets again.
+Argument: how many nets (2,000). SEED makes the same nets again.
 """
 import os
 import random
@@ -13,28 +14,24 @@ import tempfile
 import making
 import running
 import topologies
+from contents import PROGRAM, write
 
-TOP = os.path.dirname(os.path.dirname(os.path.abspath(__file__)))
-PROGRAM = os.environ.get("ECHONET", os.path.join(TOP, "bin", "echonet"))
 COMMANDS = ((("check",), b""), (("why",), b"; "), (("picture",), b"// "), (("picture", "--why"), b"// "))
 
 
 def put(folder, name, content):
-    """Writes a file, and answers its path."""
-    path = os.path.join(folder, name)
-    with open(path, "wb") as file:
-        file.write(content)
-    return path
+    """Writes a file, and returns its path."""
+    return write(os.path.join(folder, name), content)
 
 
 def assumed_file(system, tag, told):
-    """The link file of a system that lists just those who list it."""
+    """The link file of a system that lists those who list it, and no others."""
     listing = {address for address, _, areas in told for own, links in areas if own == tag and system in links}
     return making.link_file(system, [(tag, sorted(listing))])
 
 
 def without_path(out, paths):
-    """The lines of `why`, in which these files have no path."""
+    """The lines of `why`, where these files have no path."""
     for path in paths:
         out = re.sub(rb"(?m)^(; \d+ is \S+) %s$" % re.escape(os.fsencode(path)), rb"\1", out)
     return out

@@ -1,10 +1,10 @@
 #!/usr/bin/env bash
-# Files on a disk that others use too. Two stations scan into one folder at the same moment, over and over:
-# a scan that ended with 0 made the packet that stands, and the other is refused, or its packet waits for the next scan. Where strace is installed: a file is flushed before
-# it gets its name, and its folder after that. What stands at the name beside, as a link, another's file or
-# what a stopped run left. Modes. Packets that are a pipe, a folder or have no name in UTF-8, lists of
-# packets, and a standard input that is closed or does not end. With base folders the two stations alone.
-# Words: `files` or `folders`, how many scans of the two stations.
+# Files on a disk that others use too. Two stations scan into one folder at the same time, over and over. A scan that
+# ended with 0 made the existing packet. The other scan is refused, or its packet waits for the next scan. With
+# strace: a file is flushed before it gets its name, and its folder is flushed after that. Also the staging file when
+# it exists before: as a link, as another's file, or from a stopped run. Also modes; packets that are a pipe, a folder
+# or have no name in UTF-8; lists of packets; and a standard input that is closed or does not end. With base folders
+# only the two stations are tried. Arguments: `files` or `folders`, how many scans of the two stations.
 set -eu
 cd "$(dirname "$0")/.."
 . trials/setting.sh
@@ -27,13 +27,13 @@ make_file links 1:10/1 TEST 1:10/9 > 1.links
 make_file links 1:10/2 TEST 1:10/9 > 2.links
 make_file links 1:10/9 TEST 1:10/1 1:10/2 > 9.links
 
-# Two stations and one folder. Each one's packet is 1.10.9.0.pkt.
+# Two stations and one folder. The packet of each is 1.10.9.0.pkt.
 for own in 1 2; do post 0000000$own $own.links $own.posted > said; done
 wrong=0
 both=0
 late=0
 
-# What the link gets of the packet that stands. Word: the number of the station that made it.
+# Gives the existing packet to the link. Argument: the number of the station that made it.
 tosses_of() {
   "$program" toss 9.links 9.base out/1.10.9.0.pkt > said || return 1
   make_file ids 9.base | tail -n 1 > ids
@@ -60,7 +60,7 @@ for ((number = 0; number < times; number++)); do
   case $(ls out) in
     "") base_is $loser.base $loser.posted || wrong=$((wrong + 1)) ;;
     *)
-      # Its name was taken once its base was written: the next scan gives it the name.
+      # Its name was in use after its base was written. The next scan gives it the name.
       late=$((late + 1))
       scan $loser.links $loser.base out > said && tosses_of $loser || wrong=$((wrong + 1))
       [ "$(ls out)" = 1.10.9.0.pkt ] || wrong=$((wrong + 1))
@@ -68,7 +68,7 @@ for ((number = 0; number < times; number++)); do
   esac
 done
 expect "of two scans into one folder one ends well, not $both times another number" [ $both = 0 ]
-expect "the packet that stands is that of the scan that ended well, and the other waits ($wrong wrong)" [ $wrong = 0 ]
+expect "the packet is that of the scan that ended well, and the other waits ($wrong wrong)" [ $wrong = 0 ]
 echo "two stations scanned into one folder $times times; $late times the name was taken behind the other's base"
 if [ $kind = folders ]; then
   finish beside
@@ -80,7 +80,7 @@ if command -v strace > /dev/null; then
   rm -rf out
   mkdir out
   cp 1.posted 1.base
-  # Each call that matters as a word, in order; more than one flush between two others is one.
+  # The calls that matter, each as a word, in order. Several flushes between two other calls count as one.
   order() {
     awk '/O_EXCL/ { printf "make " } /^fchown/ { printf "owner " } /^fchmod/ { printf "mode " }
       /^fsync/ { printf "flush " } /^rename/ { printf "rename " } /^link/ { printf "link " }
@@ -89,12 +89,12 @@ if command -v strace > /dev/null; then
   run strace -o calls -s 16 "$program" scan --at $stamp 1.links 1.base out
   expect "a scan's calls: $(order)" [ "$(order)" = \
     "line flush make flush make owner owner mode flush rename flush link flush unlink flush end" ]
-  expect "files beside are made for the owner alone" [ "$(grep -c 'O_EXCL.*0600)' calls)" = 2 ]
+  expect "only the owner may read staging files" [ "$(grep -c 'O_EXCL.*0600)' calls)" = 2 ]
 else
   echo "strace is not installed: no order of calls"
 fi
 
-# What stands at the name beside.
+# The staging file exists before.
 beside=base.~1.10.1~.new
 try_beside() {
   run post 00000003 1.links base

@@ -1,5 +1,5 @@
-# What devices.sh, refusals.sh and pieces.sh share: a run of each command, and how one is to have ended that
-# met a failure. They source it in their own folder, after setting.sh.
+# Shared by devices.sh, refusals.sh and pieces.sh: a run of each command, and how a run that met a failure has to end.
+# They source this file in their own folder, after setting.sh.
 commands="show nodelist check why picture replay post toss scan purge list"
 
 make_file links 1:10/1 TEST 1:10/2 1:10/3 1:10/4 > one.links
@@ -14,7 +14,7 @@ make_story() {
   make_file base 0 $(($1 + $2)) "$3" "$1" > tossed.base
 }
 
-# The words of a command.
+# The arguments of a command.
 words_of() {
   case $1 in
     show) echo show 05-areas.pkt ;;
@@ -37,13 +37,13 @@ start() {
   case $1 in scan) put_base tossed.base base ;; *) put_base old.base base ;; esac
 }
 
-# Makes what is loaded in front of the C library of trials/NAME.c. Without a C compiler the trial ends.
+# Makes the library of trials/NAME.c that is loaded before the C library. Without a C compiler the trial ends.
 make_loaded() {
   command -v cc > /dev/null || { echo "$1: there is no C compiler"; exit 0; }
   cc -O2 -shared -fPIC -o "$1.so" "$top/trials/$1.c"
 }
 
-# Runs a command behind it, with these calls chosen (counting.h), and sets its status. Words: the library,
+# Runs a command with the library, with these calls chosen (counting.h), and sets its status. Arguments: the library,
 # the command, the number of a call or `all`.
 run_behind() {
   start "$2"
@@ -52,7 +52,7 @@ run_behind() {
     status=$?; } 2> /dev/null
 }
 
-# Keeps what a command left that met no failure.
+# Keeps what a command without a failure left.
 keep_wanted() {
   wanted=$status
   rm -rf want
@@ -61,7 +61,7 @@ keep_wanted() {
   cp "$(file_of base)" want/base
 }
 
-# Whether the folder of packets holds whole ones alone.
+# Whether the folder of packets has only whole ones.
 whole_packets() {
   local packet
   for packet in out/*.pkt; do
@@ -73,8 +73,8 @@ whole_packets() {
 # Whether all is as without a failure.
 all_done() { cmp -s said want/said && base_is base want/base && diff -rq out want/out > /dev/null; }
 
-# How a run is to have ended. A toss that met a failure inside a packet leaves the base with the messages
-# before it: `parts` names such bases. Words: the command, what it met.
+# How a run has to end. A toss that met a failure inside a packet leaves the base with the messages before it: `parts`
+# names such bases. Arguments: the command, the failure.
 parts=
 judge() {
   local before=old.base call="$1, $2"

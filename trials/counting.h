@@ -1,6 +1,5 @@
-// What refuse.c and pieces.c share, which are loaded in front of the C library: calls are counted from 1,
-// and that one is touched whose number CHOSEN says, or each where it says `all`. At the end the number of
-// calls goes to the file that COUNTED names.
+// Shared by refuse.c and pieces.c, which are loaded before the C library. Calls are counted from 1. CHOSEN is the
+// number of the call that is changed, or `all`. At the end the number of calls goes to the file COUNTED.
 #include <fcntl.h>
 #include <stdio.h>
 #include <stdlib.h>

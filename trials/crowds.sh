@@ -1,8 +1,8 @@
 #!/usr/bin/env bash
-# Many runs on one system at the same moment. First two hundred postings from twenty processes: all are
-# there, each serial once, and a scan exports each once. Then postings, tosses, scans and purges at once:
-# the base of the system and what a link gets hold each message once.
-# Words: `files` or `folders`, how many processes, how many postings each.
+# Many runs on one system at the same time. First two hundred postings from twenty processes: the base has all of
+# them, each serial once, and a scan exports each once. Then postings, tosses, scans and purges run at once. The base
+# of the system and the packets for a link have each message once. Arguments: `files` or `folders`, how many
+# processes, how many postings each.
 set -eu
 cd "$(dirname "$0")/.."
 . trials/setting.sh
@@ -15,7 +15,7 @@ post_one() {
     --serial "$1" --at $stamp one.links base
 }
 
-# The postings of one process, which ends with how many were refused.
+# The postings of one process. Its status is how many were refused.
 post_some() {
   local number refused=0
   for number in $(seq "$each"); do
@@ -24,7 +24,7 @@ post_some() {
   return $refused
 }
 
-# Waits for the processes given, and answers how many ended by another status than 0.
+# Waits for these processes, and prints how many ended with a status other than 0.
 wait_for() {
   local process bad=0
   for process in "$@"; do
@@ -33,7 +33,7 @@ wait_for() {
   return $bad
 }
 
-# The ids that are to be there, one a line, ascending: of the postings, and of a packet's messages.
+# The ids that the base has to have, one a line, ascending: of the postings, and of a packet's messages.
 posted_ids() {
   local number
   for number in $(seq $((processes * each))); do printf '1:10/1 %08x\n' $((each + number)); done
@@ -48,7 +48,7 @@ ids_are() { make_file ids "$(file_of "$1")" | sort | cmp -s - "$2"; }
 make_file links 1:10/1 TEST 1:10/2 1:10/3 1:10/4 > one.links
 make_file links 1:10/3 TEST 1:10/1 > 3.links
 
-# Postings alone.
+# Only postings.
 put_empty base
 started=
 for process in $(seq "$processes"); do post_some "$process" & started="$started $!"; done
@@ -92,6 +92,6 @@ packets=$(ls out*/1.10.3.*.pkt)
 expect "the link tosses them" eval "'$program' toss 3.links 3.base $(echo $packets) > said"
 expect "each was sent once" [ "$(awk '{ known += $4 } END { print known + 0 }' said)" = 0 ]
 expect "the link has each once" ids_are 3.base want
-expect "nothing is left beside" is_none base.*.new out*/*.new
+expect "no staging file is left" is_none base.*.new out*/*.new
 echo "$((processes * (each + 50))) messages by $((2 * processes + 4)) processes, $(echo $packets | wc -w) scans with packets"
 finish crowds

@@ -1,7 +1,7 @@
 #!/usr/bin/env bash
-# Debian's binkd with its settings as they are installed, but for the edits of docs/OPERATORS.md, paths and ports. Packets
-# of a neighbour come, the command of the installed unit tosses and scans, and the neighbour gets what was posted. As root
-# this does it as binkd's user. PORT is the first of the two ports that are used (24581 where it is not given).
+# Debian's binkd with its installed settings. Only the edits of docs/OPERATORS.md, paths and ports are changed.
+# Packets of a neighbour arrive. The command of the installed unit tosses and scans. The neighbour gets what was
+# posted. As root it runs as binkd's user. PORT is the first of the two ports, by default 24581.
 set -u
 cd "$(dirname "$0")/.."
 PATH=$PATH:/usr/sbin
@@ -16,7 +16,7 @@ share=$work/prefix/share
 ftn=$work/ftn
 export ECHONET=$work/prefix/bin/echonet
 
-# Runs something as binkd's user, where this may.
+# Runs something as binkd's user, if this trial may.
 as_ftn() { if [ "$(id -u)" = 0 ]; then setpriv --reuid ftn --regid ftn --clear-groups "$@"; else "$@"; fi; }
 
 # The neighbour is Alpha of the installed examples, the station is Beta in binkd's folder.
@@ -36,7 +36,7 @@ binkd one/binkd.conf > "$work/one.out" 2>&1 &
 as_ftn binkd -q "$work/binkd.cfg" > "$work/two.out" 2>&1 &
 trap 'kill $(cat one/binkd.pid "$ftn/pid"); rm -rf "$work"' EXIT
 
-# What the unit runs, and the last line of a base.
+# The command of the unit, and the last line of a base.
 command=$(sed -n "s/^ExecStart=.bin.sh -c '\(.*\)'\$/\1/p" "$share/echonet/echonet.service" | sed "s,\\$\\$,\$,g; s,/var/spool/ftn,$ftn,g")
 unit() { as_ftn sh -c "umask 077; $command" > "$work/said" 2>&1; }
 has() { "$program" list "$1" | tail -1; }
@@ -62,7 +62,7 @@ if [ "$(id -u)" = 0 ]; then chown ftn "$ftn/inb/cut.pkt"; fi
 unit
 expect "the unit fails where a packet is put aside" [ $? = 1 ]
 expect "each packet has its line" [ "$(cut -d ' ' -f 2 "$ftn/log" | sort | uniq -c | xargs)" = "1 aside 20 came 1 sent" ]
-expect "the reason is beside the packet" [ "$(ls "$ftn/bad" | xargs)" = "cut.pkt cut.pkt.why" ]
+expect "the reason is in a file of its own" [ "$(ls "$ftn/bad" | xargs)" = "cut.pkt cut.pkt.why" ]
 wait_for has_come
 expect "the neighbour has all" [ "$(has one/base)" = "end 25 messages, 0 waiting" ]
 expect "nothing is left on its way" [ -z "$(on_way)" ]

@@ -1,10 +1,9 @@
 #!/usr/bin/env bash
-# Lets each call of the system fail in turn, in one run of each command, where strace is installed: those
-# on files fail (EIO, ENOSPC) or are interrupted (EINTR), those that map memory are refused (ENOMEM). Then
-# each command runs with more and more memory, until it has enough. Each run ends with 0 as without a
-# failure, or with 3, one fault line, and the old base or the new one whole, no packet in part. The calls
-# that the loader makes before the program begins are left out, and so is brk, whose refusal by the system
-# has another form than strace can give it.
+# Lets each call of the system fail in turn, in one run of each command, if strace is installed. Calls on files fail
+# (EIO, ENOSPC) or are interrupted (EINTR). Calls that map memory are refused (ENOMEM). Then each command runs with
+# more and more memory, until it has enough. Each run ends with 0 as without a failure, or with 3 and one fault line.
+# The base is the old one or the new one, whole, and no packet is incomplete. The calls of the loader before the
+# program begins are left out. So is brk: the system refuses it in a form that strace cannot give.
 set -eu
 cd "$(dirname "$0")/.."
 . trials/setting.sh
@@ -12,7 +11,7 @@ command -v strace > /dev/null || { echo "devices: strace is not installed"; exit
 cd "$work"
 . "$top/trials/commands.sh"
 
-# Runs a command under strace with more words for strace, and sets its status.
+# Runs a command under strace with more arguments for strace, and sets its status.
 traced() {
   local command=$1
   shift
@@ -21,33 +20,33 @@ traced() {
   { echo Hello | strace -o calls "$@" "$program" $(words_of "$command") > said 2> fault || status=$?; } 2> /dev/null
 }
 
-# Runs a command with so many kilobytes of memory for all that it has, and sets its status.
+# Runs a command with so many kilobytes of memory, and sets its status.
 starved() {
   start "$1"
   status=0
   { ( ulimit -v "$2"; echo Hello | "$program" $(words_of "$1") > said 2> fault ) || status=$?; } 2> /dev/null
 }
 
-# How a command ends where nothing fails.
+# How a command without a failure ends.
 remember() {
   traced "$1"
   keep_wanted
-  # The call that opens the first file is the first that is the program's own. A call is told by its name
-  # and its number among those of the name.
+  # The first call of the program itself opens the first file. A call is identified by its name and its number among
+  # the calls of that name.
   first=$(grep -n 'openat(AT_FDCWD, "[^/]' calls | head -1 | cut -d : -f 1)
   sed -n 's/^\([a-z0-9_]*\)(.*/\1/p' calls | awk -v first="$first" '{
     ++count[$1]
     if (NR >= first) print $1, count[$1] }' > numbered
 }
 
-# One call fails. Words: the command, the call's name and number, the failure.
+# One call fails. Arguments: the command, the call's name and number, the failure.
 fail_call() {
   traced "$1" -e "inject=$2:error=$4:when=$3"
   grep -q INJECTED calls || return 0
   judge "$1" "$4 at $(grep INJECTED calls | head -1 | cut -c 1-60)"
 }
 
-# The failures that a call may meet.
+# The failures of a call.
 failures_of() {
   case $1 in
     exit_group | rt_sig* | brk) ;;
@@ -56,7 +55,7 @@ failures_of() {
   esac
 }
 
-# With more and more memory, from what the loader needs on, until the command ends well.
+# More and more memory, from what the loader needs, until the command ends well.
 starve() {
   local most=$enough
   status=3

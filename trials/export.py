@@ -1,8 +1,8 @@
-"""Reads what `export` writes with what people have: Python's json, its mailbox and its email.
+"""Reads the output of `export` with common readers: Python's json, its mailbox and its email.
 
-Bases are made by chance from a seed, with names, subjects and lines of any bytes in eight charsets and in one
-that the program does not know; and one of the real packets in examples/packets. Each message has to be read as what
-was put into the base, decoded by iconv. Words: how many messages.
+The bases are random from a seed, with names, subjects and lines of any bytes. They use eight charsets and one that
+the program does not know. Another base has the real packets in examples/packets. The readers have to read each
+message as it is in the base, decoded by iconv. Argument: how many messages.
 """
 import email.header
 import json
@@ -16,14 +16,13 @@ import tempfile
 
 import making
 import reading
+from contents import PROGRAM, TOP
 
 CHARSETS = {
     b"ASCII": "ASCII", b"CP437": "CP437", b"CP850": "CP850", b"CP866": "CP866", b"CP1251": "CP1251",
     b"KOI8-R": "KOI8-R", b"LATIN-1": "ISO-8859-1", b"UTF-8": "UTF-8"}
 OLD_NAMES = {b"IBMPC": b"CP437", b"+7_FIDO": b"CP866"}
 LOST = "\ufffd"
-TOP = os.path.dirname(os.path.dirname(os.path.abspath(__file__)))
-PROGRAM = os.environ.get("ECHONET", os.path.join(TOP, "bin", "echonet"))
 MOST = 500
 DATES = ((making.DATE, "03 Jul 2026 12:34:56 -0000"), (b"29 Feb 80  00:00:00\0", "29 Feb 1980 00:00:00 -0000"),
          (b"31 Dec 99  23:59:59\0", "31 Dec 1999 23:59:59 -0000"), (b"03 \n\n\n 26  12:34:56\0", None),
@@ -33,7 +32,7 @@ LONGEST_LINE, LONGEST_WORD = 76, 75
 
 
 def table_of(charset):
-    """The characters of the bytes of a charset, by iconv; U+FFFD where it has none."""
+    """The characters of the bytes of a charset, by iconv, with U+FFFD for bytes without a character."""
     table = {}
     for byte in range(256):
         made = subprocess.run(["iconv", "-f", CHARSETS[charset], "-t", "UTF-8"], input=bytes([byte]),
@@ -46,7 +45,7 @@ TABLES = {charset: table_of(charset) for charset in CHARSETS if charset != b"UTF
 
 
 def decoded(charset, content):
-    """What bytes say; of a charset that is not known each byte is a character."""
+    """Bytes as text. In an unknown charset each byte is a character."""
     if charset is None:
         return content.decode("latin-1")
     if charset == b"UTF-8":
@@ -65,7 +64,7 @@ def some_bytes(chance, most):
 
 
 class Message:
-    """A message of a base, and what is to be read of it."""
+    """A message of a base, and how readers have to read it."""
 
     def __init__(self, chance, number, ids):
         self.number, self.id = number, b"1:10/2 %08x" % number
@@ -84,7 +83,7 @@ class Message:
 
     @staticmethod
     def chosen(chance):
-        """What the CHRS line says, and the charset."""
+        """The words of the CHRS line, and the charset."""
         kind = chance.random()
         if kind < 0.1:
             return None, b"CP437"
@@ -95,7 +94,7 @@ class Message:
 
     @staticmethod
     def line(chance):
-        """A line of the body that is no control line, and that no reader takes for another part of the text."""
+        """A line of the body that is no control line, and that no reader mistakes for another part of the text."""
         front = chance.choice([b"", b"", b"\n", b"From ", b">From ", b"\nFrom "])
         line = front + some_bytes(chance, 120) + chance.choice([b"", b"\nFrom x", b"\n\n"])
         bare = line.lstrip(b"\n")
@@ -114,7 +113,7 @@ class Message:
 
 
 def check_json(message, line):
-    """One line is one object, with just what was put into the base."""
+    """One line is one object, with exactly the message of the base."""
     label = message.label
     expected = {
         "number": message.number, "area": "TEST", "state": "waiting", "sender": "1:10/2",
@@ -141,7 +140,7 @@ def check_lines(name, lines):
 
 
 def unfolded(mail, name):
-    """A header line in bytes, its encoded words decoded; None where there is none."""
+    """A header line in bytes, its encoded words decoded, or None if there is none."""
     found = mail.get(name)
     if found is None:
         return None
@@ -168,12 +167,12 @@ def id_of(found):
 
 
 def without_feeds(line):
-    """A line as the body of a mail has it, but for its charset."""
+    """A line as the body of a mail has it, except for its charset."""
     return line.lstrip(b"\n")
 
 
 def check_mail(message, mail):
-    """A mail, with just what was put into the base."""
+    """A mail, with exactly the message of the base."""
     shown = {
         "From": name_in(mail, "From"), "To": name_in(mail, "To"), "Subject": unfolded(mail, "Subject"),
         "Date": mail.get("Date"), "X-FTN-Date": unfolded(mail, "X-FTN-Date"), "Message-ID": id_of(mail.get("Message-ID")),
@@ -220,7 +219,7 @@ def check_threads(messages, mails):
 
 
 def told(out):
-    """How many U+FFFD the last line on standard error tells."""
+    """How many U+FFFD the last line on standard error reports."""
     found = re.fullmatch(rb"echonet: (\d+) characters replaced by U\+FFFD\n", out)
     if out and not found:
         sys.exit("standard error has %r" % out)
@@ -228,7 +227,7 @@ def told(out):
 
 
 def exported(form, base):
-    """What was printed in a form, and how many U+FFFD were told."""
+    """The output in a form, and how many U+FFFD were reported."""
     run = subprocess.run([PROGRAM, "export", form, base], stdout=subprocess.PIPE, stderr=subprocess.PIPE)
     if run.returncode != 0:
         sys.exit("export %s ended with %d: %r" % (form, run.returncode, run.stderr))
@@ -244,7 +243,7 @@ def made_base(messages, folder):
 
 
 def try_lines(messages, folder):
-    """All of a base is read back as JSON."""
+    """A whole base is read back as JSON."""
     out, lost = exported("--json", made_base(messages, folder))
     lines = out.split(b"\n")
     if lines.pop() or len(lines) != len(messages) or out.decode().count(LOST) != lost:
@@ -254,7 +253,7 @@ def try_lines(messages, folder):
 
 
 def try_mails(messages, folder):
-    """All of a base is read back as a mailbox."""
+    """A whole base is read back as a mailbox."""
     out, lost = exported("--mbox", made_base(messages, folder))
     mails = mails_of(out, folder)
     if len(mails) != len(messages) or sum(lost_in(message) for message in messages) != lost:
@@ -281,7 +280,7 @@ def lost_in(message):
 
 
 class Real:
-    """A message of a real packet, and what is to be read of it."""
+    """A message of a real packet, and how readers have to read it."""
 
     def __init__(self, number, packed, echo):
         self.number, self.to, self.by, self.subject, self.date = number, packed.to, packed.by, packed.subject, packed.date
@@ -313,7 +312,7 @@ def moment_of(date):
 
 
 def try_packets(folder):
-    """The real packets: a base of each. The answer is how many messages they have."""
+    """The real packets: a base of each. Returns how many messages they have."""
     packets, count = os.path.join(TOP, "examples", "packets"), 0
     for name in sorted(os.listdir(packets)):
         if not name.endswith(".pkt"):

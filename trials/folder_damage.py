@@ -1,12 +1,13 @@
-"""Spoils base folders, and runs each command on them.
+"""Damages base folders, and runs each command on them.
 
-1. A small folder, with a purged message, a scanned one and one that waits, of which each byte of each file is changed in
-   turn, in three ways: `list` and `convert` answer or end with one fault line. What they read has no message under a key
-   that was not there, but for the tag of a message whose own bytes were changed. Then a command that changes the folder
-   does so or ends with one fault line.
-2. Folders of which a byte was changed by chance, some cut off or added, or a file removed: each command ends so.
+1. A small folder has a purged message, a scanned one and one that waits. Each byte of each file is changed in turn,
+in
+   three ways. `list` and `convert` work or end with one fault line. They read no message under a new key, except the
+   tag
+   of a message whose own bytes were changed. A command that changes the folder works or ends with one fault line.
+2. Folders with a random byte changed, bytes cut off or added, or a file removed. Each command ends in the same way.
 
-Words: each how many-th byte is changed (1), how many folders are spoiled by chance (300).
+Arguments: which bytes are changed, each (1), each second (2) and so on; how many folders are damaged at random (300).
 """
 import os
 import random
@@ -14,8 +15,9 @@ import sys
 import tempfile
 
 import making
-from folder_station import (COMMANDS, MOMENT, content_of, converted, copy_of, expect, filled_station, finish, is_orderly,
-                            new_station, put, run)
+from contents import content_of, write
+from folder_station import (COMMANDS, MOMENT, converted, copy_of, expect, filled_station, finish, is_orderly,
+                            new_station, run)
 
 
 def small_station(folder):
@@ -24,11 +26,11 @@ def small_station(folder):
     os.mkdir(os.path.join(folder, "base"))
     scan = ("scan", "--at", MOMENT, "links", "base", "out")
     plain = making.text(b"TEST", [b"No id", b" * Origin: Two (1:10/2)"], [(10, 1), (10, 2)], [(10, 2)])
-    put(os.path.join(folder, "last.pkt"), making.packet(
+    write(os.path.join(folder, "last.pkt"), making.packet(
         making.UPLINK, making.OWN, [making.packed(making.UPLINK, making.OWN, plain)]))
     for number in (0, 1):
-        put(os.path.join(folder, "%d.pkt" % number), making.plain_packet([number], 20))
-    put(os.path.join(folder, "new.pkt"), making.plain_packet(range(1, 4), 20))
+        write(os.path.join(folder, "%d.pkt" % number), making.plain_packet([number], 20))
+    write(os.path.join(folder, "new.pkt"), making.plain_packet(range(1, 4), 20))
     for words in (("toss", "links", "base", "0.pkt"), scan, ("purge", "links", "base"), ("toss", "links", "base", "1.pkt"),
                   scan, ("toss", "links", "base", "last.pkt")):
         ended = run(folder, *words)
@@ -37,7 +39,7 @@ def small_station(folder):
 
 
 def keys_in(base):
-    """What tells the messages of a base file apart: tag and id, or else all but SEEN-BY and PATH."""
+    """What distinguishes the messages of a base file: tag and id, or else all but SEEN-BY and PATH."""
     keys = []
     for first, _, names, tag, body in making.read_base(base)[1]:
         if first in (2, 3):
@@ -56,8 +58,8 @@ def listed_ids(ended):
 
 
 def read_spoiled(what, place, name, keys):
-    """Reads a folder of which a file was spoiled: what is read has no other key, but for a tag where that file has the
-    messages. Answers whether it could be read."""
+    """Reads a folder with one damaged file. No message has another key, except for a tag if that file has the
+    messages. Returns whether the folder could be read."""
     known = {key[1] for key in keys}
     ended = run(place, "list", "base")
     expect("%s: list, %r" % (what, ended), is_orderly(ended))
@@ -68,13 +70,13 @@ def read_spoiled(what, place, name, keys):
         others = [key for key in keys_in(base) if key not in keys and not (name.startswith("messages.") and key[1] in known)]
         expect("%s: under other keys %r" % (what, others), not others)
     else:
-        # Each message by itself may be in order where all of them are not.
+        # Each message by itself may be valid where all of them are not.
         expect("%s: convert, %r" % (what, base), is_orderly(base) and ended[0] in (0, base[0]))
     return ended[0] == 0
 
 
 def change_spoiled(what, place, commands):
-    """Runs commands on a spoiled folder."""
+    """Runs commands on a damaged folder."""
     for words in (*commands, ("list", "base")):
         ended = run(place, *words)
         expect("%s: %s, %r" % (what, words[0], ended), is_orderly(ended))
@@ -91,7 +93,7 @@ def each_byte(step, folder):
             for change in (0x01, 0x20, 0xff):
                 what = "byte %d of %s changed by %02x" % (at, name, change)
                 place = copy_of(station, os.path.join(folder, "place"))
-                put(os.path.join(place, "base", name), content[:at] + bytes([content[at] ^ change]) + content[at + 1:])
+                write(os.path.join(place, "base", name), content[:at] + bytes([content[at] ^ change]) + content[at + 1:])
                 answers += read_spoiled(what, place, name, keys)
                 change_spoiled(what, place, [commands[number % len(commands)]])
                 number += 1
@@ -99,7 +101,7 @@ def each_byte(step, folder):
 
 
 def by_chance(count, folder):
-    """Spoils folders by chance."""
+    """Damages folders at random."""
     chance = random.Random("damaged")
     station = filled_station(os.path.join(folder, "damaged"))
     keys = keys_in(converted(station))
@@ -120,7 +122,7 @@ def by_chance(count, folder):
         if deed == "remove":
             os.remove(path)
         else:
-            put(path, bytes(content))
+            write(path, bytes(content))
         what = "%s at %d of %s" % (deed, at, name)
         read_spoiled(what, place, name, keys)
         change_spoiled(what, place, [("export", "base"), *COMMANDS.values()])

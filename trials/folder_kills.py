@@ -1,11 +1,15 @@
-"""Kills commands on a base folder at their calls of the system, where strace is installed.
+"""Kills commands on a base folder at their calls of the system. It needs strace.
 
-1. Each command that changes a base, the first posting in an empty folder, and `convert` into a folder, killed at each of
-   its calls in turn: the folder stands for the base from before it or after it, a packet stands under its name only where
-   the cursor was moved, and the command run again ends as if nothing had been.
-2. Each of them killed at a call that changes the disk or flushes it, and then the run that mends killed at such a call.
+1. Each command that changes a base, the first posting in an empty folder, and `convert` into a folder. Each is killed
+at
+   each of its calls in turn. The folder is the base from before the command or after it. A packet has its name only
+   if
+   the cursor was moved. The command run again ends as if it had not been killed.
+2. Each of them is killed at a call that changes the disk or flushes it. Then the run that repairs this is killed at
+such
+   a call.
 
-Word: of how many of the calls of the first kill each is taken for the second part (1).
+Argument: which of the first kills the second part repeats, each (1), each second (2) and so on.
 """
 import os
 import re
@@ -15,14 +19,15 @@ import sys
 import tempfile
 
 import making
-from folder_station import (COMMANDS, PROGRAM, converted, copy_of, expect, filled_station, finish, is_orderly,
-                            new_station, packets_in, run)
+from contents import PROGRAM
+from folder_station import (COMMANDS, converted, copy_of, expect, filled_station, finish, is_orderly, new_station,
+                            packets_in, run)
 
 CHANGES = ("fsync", "fdatasync", "ftruncate", "link", "linkat", "unlink", "unlinkat", "rename", "pwrite64")
 
 
 def calls_of(station, words):
-    """The calls of the system of a command: each a name, its number among those of the name, and its line."""
+    """The calls of the system of a command: the name of each, its number among those of the name, and its line."""
     subprocess.run(["strace", "-o", "calls", PROGRAM, *words], cwd=station, input=b"", capture_output=True, check=False)
     counts, calls = {}, []
     with open(os.path.join(station, "calls"), encoding="utf-8", errors="replace") as file:
@@ -45,14 +50,14 @@ def changes(call):
 
 
 def run_killed(station, words, call):
-    """Runs a command that is killed at a call, and tells whether it was."""
+    """Runs a command that is killed at a call. Returns whether it was killed."""
     ended = run(station, *words, before=("strace", "-o", "/dev/null", "-e",
                                          "inject=%s:signal=SIGKILL:when=%d" % call[:2]))
     return ended[0] in (-9, 137)
 
 
 class Wanted:
-    """What a command leaves that nobody stops: what it prints, the base before it and after it, and the packets."""
+    """What a command leaves that is not killed: its output, the base before it and after it, and the packets."""
 
     def __init__(self, words, station, folder):
         self.words, self.before = words, converted(station)
@@ -61,7 +66,7 @@ class Wanted:
         self.after, self.packets = converted(whole), packets_in(os.path.join(whole, "out"))
 
     def look(self, what, station):
-        """Looks at what a kill left, and answers the base."""
+        """Looks at what a kill left, and returns the base."""
         base = converted(station)
         expect("%s: the base" % what, base in (self.before, self.after))
         for packet, content in packets_in(os.path.join(station, "out")).items():
@@ -93,7 +98,7 @@ def kill_each(name, words, station, folder):
 
 
 def kill_twice(name, words, station, folder, step):
-    """Kills a command, and then the run that mends what that left."""
+    """Kills a command, and then the run that repairs the result."""
     wanted = Wanted(words, station, folder)
     pairs = 0
     for first in list(filter(changes, calls_of(copy_of(station, os.path.join(folder, "counted")), words)))[::step]:

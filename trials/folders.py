@@ -1,13 +1,12 @@
-"""Runs the same commands on a base file and on a base folder, side by side, and compares what they print, how they
-end, the packets that they leave, and, by `convert`, the bases: byte for byte.
+"""Runs the same commands on a base file and on a base folder. It compares their output, their status, their packets
+and, by `convert`, the bases, byte for byte.
 
-1. Random commands: postings (of mails and stored messages too), answers, tosses (of packets that were tossed before, that
-   are cut, that are for another system, that are not there), scans, purges, and those that read; refused ones
-   among them.
-2. `list` and `convert` beside commands that change the folder: each time the base of one moment.
-3. A folder that is another system's, and folders that are no base folders.
+1. Random commands: postings (also of mails and stored messages), answers, tosses, scans, purges, and those that read.
+   Tosses include known packets, cut ones, packets for another system and missing ones. Some commands are refused.
+2. `list` and `convert` while commands change the folder: each time they read the base of one point in time.
+3. A folder of another system, and folders that are no base folders.
 
-Word: how many lists of random commands (40).
+Argument: how many lists of random commands (40).
 """
 import os
 import random
@@ -18,12 +17,12 @@ import sys
 import tempfile
 
 import making
-from folder_station import (AREAS, COMMANDS, MOMENT, PROGRAM, content_of, converted, expect, filled_station, finish,
-                            new_station, packets_in, put, run)
+from contents import PROGRAM, content_of, write
+from folder_station import COMMANDS, MOMENT, converted, expect, filled_station, finish, new_station, packets_in, run
 
 
 class Pair:
-    """A station with a base file and one with a base folder, to which the same is done."""
+    """A station with a base file and one with a base folder. Both run the same commands."""
 
     def __init__(self, number, folder):
         self.chance = random.Random("folders %d" % number)
@@ -32,7 +31,7 @@ class Pair:
         self.serial, self.plain, self.what = 0, 0, []
 
     def both(self, *words, given=b""):
-        """Runs the words on both, and compares."""
+        """Runs the command on both, and compares."""
         self.what.append(" ".join(words))
         one, other = (run(folder, *words, given=given) for folder in (self.file, self.folder))
         expect("%s: %r and not %r" % (self.what, other, one), one == other)
@@ -43,7 +42,7 @@ class Pair:
     def put_both(self, name, content):
         """The same file for both."""
         for folder in (self.file, self.folder):
-            put(os.path.join(folder, name), content)
+            write(os.path.join(folder, name), content)
 
     def some_serial(self):
         """Mostly a new serial."""
@@ -54,7 +53,7 @@ class Pair:
     def post(self):
         """A posting."""
         serial = self.some_serial()
-        if serial == "auto":  # which looks at the clock
+        if serial == "auto":  # whose serial depends on the clock
             serial = "%08X" % (self.serial + 1000)
         tag = self.chance.choice(("TEST", "test", "OTHER", "NONE"))
         body = self.chance.choice((b"", b"Hello\n", b"a\r\nb\n", b"x" * 3000, b"\0"))
@@ -62,7 +61,7 @@ class Pair:
                   "--serial", serial, "--at", MOMENT, "links", "base", given=body)
 
     def mail(self):
-        """A mail that is posted, or is none."""
+        """A mail that is posted, or a file that is no mail."""
         letter = b"To: All\r\nFrom: Ann <ann@example.org>\r\nSubject: Mail %d\r\nNewsgroups: %s\r\n\r\nText\r\n" % (
             self.serial, self.chance.choice((b"TEST", b"NONE", b"")))
         self.both("post", "--mail", "--serial", self.some_serial().replace("auto", "000fffff"), "--at", MOMENT, "links",
@@ -95,7 +94,7 @@ class Pair:
         self.both("toss", *each, "links", "base", *names)
 
     def scan(self):
-        """A scan, at times into a folder that is not there."""
+        """A scan, at times into a folder that does not exist."""
         self.both("scan", "--at", MOMENT, "links", "base", self.chance.choice(("out",) * 9 + ("none",)))
 
     def purge(self):
@@ -103,16 +102,16 @@ class Pair:
         self.both("purge", "links", "base")
 
     def look(self):
-        """What is read of the bases."""
+        """The commands that read the bases."""
         self.both("list", *self.chance.choice(((), ("--area", "other"), ("--from", "2"))), "base")
         self.both("export", *self.chance.choice(((), ("--json",), ("--purged",), ("--area", "TEST"))), "base")
 
     def faulty(self):
-        """A link file with a fault, and one that is not there."""
+        """A link file with a fault, and a missing one."""
         self.both("scan", "--at", MOMENT, self.chance.choice(("faulty.links", "none")), "base", "out")
 
     def compare(self):
-        """The one base is the other."""
+        """The two bases are equal."""
         file = content_of(os.path.join(self.file, "base"))
         expect("%s: the base" % self.what, converted(self.folder) == file)
 
@@ -151,7 +150,7 @@ def side_by_side(count, folder):
         shutil.rmtree(os.path.join(folder, "pair%d" % number))
 
 
-# What a loop of commands prints of the base that it changes: each posts a message, scans it and purges it.
+# Prints a loop of commands that changes the base: each round posts a message, scans it and purges it.
 CHANGES = """for i in $(seq 100 160); do
   "$0" post --area TEST --to All --from Ann --subject Hi --serial 00000$i --at %s links base < /dev/null
   "$0" scan --at %s links base out; "$0" purge links base
@@ -159,8 +158,8 @@ done""" % (MOMENT, MOMENT)
 
 
 def moment_of(base):
-    """How many messages a base file has, how many of them wait, and how many are scanned and not purged; the purged ones
-    stand in front."""
+    """How many messages a base file has, how many of them wait, and how many are scanned and not purged. The purged
+    ones come first."""
     cursor, messages = making.read_base(base)
     purged = [message[0] in (2, 3) for message in messages]
     expect("the purged ones stand in front", purged == sorted(purged, reverse=True))
@@ -168,7 +167,7 @@ def moment_of(base):
 
 
 def beside(folder):
-    """`list` and `convert` beside commands that change the folder."""
+    """`list` and `convert` while commands change the folder."""
     station = filled_station(os.path.join(folder, "beside"))
     for name in ("scan", "purge"):
         expect("a %s first" % name, run(station, *COMMANDS[name])[0] == 0)
@@ -176,10 +175,10 @@ def beside(folder):
         counts = []
         while changes.poll() is None:
             ended = run(station, "list", "base")
-            expect("list beside others: %r" % (ended,), ended[0] == 0)
+            expect("list while others run: %r" % (ended,), ended[0] == 0)
             counts.append(int(re.search(rb"end (\d+) messages", ended[1])[1]) if ended[0] == 0 else 0)
             base = converted(station)
-            expect("convert beside others: %r" % (base[:3],), isinstance(base, bytes))
+            expect("convert while others run: %r" % (base[:3],), isinstance(base, bytes))
             if isinstance(base, bytes):
                 count, waiting, scanned = moment_of(base)
                 counts.append(count)
@@ -190,7 +189,7 @@ def beside(folder):
 
 
 def others(folder):
-    """Folders of another system, and such as are no base folders."""
+    """Folders of another system, and folders that are no base folders."""
     station = filled_station(os.path.join(folder, "others"))
     held = converted(station)
     for words in COMMANDS.values():
@@ -201,7 +200,7 @@ def others(folder):
     expect("nothing has changed", converted(station) == held)
     stranger = os.path.join(station, "stranger")
     os.mkdir(stranger)
-    put(os.path.join(stranger, "notes"), b"x")
+    write(os.path.join(stranger, "notes"), b"x")
     for words in (("list", "stranger"), *([*words[:-2], "links", "stranger"] for words in
                                           (COMMANDS["post"], COMMANDS["purge"]))):
         ended = run(station, *words)

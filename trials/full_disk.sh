@@ -1,9 +1,9 @@
 #!/usr/bin/env bash
-# Every command where a file may not grow, where the disk is full, and where standard output is: one
-# fault line, status 3, the old base whole or the new one, no packet in part, nothing left beside. The
-# small disk is a tmpfs, for which one has to be root; on folders each command is tried with one page more left on
-# it until it has enough, and then once more with the disk emptied.
-# Words: `files` or `folders`, how many limits of a file's size are tried.
+# Runs every command where a file may not grow, where the disk is full, and where standard output is full. Each ends
+# with one fault line and status 3. The base is the old one or the new one, whole. No packet is incomplete, and no
+# other file is left. The small disk is a tmpfs, which needs root. On folders each command is tried with one page more
+# until it has enough. Then it is tried once more with the disk emptied. Arguments: `files` or `folders`, how many
+# limits of a file's size are tried.
 set -eu
 cd "$(dirname "$0")/.."
 . trials/setting.sh
@@ -36,10 +36,10 @@ run_command() {
   esac
 }
 
-# The files as they are before a command.
+# The files before a command.
 start() { rm -rf out base base.*.new; mkdir out; put_base "$1.before" base; }
 
-# What holds of the files after a command, whatever its status. Words: the command, the status.
+# What holds of the files after a command, whatever its status. Arguments: the command, the status.
 look_at_files() {
   local packet
   case $2 in
@@ -52,7 +52,7 @@ look_at_files() {
   done
 }
 
-# How many bytes the largest file has that a command makes or adds to.
+# The size of the largest file that a command makes or adds to.
 most_of() {
   if [ "$kind $1" = "folders scan" ]; then
     cat 1.10.4.400.pkt | wc -c
@@ -71,9 +71,9 @@ limit() {
   look_at_files "$1" "$status"
   if [ "$most" -gt $(($2 * 1024)) ]; then
     expect "$1 at $2 blocks: one line and 3" ended_with_fault "$status" 3 fault "echonet: cannot use "
-    expect "$1: nothing left beside" is_none base.*.new out/*.new
+    expect "$1: no staging file is left" is_none base.*.new out/*.new
   fi
-  # Where the signal of a file that grows too large is not ignored, it may end the program.
+  # The signal of a file that grows too large may end the program if it is not ignored.
   start "$1"
   status=0
   { ( ulimit -f "$2"; run_command "$1" > /dev/null 2>&1 ) || status=$?; } 2> /dev/null
@@ -82,7 +82,7 @@ limit() {
   start_again "$1"
 }
 
-# What a stopped run left is in nobody's way: the command run again does all.
+# What a stopped run left does no harm: the command run again does all.
 start_again() {
   if [ $kind = folders ]; then
     if base_is base "$1.before"; then
@@ -96,11 +96,11 @@ start_again() {
     cp "$1.before" base
     expect "$1 again" eval "run_command $1 > /dev/null 2> fault"
     look_at_files "$1" 0
-    expect "$1 again: nothing left beside" is_none base.*.new out/*.new
+    expect "$1 again: no staging file is left" is_none base.*.new out/*.new
   fi
 }
 
-# A command on a disk on which so many kilobytes are left.
+# A command on a disk with so many free kilobytes.
 fill() {
   local left
   rm -rf "$work"/disk/*
@@ -117,7 +117,7 @@ fill() {
   fi
   expect "$1 with $2 kB left on the disk: one line and 3" ended_with_fault "$status" 3 fault "echonet: cannot use "
   expect "$1: the old base" base_is disk/base "$1.before"
-  expect "$1: nothing left beside" is_none disk/base.*.new disk/out/*.new
+  expect "$1: no staging file is left" is_none disk/base.*.new disk/out/*.new
   for packet in disk/out/*.pkt; do
     [ -e "$packet" ] || continue
     expect "$1: a whole packet" cmp -s "$packet" "$(basename "$packet")"
@@ -141,7 +141,7 @@ fill_pages() {
   echo "$1 on a disk with $left kB left and with less"
 }
 
-# Every command with a standard output that takes nothing.
+# Every command with a full standard output.
 no_output() {
   local status=0
   eval "$2" > /dev/full 2> fault || status=$?

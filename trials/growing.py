@@ -1,4 +1,4 @@
-"""Grown inputs: tables of what they are, and for each a function from a size to its bytes."""
+"""Grown inputs: tables that describe them, and a function for each from a size to its bytes."""
 import struct
 
 import making
@@ -9,12 +9,12 @@ ID = AREA + b"\x01MSGID: 1:10/2 00000001\r"
 
 
 def filled(piece, size, front=b""):
-    """Bytes of about a size, of one piece again and again."""
+    """Bytes of about a size: one piece again and again."""
     return front + piece * ((size - len(front)) // len(piece))
 
 
 def four_texts(make, size):
-    """A packet of four messages of other subjects, whose texts have a quarter of the size each."""
+    """A packet of four messages with different subjects. Their texts have a quarter of the size each."""
     text = make(size // 4 - 200)
     return making.packet(UPLINK, OWN, [making.packed(UPLINK, OWN, text, subject=subject) for subject in (b"1", b"2", b"3", b"4")])
 
@@ -63,7 +63,7 @@ TEXTS = {
 
 
 def tiny_packet(text_of, size):
-    """A packet of messages as small as they can be."""
+    """A packet of messages as small as possible."""
     each = len(making.packed(UPLINK, OWN, text_of(10**6), b"", b"", b""))
     return making.packet(UPLINK, OWN, [
         making.packed(UPLINK, OWN, text_of(number), b"", b"", b"") for number in range(10**6, 10**6 + size // each)])
@@ -97,7 +97,7 @@ def small_stored(tag, number, first=1):
 
 
 def false_length(size):
-    """A base whose first text says that it has four gigabytes."""
+    """A base whose first text claims four gigabytes."""
     front = making.base(0, [b"", b""]) + making.stored(1, UPLINK, b"\xff\xff\xff\xff" + AREA)
     return filled(b"x\r", size, front)
 

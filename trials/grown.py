@@ -1,7 +1,7 @@
-"""Tries grown inputs: each at two sizes, of which one is twice the other. Each run ends by itself in
-order, takes at most so much memory for each byte of its input, and at most 2.5 times the processor time
-at twice the size. Words: the greater size of the inputs that have no smaller limit, in bytes
-(64,000,000), how many rows to try at once (1), and a piece of a row's name, where only some are to be.
+"""Tries grown inputs, each at two sizes, of which one is twice the other. Each run ends by itself without a crash. It
+takes at most a fixed memory for each byte of its input. At twice the size it takes at most 2.5 times the processor
+time. Arguments: the greater size in bytes of the inputs that have no smaller limit (64,000,000), how many rows to try
+at once (1), and a part of a row's name, to try only some.
 """
 import multiprocessing
 import os
@@ -14,25 +14,24 @@ import time
 import growing
 import making
 import running
+from contents import PROGRAM, TOP
 
-TOP = os.path.dirname(os.path.dirname(os.path.abspath(__file__)))
-PROGRAM = os.environ.get("ECHONET", os.path.join(TOP, "bin", "echonet"))
 MOST_RATIO = 2.5
-# Below these seconds a ratio says nothing.
+# With less than these seconds a ratio means nothing.
 LEAST_SECONDS = 0.5
-# What the program may take beside what it takes for each byte of its input.
+# What the program may take besides the memory for each byte of its input.
 LEAST_KILOBYTES = 16_384
 # So many bytes of memory for each byte of the input.
 MOST_BYTES = {"show": 4, "hex": 4, "toss": 24, "base": 24, "nodelist": 64, "check": 32, "picture": 32,
               "replay": 64, "post": 32}
-# And of `replay` for each packet that it makes, whatever the texts in it.
+# And of `replay` for each packet that it makes, whatever its texts.
 MOST_OF_PACKET = 256
 HUB_LINKS = 2000
 SMALL_LIMIT = 1_048_000
 
 
 class Row:
-    """A kind of input, what is run on it, and what came of it."""
+    """A kind of input, the command that runs on it, and the result."""
 
     def __init__(self, command, name, make, size, words, given=False, packets=0):
         self.command, self.name, self.make, self.size = command, name, make, size
@@ -77,7 +76,7 @@ CHAIN = [os.path.join(TOP, "examples", "nets", "chain", "%d.links" % number) for
 
 
 def make_input(row, size, folder):
-    """Leaves the input of a row in the folder, with what else its command needs."""
+    """Writes the input of a row to the folder, and the other files of its command."""
     shutil.rmtree(folder, ignore_errors=True)
     os.makedirs(os.path.join(folder, "out"))
     links = making.link_file(making.OWN, [("TEST", (making.UPLINK, *making.DOWNLINKS))])
@@ -88,7 +87,8 @@ def make_input(row, size, folder):
 
 
 def measure(row, size, folder):
-    """Runs a row's command on an input of a size, made by a process of its own, and tells how it ended."""
+    """Runs a row's command on an input of a size. A process of its own makes the input. Returns how the command
+    ended."""
     subprocess.run([sys.executable, __file__, "--make", row.command, row.name, str(size), folder], check=True)
     files = ("input", "base", "out", "1.links", "hub.links")
     words = [os.path.join(folder, word) if word in files else word for word in row.words]
@@ -97,13 +97,13 @@ def measure(row, size, folder):
 
 
 def is_orderly(status, fault):
-    """Whether a run ended by itself, with one fault line where the status tells of a fault."""
+    """Whether a run ended by itself, with one fault line if its status is a fault."""
     count, line = fault.split(" lines, ", 1)
     return status in (0, 1) and count == "0" or status in (2, 3) and count == "1" and line.startswith("echonet: ")
 
 
 def try_row(row, folder):
-    """Tries a row, prints its line, and answers whether all held."""
+    """Tries a row, prints its line, and returns whether all held."""
     whole = measure(row, row.size, folder)
     status, seconds, kilobytes, fault = whole
     ratio = seconds / measure(row, row.size // 2, folder)[1] if seconds > LEAST_SECONDS else 0.0
@@ -119,7 +119,7 @@ def try_row(row, folder):
 
 
 def try_numbered(number, size, folder):
-    """Tries the row of this number, in a folder of its process's own."""
+    """Tries the row of this number, in a folder of its own process."""
     return try_row(list(rows(size))[number], os.path.join(folder, str(os.getpid())))
 
 

@@ -1,7 +1,6 @@
-"""Tries many small hostile inputs. Each is made anew from its kind and its number, so that a failure can
-be looked at again. Words: how many inputs (100,000), how many at a time (1), where the numbers begin (0);
-or `--one KIND NUMBER FOLDER`, which leaves the files of one trial in a folder; or `--write KIND NUMBER`,
-which writes one input to standard output.
+"""Tries many small hostile inputs. Each is made from its kind and its number, so a failure can be reproduced.
+Arguments: how many inputs (100,000), how many at a time (1), the first number (0); or `--one KIND NUMBER FOLDER`,
+which leaves the files of one trial in a folder; or `--write KIND NUMBER`, which writes one input to standard output.
 """
 import glob
 import multiprocessing
@@ -16,9 +15,8 @@ import laws
 import reading
 import running
 import small
+from contents import PROGRAM, TOP
 
-TOP = os.path.dirname(os.path.dirname(os.path.abspath(__file__)))
-PROGRAM = os.environ.get("ECHONET", os.path.join(TOP, "bin", "echonet"))
 EXAMPLES = os.path.join(TOP, "examples")
 SEED = "echonet"
 
@@ -33,7 +31,7 @@ def real_packets():
 
 
 REAL = real_packets()
-# Of each hundred inputs so many are of a kind.
+# How many of each hundred inputs are of a kind.
 KINDS = {
     "packet": (40, lambda chance: small.packet(chance, REAL), laws.try_packet),
     "base": (20, small.base, laws.try_base),
@@ -51,7 +49,7 @@ def made(kind, number):
 
 
 def try_one(kind, number, runner):
-    """Makes and tries an input, and answers what did not hold."""
+    """Makes and tries an input, and returns what did not hold."""
     trial = laws.Trial(runner, EXAMPLES)
     laws.clear(runner.folder)
     laws.set_up(trial)
@@ -63,12 +61,12 @@ def try_one(kind, number, runner):
 
 
 def folder_for_trials():
-    """A folder in memory where there is one, so that no disk is waited for."""
+    """A folder in memory if there is one, so that no disk delays the trial."""
     return tempfile.mkdtemp(prefix="echonet-trials.", dir="/dev/shm" if os.path.isdir("/dev/shm") else None)
 
 
 def try_share(share):
-    """Tries each so-many-th input, in a process of its own. Answers the counts and the failures."""
+    """Tries each so-many-th input, in a process of its own. Returns the counts and the failures."""
     first, count, step, begin = share
     folder = folder_for_trials()
     runner = running.Runner(PROGRAM, os.path.join(folder, "trial"))
@@ -83,7 +81,7 @@ def try_share(share):
 
 
 def try_all(count, jobs, begin):
-    """Tries so many inputs and prints what did not hold, and the counts. Answers the status."""
+    """Tries so many inputs and prints what did not hold, and the counts. Returns the status."""
     started = time.time()
     shares = [(first, count, jobs, begin) for first in range(jobs)]
     with multiprocessing.Pool(jobs) as pool:

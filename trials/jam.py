@@ -1,9 +1,9 @@
-"""Reads what `export --jam` makes with a reader of JAM bases that is written from JAM-001 alone, and with CrashMail II.
+"""Reads the output of `export --jam` with a reader of JAM bases, written from JAM-001 only, and with CrashMail II.
 
-Bases are made by chance from a seed, with names, subjects and lines of any bytes, from here and from elsewhere, with and
-without an origin line, and with ids and control lines that are too long for a subfield. They are exported at once, in
-pieces, and after runs that were stopped: each time every message comes once, as what was put into the base. Where
-crashmail is there, its SCAN has to send just the message that was posted here. Words: how many messages.
+The bases are random from a seed. Names, subjects and lines have any bytes. Messages are from here and from elsewhere,
+with and without an origin line. Ids and control lines may be too long for a subfield. The bases are exported at once,
+in pieces, and after stopped runs. Each time every message is exported once, unchanged. With crashmail its SCAN has to
+send exactly the message that was posted here. Argument: how many messages.
 """
 import calendar
 import fcntl
@@ -20,8 +20,8 @@ import zlib
 
 import export
 import making
+from contents import PROGRAM, read, write
 
-PROGRAM = export.PROGRAM
 ENDS = (".jhr", ".jdt", ".jdx", ".jlr")
 GONE, DELETED, ECHOMAIL, LOCAL, SENT = 0xffffffff, 1 << 31, 1 << 24, 1, 16
 MONTHS = "JanFebMarAprMayJunJulAugSepOctNovDec"
@@ -30,7 +30,7 @@ LONGEST = {4: 100, 5: 100, 7: 40, 2000: 255}
 
 
 def crc(content):
-    """The CRC of a name or an id: that of the small letters, not turned at the end."""
+    """The CRC of a name or an id: that of the small letters, not inverted at the end."""
     return zlib.crc32(content.lower()) ^ 0xffffffff
 
 
@@ -80,12 +80,6 @@ class Jam:
         """The count of active messages is that of the index."""
         if self.active != len(self.messages):
             sys.exit("active: %d, and not %d" % (self.active, len(self.messages)))
-
-
-def read(path):
-    """The bytes of a file."""
-    with open(path, "rb") as file:
-        return file.read()
 
 
 def is_pair(date, at):
@@ -138,7 +132,7 @@ def check(message, got):
 
 
 def made(chance, number, ids):
-    """A message by chance, with what is wanted of it."""
+    """A random message, with its expected form."""
     message = export.Message(chance, number, ids)
     message.scanned = False
     message.sender = chance.choice([None, (1, 10, 2), (65535, 1, 65534)])
@@ -159,19 +153,18 @@ def made(chance, number, ids):
 
 def write_base(path, messages):
     """Makes the base of these messages, of which the first were scanned."""
-    with open(path, "wb") as file:
-        file.write(making.base(sum(message.scanned for message in messages), [message.content for message in messages]))
+    write(path, making.base(sum(message.scanned for message in messages), [message.content for message in messages]))
 
 
 def run(path, base, first=0):
-    """Exports from one on: the status and what is printed."""
+    """Exports from one on. Returns the status and the output."""
     words = [PROGRAM, "export", "--jam", path, "--area", "test", "--from", str(first), base]
     done = subprocess.run(words, stdout=subprocess.PIPE, stderr=subprocess.PIPE, check=False)
     return done.returncode, done.stdout.decode(), done.stderr.decode()
 
 
 def add(path, base, first, messages, end):
-    """Exports these messages, the last of the base."""
+    """Exports these messages, the last ones of the base."""
     cuts = sum(wanted_fields(message)[1] for message in messages)
     told = "echonet: %d control lines cut\n" % cuts if cuts else ""
     expected = (0, "exported %d messages, next %d\n" % (len(messages), end), told)
@@ -197,7 +190,7 @@ def wanted_links(found):
 
 
 def check_links(found, was_stopped):
-    """The messages are linked; where a run was stopped, those that stood there may not name their last replies."""
+    """The messages are linked. After a stopped run, older messages may lack their last replies."""
     for message, (reply_to, first, following) in zip(found, wanted_links(found)):
         if message.reply_to != reply_to:
             sys.exit("message %d replies to %d, and not %d" % (message.number, message.reply_to, reply_to))
@@ -207,7 +200,7 @@ def check_links(found, was_stopped):
 
 
 def check_all(path, messages, was_stopped=False):
-    """The JAM base has these messages, each once, and says so."""
+    """The JAM base has these messages, each once, and its counts agree."""
     jam = Jam(path)
     if len(jam.messages) != len(messages):
         sys.exit("%d messages, and not %d" % (len(jam.messages), len(messages)))
@@ -226,12 +219,11 @@ def contents(path):
 def put(path, files):
     """Makes the four files."""
     for end, content in zip(ENDS, files):
-        with open(path + end, "wb") as file:
-            file.write(content)
+        write(path + end, content)
 
 
 def stops(chance, before, after):
-    """What stands in the files where a run was stopped, after each of its writes and within them."""
+    """The contents of the files if a run was stopped, after each of its writes and within them."""
     headers, texts, index, last = after
     grown = before[0] + headers[len(before[0]):]
 
@@ -245,7 +237,7 @@ def stops(chance, before, after):
 
 
 def try_stopped(chance, place, base, messages, cut):
-    """Runs that are stopped leave a base with the first messages, and go on."""
+    """Stopped runs leave a base with the first messages, and a next run goes on."""
     path = os.path.join(place, "stopped")
     write_base(base, messages[:cut])
     add(path, base, 0, messages[:cut], cut)
@@ -265,7 +257,7 @@ def try_stopped(chance, place, base, messages, cut):
 
 
 def try_changed(path, base, messages):
-    """What a reader changed stays, and the last message is known by the rest of it."""
+    """What a reader changed stays, and the last message is recognized by the rest of it."""
     headers, texts, index, last = contents(path)
     place, = struct.unpack_from("<I", index, len(index) - 4)
     changed = bytearray(headers)
@@ -283,7 +275,7 @@ def try_changed(path, base, messages):
 
 
 def try_refused(place, base):
-    """Files of another kind, and damaged ones, are refused and stay as they are."""
+    """Files of another kind, and damaged ones, are refused and stay unchanged."""
     path = os.path.join(place, "refused")
     whole = contents(os.path.join(place, "once"))
     headers, texts, index, last = whole
@@ -317,7 +309,7 @@ def try_locked(path, base, end):
 
 
 def try_kills(chance, place, count):
-    """Runs that are killed at any moment."""
+    """Runs that are killed at any time."""
     base, path = os.path.join(place, "many"), os.path.join(place, "killed")
     messages = [made(chance, number, []) for number in range(2000)]
     write_base(base, messages)
@@ -338,7 +330,7 @@ def try_kills(chance, place, count):
 
 
 def crashmail_settings(folder, own, links):
-    """A configuration of CrashMail in a folder, without areas. Its folders are made."""
+    """A configuration of CrashMail in a folder, without areas. Makes its folders."""
     names = ("inbound", "outbound", "temp", "create", "packets", "bad", "netmail")
     for name in names:
         os.makedirs(os.path.join(folder, name), exist_ok=True)
@@ -353,9 +345,9 @@ def crashmail_settings(folder, own, links):
 
 
 def try_crashmail(place, messages):
-    """CrashMail's SCAN sends the message that was posted here and not scanned, and no other one.
+    """CrashMail's SCAN sends the message that was posted here and not scanned, and no other.
 
-    Of the others it fails to read some, as it does of JAM bases that it made itself.
+    It cannot read some of the others. It cannot read some JAM bases that it made itself either.
     """
     folder = os.path.join(place, "crashmail")
     shutil.copytree(os.path.join(place, "jams"), os.path.join(folder, "jam"))
@@ -371,7 +363,7 @@ def try_crashmail(place, messages):
 
 
 def plain(number):
-    """A message as people write them; the first two were posted here, and the first one was scanned."""
+    """A message as people write them. The first two were posted here, and the first one was scanned."""
     message = export.Message(random.Random(number), number, [])
     message.to, message.by, message.subject, message.date = b"All", b"Ann", b"Number %d" % number, making.DATE
     message.sender, message.origin = (1, 10, 2) if number > 1 else None, None
@@ -385,7 +377,7 @@ def plain(number):
 
 
 def try_base(chance, place, count):
-    """A base, its JAM base in three ways."""
+    """A base, and its JAM base made in three ways."""
     messages = []
     for number in range(count):
         messages.append(made(chance, number, [message.id for message in messages]))

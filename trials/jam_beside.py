@@ -1,9 +1,10 @@
-"""Runs `reader.sh --jam` beside a program that posts into the same JAM base under the lock of JAM programs.
+"""Runs `reader.sh --jam` while a program posts into the same JAM base under the lock of JAM programs.
 
-The program locks the first byte of PATH.jhr by fcntl, as JAM-001 programs do, and writes 500 messages, every other one with an
-id of the station. Meanwhile the station posts its own, and reader.sh runs 60 times. In the end each of the 500 is in the JAM
-base once, Sent, and was posted once; what the station posted came into the JAM base once; and the counts are right. A run
-whose lock another program holds changes nothing. Words: how many messages, how many runs.
+The program locks the first byte of PATH.jhr by fcntl, as JAM-001 programs do. It writes 500 messages, every other one
+with an id of the station. At the same time the station posts its own messages, and reader.sh runs 60 times. At the
+end the JAM base has each of the 500 once, marked as Sent, and each was posted once. It has each message of the
+station once, and the counts are right. A run that finds the lock held changes nothing. Arguments: how many messages,
+how many runs.
 """
 import collections
 import fcntl
@@ -16,14 +17,14 @@ import threading
 import time
 
 import jam
+from contents import TOP
 
-TOP = os.path.dirname(os.path.dirname(os.path.abspath(__file__)))
 READER = os.path.join(TOP, "examples", "net", "reader.sh")
 OWN = 1 << 24
 
 
 def append(path, content):
-    """Appends to a file, and answers where."""
+    """Appends to a file, and returns the offset."""
     with open(path, "ab") as file:
         at = file.tell()
         file.write(content)
@@ -74,7 +75,7 @@ def post(place, number):
 
 
 def subjects(place):
-    """How often each subject is in the base."""
+    """How many times each subject is in the base."""
     words = [jam.PROGRAM, "list", "--short", os.path.join(place, "one", "base")]
     listed = subprocess.run(words, stdout=subprocess.PIPE, check=True).stdout.decode()
     return collections.Counter(
@@ -82,7 +83,7 @@ def subjects(place):
 
 
 def is_written(kinds):
-    """Whether the program wrote the message with these subfields: it has no id, or one that the program gave."""
+    """Whether the program wrote the message with these subfields: it has no id, or an id of the program."""
     return kinds[2] == b"Ann" and (4 not in kinds or int(kinds[4].split()[-1], 16) < 2 * OWN)
 
 

@@ -1,7 +1,7 @@
-"""Shows a thread through jamnntpd 1.3, and posts what is written there: the JAM base of `export --jam` has 15 messages, 14 of
-them answers, and the References of each name the message that it answers. An article that is posted by NNTP is posted by
-`post --jam`, is marked as Sent, and is not exported again. It needs the i386 build of jamnntpd, since that for amd64 shows every
-second message of any JAM base; without it the trial is left out with a line.
+"""Shows a thread through jamnntpd 1.3, and posts an article that is written there. The JAM base of `export --jam` has
+15 messages, 14 of them answers. The References of each name the message that it answers. An article posted by NNTP is
+posted by `post --jam`, is marked as Sent, and is not exported again. It needs the i386 build of jamnntpd: the amd64
+build shows every second message of any JAM base. Without it the trial is left out with a line.
 """
 import os
 import shutil

@@ -1,4 +1,5 @@
-"""What stands on a disk, judged by docs/FORMATS.md alone: messages that trials post, toss or write, in bases and packets."""
+"""Judges the contents of a disk by docs/FORMATS.md only: messages that trials post, toss or write, in bases and
+packets."""
 import os
 import re
 import struct
@@ -7,9 +8,8 @@ from typing import NamedTuple
 
 import making
 import reading
+from contents import PROGRAM, read
 
-TOP = os.path.dirname(os.path.dirname(os.path.abspath(__file__)))
-PROGRAM = os.path.realpath(os.environ.get("ECHONET", os.path.join(TOP, "bin", "echonet")))
 LINKED = (making.UPLINK, *making.DOWNLINKS)
 LINKS = making.link_file(making.OWN, [("TEST", LINKED)], "Alpha")
 MSGID = re.compile(rb"\x01MSGID: [^\r]*\r")
@@ -17,7 +17,8 @@ STUB = re.compile(rb"AREA:TEST\r\x01MSGID: ([^\r]*)\r")
 
 
 class Message(NamedTuple):
-    """A message of these trials: how it comes (`post`, `toss`, or `write` by an editor), its number and about its size."""
+    """A message of these trials: how it is made (`post`, `toss`, or `write` by an editor), its number and its rough
+    size."""
     way: str
     serial: int
     size: int
@@ -48,26 +49,25 @@ class Message(NamedTuple):
         return self.way != "toss" or link != making.UPLINK
 
     def is_whole(self, text, form):
-        """Whether a text is its own in this form; what an editor wrote gets its id from the clock."""
+        """Whether a text is this message's in this form. An editor's message gets its id from the clock."""
         if self.way == "write":
             return MSGID.sub(b"", text) == MSGID.sub(b"", form(self))
         return text == form(self)
 
 
 def number_of(text):
-    """The number of the message that a text or an id is of."""
+    """The number of the message of a text or an id."""
     found = re.search(rb"\r([0-9a-f]{8}) x", text) or re.fullmatch(rb"1:10/[12] ([0-9a-f]{8})", text)
     return int(found[1], 16) if found else None
 
 
 def content(*path):
     """The bytes of a file."""
-    with open(os.path.join(*path), "rb") as file:
-        return file.read()
+    return read(os.path.join(*path))
 
 
 def files_of(folder, end):
-    """The names and bytes of the files of a folder whose names end so."""
+    """The names and bytes of the files of a folder that have this end of the name."""
     names = sorted(os.listdir(folder)) if os.path.isdir(folder) else []
     return {name: content(folder, name) for name in names if name.endswith(end)}
 
@@ -86,7 +86,7 @@ def texts_of(path):
         whole = content(path)
     else:
         return []
-    # A folder that `convert` made may have a purged message as a text with nothing in it but the id.
+    # In a folder that `convert` made, a purged message may be a text with nothing but the id.
     return [stub[1] if (stub := STUB.fullmatch(message[4])) else message[4] for message in making.read_base(whole)[1]]
 
 
@@ -102,7 +102,7 @@ class Judge:
             self.faults.append(what)
 
     def run(self, folder, *words, given=b"", wanted=0):
-        """Runs a command in the folder of a station, which has to end with the wanted status, if one is given."""
+        """Runs a command in the folder of a station. It has to end with the wanted status, if one is given."""
         env = {**os.environ, "ECHONET": PROGRAM, "LD_PRELOAD": self.preload, "TMPDIR": self.work}
         ended = subprocess.run(words, cwd=folder, input=given, capture_output=True, timeout=120, check=False, env=env)
         what = "%s: %s" % (os.path.basename(folder), " ".join(map(os.path.basename, words)))
@@ -111,8 +111,8 @@ class Judge:
         return ended.returncode
 
     def texts(self, what, texts, wanted, may, form=Message.filed):
-        """Whether these are texts of messages that may be there, each once and whole, and all that are wanted; a purged
-        one is its id alone. Answers their numbers."""
+        """Each of these texts has to belong to a message of `may`, whole, and no message may have two. Each wanted
+        message has to have one. The text of a purged message is its id. Returns the numbers of the messages."""
         known, seen = {message.serial: message for message in may}, set()
         for text in texts:
             serial = number_of(text)
@@ -125,7 +125,8 @@ class Judge:
         return seen
 
     def packets(self, what, packets, wanted, may):
-        """Whether packets are whole, and have each message that is wanted once for each of its links."""
+        """Each packet has to be whole. The packets for a link have to contain each wanted message for that link
+        once."""
         found = {link: [] for link in LINKED}
         for name, packet in packets.items():
             messages, fault, size = reading.read_packet(packet, 1 << 20)
@@ -138,7 +139,8 @@ class Judge:
             self.texts("%s: packets for %s" % (what, making.shown(link)), texts, mine, others, Message.sent)
 
     def words(self, what, messages, packet="given.pkt"):
-        """The words of a command of a station, and its standard input; a packet of the messages is made."""
+        """The arguments of a command of a station, and its standard input. For `toss` it makes a packet of the
+        messages."""
         if what == "post":
             return ("post", "--area", "TEST", "--to", "All", "--from", "Ann", "--subject", "Hi", "--serial",
                     "%08x" % messages[0].serial, "--at", making.STAMP, "links", "base"), lines_of(messages[0])

@@ -1,6 +1,6 @@
 #!/usr/bin/env bash
-# Tries each input of examples/hostile as its line in stories.txt says: the status, and the fault line or,
-# without a fault, the last line that is printed.
+# Tries each input of examples/hostile. Its line in stories.txt gives the status, and the fault line or, without a
+# fault, the last printed line.
 set -eu
 cd "$(dirname "$0")/.."
 . trials/setting.sh
@@ -31,7 +31,7 @@ done < "$kept/stories.txt"
 for file in "$kept"/*.*; do
   [ "$file" = "$kept/stories.txt" ] || expect "$file has a story" grep -q "^$(basename "$file") |" "$kept/stories.txt"
 done
-# A word of the command line that is no text.
+# An argument that is not valid text.
 status=0
 "$program" list $'\377' > said 2> fault || status=$?
 expect "a word that is not UTF-8" ended_with_fault $status 4 fault "error: "

@@ -1,7 +1,7 @@
-/* Prints names of eight letters and digits that a hasher with a fixed seed puts into few places: those whose
- * hash ends in the same twelve bits. The hasher multiplies by a constant and folds the halves of the product; it
- * is the one that maps have here where nobody gives them another. Words: how many names, whether the length is
- * hashed before the bytes (1) or not (0), and the digits of the names: 36, or 16 for hexadecimal ones. */
+/* Prints names of eight letters and digits whose hashes by a hasher with a fixed seed end in the same twelve bits.
+ * The hasher multiplies by a constant and folds the halves of the product. It is the default hasher of maps here.
+ * Arguments: how many names, whether the length is hashed before the bytes (1) or not (0), and the number of digits
+ * of the names: 36, or 16 for hexadecimal names. */
 #include <inttypes.h>
 #include <stdio.h>
 #include <stdlib.h>

@@ -1,7 +1,7 @@
 #!/usr/bin/env bash
-# Tags and serials that somebody chose for their hashes: `check` of a link file with 20,000 areas, a list of
-# 20,000 links and a script of 10,000 postings take at most three times as long as with others. Needs a C
-# compiler, which makes the names (trials/keys.c).
+# Tags and serials that an attacker chose for their hashes. The runs are `check` of a link file with 20,000 areas, a
+# list of 20,000 links, and a script of 10,000 postings. Each takes at most three times as long as with other names.
+# It needs a C compiler, which compiles the maker of the names (trials/keys.c).
 set -eu
 cd "$(dirname "$0")/.."
 . trials/setting.sh
@@ -12,8 +12,8 @@ fi
 cc -O2 -o "$work/keys" trials/keys.c
 cd "$work"
 
-# The least processor time of three runs, in hundredths of a second. Words: the run. A run that does not end with 0 or 1
-# has no time.
+# The least processor time of three runs, in hundredths of a second. Arguments: the run. A run that does not end with
+# 0 or 1 has no time.
 least() {
   local best=999999 time
   TIMEFORMAT='%U %S'
@@ -25,7 +25,7 @@ least() {
   echo "$best"
 }
 
-# Words: what is tried, the time with chosen names, the time with others.
+# Arguments: what is tried, the time with chosen names, the time with others.
 compare() {
   expect "$1: all runs end well" [ "$2" -lt 999999 -a "$3" -lt 999999 ]
   expect "$1: $2 hundredths of a second, and $3 with other names" [ "$2" -le $((3 * $3 + 5)) ]
@@ -49,7 +49,7 @@ for length in 0 1; do
   compare "serials" "$(least "$program" replay chosen.script 1.links 2.links)" "$(least "$program" replay ordered.script 1.links 2.links)"
 done
 
-# Links by their net and node, the low bits alike.
+# Links by their net and node, with equal low bits.
 links() { awk -v step="$1" 'BEGIN { printf "SYSTEM 1:10/1\nAREA TEST"; for (i = 0; i < 20000; i++) printf " %d:%d/%d", 1 + i % 2, 1 + int(i / 32) * step % 32768, 1 + i % 32 * 1024 % 32768; print "" }'; }
 links 32 | tr -s ' ' > chosen.links
 links 1 > ordered.links

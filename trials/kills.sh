@@ -1,8 +1,8 @@
 #!/usr/bin/env bash
-# Kills `toss` and `scan` at many moments on a large base, and then at each of their calls of the system
-# on a small one (where strace is installed). After each the base is the old one or the new one, no
-# packet stands in part or before the cursor was moved, and the story run to its end files everything once. All files are compared with
-# those that trials/make.py works out. Words: `files` or `folders`, how many moments, how many messages the base has.
+# Kills `toss` and `scan` at many times on a large base. Then, with strace, it kills them at each of their calls of
+# the system on a small base. After each kill the base is the old one or the new one. No packet is incomplete, or has
+# its name before the cursor was moved. The story run to its end files every message once. All files are compared with
+# those that trials/make.py computes. Arguments: `files` or `folders`, how many times, how many messages the base has.
 set -eu
 cd "$(dirname "$0")/.."
 . trials/setting.sh
@@ -32,7 +32,7 @@ scan() { "$program" scan --at $stamp one.links base out; }
 before_toss() { rm -rf out base*; mkdir out; put_base old.base base; }
 before_scan() { rm -rf out base* 3.base 4.base; mkdir out; put_base tossed.base base; }
 
-# What is to hold after a toss was killed, and at the end of the story.
+# What has to hold after a toss was killed, and at the end of the story.
 after_toss() {
   local known="filed 0 known ${counts#* }" filed="filed ${counts#* } known 0" want
   expect "base after a killed toss" base_is base old.base tossed.base
@@ -41,11 +41,11 @@ after_toss() {
   expect "the toss again" eval "toss > said 2> fault"
   expect "its tally" [ "$(cat said)" = "$want notecho 0 badtag 0 noarea 0 notlinked 0" ]
   expect "the base at the end" base_is base tossed.base
-  expect "nothing beside it" is_none base.*.new
+  expect "no staging file" is_none base.*.new
 }
 
-# The same of a scan. What has its name is whole and of a scan that moved the cursor; the next scan names the others
-# of that scan, or makes them anew.
+# The same for a scan. A packet with its name is whole, and its scan moved the cursor. The next scan names the other
+# packets of that scan, or makes them again.
 after_scan() {
   local link packet
   expect "base after a killed scan" base_is base tossed.base scanned.base
@@ -56,7 +56,7 @@ after_scan() {
   done
   expect "the scan again" eval "scan > said 2> fault"
   expect "the base at the end" base_is base scanned.base
-  expect "nothing beside it" is_none base.*.new out/*.new
+  expect "no staging file" is_none base.*.new out/*.new
   expect "each packet once" [ "$(ls out | wc -l)" = 2 ]
   for link in 3 4; do
     for packet in out/1.10.$link.*; do
@@ -66,7 +66,7 @@ after_scan() {
   done
 }
 
-# Seconds that a run takes.
+# The seconds of a run.
 seconds_of() {
   local begin end
   "before_$1"
@@ -76,7 +76,7 @@ seconds_of() {
   echo $((end - begin)) | awk '{ print $1 / 1e9 }'
 }
 
-# Kills a command at moments spread over the time that it takes.
+# Kills a command at times spread over its run.
 kill_in_time() {
   local whole moment status killed=0
   whole=$(seconds_of "$1")
@@ -98,8 +98,8 @@ is_in() {
   case " $* " in *" $it "*) true ;; *) false ;; esac
 }
 
-# Kills a command at each of its calls of the system in turn. A call is told by its name and its number
-# among those of the name.
+# Kills a command at each of its calls of the system in turn. A call is identified by its name and its number among
+# the calls of that name.
 kill_at_each_call() {
   local name number status killed=0
   "before_$1"

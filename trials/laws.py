@@ -1,16 +1,18 @@
-"""The laws of small inputs, judged from outside: how the program ends, what it prints next to what `reading` finds,
-and laws between its runs. Each function takes a trial, in whose folder the input is, and notes what did not hold.
+"""The laws of small inputs, judged from outside: how the program ends, its output compared with what reading.py
+reads, and laws between its runs. Each function takes a trial, whose folder has the input, and notes what did not
+hold.
 
 - reading.py reads the same as the program from a packet or a base: fault and place or record, places of messages,
   texts, counts of a toss, and the base after a posting byte for byte.
 - A packet tossed again files nothing and leaves the base unchanged, also after a purge. Filed messages are scanned,
-  `show` counts what `scan` counted, and the link files all of it. A second scan makes nothing; a second purge changes
+  `show` counts what `scan` counted, and the link files all of it. A second scan makes nothing. A second purge changes
   nothing.
-- A base of version 2 that is loaded and saved is the same bytes. A faulty base stays as it is.
+- A base of version 2 that is loaded and saved has the same bytes. A faulty base stays unchanged.
 - A nodelist is printed the same twice, its checksum is Python's, and `--find` names what the list names.
 - `links --areas` lists what reading.py finds. `check --all` prints what `check` prints of each area.
-- `check` and `picture` end alike, and the picture of a yes has nothing red. On a tidy net a replay files at each
-  system at most what was posted, and the same everywhere once it has settled.
+- `check` and `picture` end with the same status, and the picture of a yes has nothing red. On a tidy net a replay
+files
+  at each system at most what was posted, and the same everywhere after the net has settled.
 """
 import binascii
 import os
@@ -19,6 +21,7 @@ import shutil
 
 import making
 import reading
+from contents import content_of, write
 
 TALLY = re.compile(rb"filed (\d+) known (\d+) notecho (\d+) badtag (\d+) noarea (\d+) notlinked (\d+)\n")
 PACKET_LINE = re.compile(rb"packet (\S+) (\d+) messages (\d+) bytes\n")
@@ -39,17 +42,11 @@ class Trial:
 
     def put(self, name, content):
         """Writes a file."""
-        with open(self.path(name), "wb") as file:
-            file.write(content)
-        return self.path(name)
+        return write(self.path(name), content)
 
     def get(self, name):
         """The bytes of a file, or None."""
-        try:
-            with open(self.path(name), "rb") as file:
-                return file.read()
-        except FileNotFoundError:
-            return None
+        return content_of(self.path(name))
 
     def drop(self, *names):
         """Removes files."""
@@ -64,7 +61,7 @@ class Trial:
         return it
 
     def run(self, *words, given=os.devnull, most=3):
-        """Runs the program, which is to end in order and within its memory."""
+        """Runs the program, which has to end without a crash and within its memory."""
         ended = self.runner.run(*words, given=given)
         told = "%s: status %d, fault %r" % (words[0], ended.status, ended.fault[:200])
         self.holds(told, ended.is_orderly(most))
@@ -72,14 +69,14 @@ class Trial:
         return ended
 
     def is_fault(self, ended, fault):
-        """Whether it ended with this fault, in the words of its line, or with none."""
+        """Whether it ended with this fault, as its line prints it, or with none."""
         if fault is None:
             return ended.status == 0
         return ended.status == 2 and ended.fault == b"echonet: " + fault.encode() + b"\n"
 
 
 def set_up(trial):
-    """The link files of the systems that plain messages go through."""
+    """The link files of the systems that pass plain messages on."""
     for system, links in LINKS.items():
         areas = [("TEST", links), ("OTHER", links)]
         trial.put("%d.links" % system[2], making.link_file(system, areas))
@@ -95,7 +92,7 @@ def try_packet(trial, content):
 
 
 def shown_as_read(trial, content, shown):
-    """What `show` prints of a packet, beside what is read of it here."""
+    """The output of `show` for a packet, compared with what is read of it here."""
     messages, fault, size = reading.read_packet(content, reading.MOST_SHOWN)
     if not trial.holds("show: the fault is %s, not %r" % (fault, shown.fault), trial.is_fault(shown, fault)):
         return
@@ -118,7 +115,7 @@ def said_of(message):
 
 
 def outcome_of(message, sender, known):
-    """What becomes of a message at 1:10/1, by its place in a tally."""
+    """The result of a message at 1:10/1, by its place in a tally."""
     echo = reading.read_text(message.text)
     if isinstance(echo, str):
         return ("not echomail", "bad tag").index(echo) + 2
@@ -134,7 +131,7 @@ def outcome_of(message, sender, known):
 
 
 def tally_of(content):
-    """The tally of a packet at 1:10/1 whose base has nothing, and the fault or None."""
+    """The tally of a packet at 1:10/1 with an empty base, and the fault or None."""
     try:
         sender, destination = reading.read_header(content)
     except reading.Fault as fault:
@@ -168,7 +165,7 @@ def tossed_as_read(trial, content, packet):
 
 
 def passed_on(trial, count):
-    """What waits is scanned, shown, tossed at the links, and purged."""
+    """The waiting messages are scanned, shown, tossed at the links, and purged."""
     links, base = trial.path("1.links"), trial.path("base")
     scanned = trial.run("scan", "--at", making.STAMP, links, base, trial.runner.folder)
     trial.holds("scan ends well", scanned.status == 0)
@@ -182,7 +179,7 @@ def passed_on(trial, count):
 
 
 def shown_after_scan(trial, address, messages, size):
-    """A packet of a scan is shown, and tossed where it goes."""
+    """A packet of a scan is shown, and tossed at its link."""
     node = address.decode().split("/")[1]
     name = next(name for name in os.listdir(trial.runner.folder)
                 if name.startswith("1.10.%s." % node) and name.endswith(".pkt"))
@@ -198,7 +195,7 @@ def shown_after_scan(trial, address, messages, size):
 
 
 def try_base(trial, content):
-    """A base is loaded, saved, loaded and saved; and then scanned and purged."""
+    """A base is loaded, saved, loaded and saved. Then it is scanned and purged."""
     base, links = trial.put("base", content), trial.path("1.links")
     saved = trial.run("toss", links, base, trial.path("empty.pkt"))
     try:
@@ -222,7 +219,7 @@ def try_base(trial, content):
 
 
 def try_nodelist(trial, content):
-    """A nodelist is printed twice, and its first and last address looked for."""
+    """A nodelist is printed twice, and its first and last address are searched."""
     path = trial.put("input", content)
     printed = trial.run("nodelist", path)
     trial.holds("printed twice", trial.run("nodelist", path) [:2] == printed[:2])
@@ -264,7 +261,7 @@ def links_fault(files):
 
 
 def listed_links(path, content):
-    """What `links --areas` prints of a link file."""
+    """The output of `links --areas` for a link file."""
     _, faults = reading.judge_links(content)
     if faults:
         return b"".join(b"%s:%d: %s '%s'\n" % (path.encode(), number, fault.encode(), escaped(word))
@@ -276,7 +273,7 @@ def listed_links(path, content):
 
 
 def escaped(content):
-    """Bytes as they are printed."""
+    """Bytes as the program prints them."""
     return b"".join(b"\\\\" if byte == 0x5C else bytes([byte]) if 0x20 <= byte <= 0x7E else b"\\x%02x" % byte for byte in content)
 
 
@@ -286,7 +283,7 @@ def check_all_areas(trial, paths, files):
     each = [trial.run("check", "--", tag.decode(), *paths) for tag in tags]
     every = trial.run("check", "--all", *paths)
     trial.holds("each area is checked", every.out == b"".join(one.out for one in each))
-    trial.holds("a no is told", every.status == max((one.status for one in each), default=0))
+    trial.holds("a no has status 1", every.status == max((one.status for one in each), default=0))
 
 
 def try_links(trial, files):
@@ -295,7 +292,7 @@ def try_links(trial, files):
     listed = trial.runner.run("links", "--areas", *paths)
     trial.holds("all faulty lines are listed", listed.out == b"".join(map(listed_links, paths, files)))
     is_faulty = any(reading.judge_links(content)[1] for content in files)
-    trial.holds("a fault is told", (listed.status, listed.fault) == (2 * is_faulty, b""))
+    trial.holds("a fault has status 2", (listed.status, listed.fault) == (2 * is_faulty, b""))
     checked = trial.run("check", "test", *paths)
     drawn = trial.run("picture", "test", *paths)
     trial.holds("both end alike", (checked.status, checked.fault) == (drawn.status, drawn.fault))
@@ -311,7 +308,7 @@ def try_links(trial, files):
 
 
 def try_script(trial, content):
-    """A script is replayed, on a tidy net and on one that is none."""
+    """A script is replayed, on a tidy net and on one that is not tidy."""
     script = trial.put("input", content)
     for net in ("chain", "loop"):
         folder = os.path.join(trial.examples, "nets", net)
@@ -327,7 +324,7 @@ def try_script(trial, content):
 
 
 def try_hex(trial, content):
-    """A packet in digits is shown as that of the bytes."""
+    """A packet in digits is shown like the packet in bytes."""
     shown = trial.run("show", "--hex", trial.put("input", content))
     digits = bytes(byte for byte in content if byte not in b" \t\n\r")
     if len(digits) % 2 == 0 and re.fullmatch(rb"[0-9a-fA-F]*", digits):
@@ -370,7 +367,7 @@ def body_lines(body):
 
 
 def posted_base(given, body):
-    """The base with that posting alone."""
+    """The base with only that posting."""
     reply = given.get("reply", "").encode().strip(reading.BLANKS)
     kept = [b"\x01MSGID: 1:10/1 " + given["serial"].lower().encode()] + [b"\x01REPLY: " + reply] * bool(reply)
     kept += body_lines(body) + [b"--- echonet", b" * Origin: echonet (1:10/1)"]
@@ -382,7 +379,7 @@ def posted_base(given, body):
 
 
 def try_posting(trial, posting):
-    """A posting, twice, and its way to a link."""
+    """A posting, twice, and its path to a link."""
     words, body = posting
     trial.drop("base")
     told = dict(word[2:].split("=", 1) for word in words)

@@ -1,9 +1,9 @@
 #!/usr/bin/env bash
-# The scripts of examples/net in an unlucky world. What a mailer may bring from afar: names that are no UTF-8,
-# are as long as a name may be or would steer a terminal, a folder, a pipe, a link that leads nowhere, a
-# packet that wants more memory than there is; the packets behind it are tossed. A scan whose script is
-# killed alone, a flow file that cannot be written, links that were held by what runs no more or by a scan that was
-# killed, what a power cut leaves, and a log that cannot be written.
+# The scripts of examples/net in an unlucky world. A mailer may receive names that are not UTF-8, very long names, and
+# names that would steer a terminal. It may receive a folder, a pipe, a link to nothing, and a packet that needs more
+# memory than there is. The packets after it are tossed. Also: a scan whose script alone is killed, a flow file that
+# cannot be written, and holds of processes that have ended. Also what a power cut leaves, and a log that cannot be
+# written.
 set -eu
 cd "$(dirname "$0")/.."
 . trials/setting.sh
@@ -22,7 +22,7 @@ run() {
 filed() { "$program" list two/base | tail -n 1; }
 flow=one/outbound/000a0002
 
-# Five packets, and what comes between them.
+# Five packets, and other things between them.
 mkdir -p two/inbound
 for number in 1 3 5 7 9; do
   post "Subject $number"
@@ -45,7 +45,7 @@ expect "with the reason" grep -q 'cannot use .*pkt' two/bad/6.pkt.why two/bad/8.
 expect "nothing steers the terminal" [ -z "$(LC_ALL=C tr -d ' -~\n' < said)" ]
 rm -rf two/bad two/inbound/*
 
-# A packet that wants more memory than there is, and one behind it.
+# A packet that needs more memory than there is, and one after it.
 mkdir -p starved/inbound
 cp one/links starved
 make_file packet 1000 150 1000000 > starved/inbound/0.pkt
@@ -54,7 +54,7 @@ run bash -c 'ulimit -v 100000; timeout 60 "$0" starved' "$scripts/toss-inbound.s
 expect "a packet without memory lies apart" grep -q -e 'P7 ' -e 'C2 ' -e 'out of memory' starved/bad/0.pkt.why
 expect "and the one behind it is tossed" [ "$status $(ls starved/inbound starved/tossing | grep -c pkt)" = "1 0" ]
 
-# A link that is faulty: the packets stay, and the scan runs.
+# A faulty link file: the packets stay, and the scan runs.
 post Second
 run scan
 mv one/packets/*.pkt two/inbound/
@@ -97,7 +97,7 @@ run scan
 expect "the next run hands the packet over" [ "$status $(wc -l < $flow.flo)" = "0 2" ]
 expect "each line names a packet" eval '(for path in $(sed "s/^.//" $flow.flo); do [ -e "$path" ] || exit 1; done)'
 
-# Holds: of a process that runs, of one that does not, without a number, and an old one without.
+# Holds: of a running process, of an ended one, without a number, and an old one without a number.
 post Sixth
 for held in "$$ 2" "none 2"; do
   case $held in none*) : > $flow.bsy ;; *) echo $$ > $flow.bsy ;; esac
@@ -106,15 +106,15 @@ for held in "$$ 2" "none 2"; do
 done
 touch -d '2 hours ago' $flow.bsy
 run scan
-expect "an old hold of nobody is taken over" [ "$status $(wc -l < $flow.flo)" = "0 3" ]
+expect "an old hold without a process is taken over" [ "$status $(wc -l < $flow.flo)" = "0 3" ]
 post Seventh
 sh -c 'echo $$' > $flow.bsy
 run scan
 expect "so is that of a process that runs no more" [ "$status $(wc -l < $flow.flo)" = "0 4" ]
 expect "and no hold is left" is_none $flow.bsy "$(find one/outbound -name '*hold*')"
 
-# A scan that is killed while it holds a link, and what its hold may be after a power cut: empty, or with a number that
-# another process has by now.
+# A scan that is killed while it holds a link. After a power cut its hold may be empty, or have the number of another
+# process.
 mkdir tools
 printf '#!/bin/sh\nkill -9 $PPID\n' > tools/chmod
 chmod +x tools/chmod
@@ -134,7 +134,7 @@ ln $flow.~1.10.1~.hold $flow.bsy
 run scan
 expect "a hold is let go where no packet waits for its link" [ "$status $(ls one/outbound)" = "0 000a0002.flo" ]
 
-# A packet under both names, as a power cut can leave it, and the hold of the run that it cut.
+# A packet under both names, as a power cut can leave it, and the hold of the run that was cut.
 post Both
 run scan
 lines=$(wc -l < $flow.flo)
@@ -146,7 +146,7 @@ run scan
 expect "a packet with both names is handed over once" [ "$status $(wc -l < $flow.flo) $(ls one/packets | wc -l)" = "0 $lines $packets" ]
 expect "it keeps the new one, and the link is let go" [ "$(ls one/scanned one/outbound | xargs)" = "one/outbound: 000a0002.flo one/scanned:" ]
 
-# What the next run needs is on the disk before it goes on: `sync` is called for it.
+# The files that the next run needs are on the disk before it goes on: `sync` is called for them.
 printf '#!/bin/sh\nfor file; do echo "${file##*/} $(ls "${file%%/*}" | grep -c "bsy$\\|pkt$")"; done >> "%s"\nexec %s "$@"\n' \
   "$work/synced" "$(command -v sync)" > tools/sync
 rm tools/chmod
@@ -163,7 +163,7 @@ run env PATH="$work/tools:$PATH" "$scripts/toss-inbound.sh" two
 expect "names are on the disk before packets move" [ "$(grep -cx '0000000[12].name 0' synced)" = 2 ]
 expect "a reason is before its packet moves" grep -qx 'cut.pkt.why 0' synced
 
-# Packets in `tossing` without a name, or with one that a power cut spoiled, and one that is no number.
+# Packets in `tossing` without a name, or with a name that a power cut damaged, and one that is no number.
 rm -rf two/bad
 for name in 00000007 00000009 zzz; do head -c 100 one/base > two/tossing/$name.pkt; done
 : > two/tossing/00000007.name
@@ -178,7 +178,7 @@ printf x > two/inbound/new.pkt
 run toss
 expect "no packet takes the number of another" [ "$status $(cd two/bad && ls *.pkt | xargs)" = "1 00000001.pkt new.pkt zzz.pkt" ]
 
-# Where what the script calls has no memory, no packet is taken for filed.
+# A program that the script calls has no memory. No packet counts as filed.
 rm -rf two/bad one/packets $flow.flo
 post Unfiled
 run scan
@@ -188,7 +188,7 @@ sed -i 's, 1:10/1,,' two/links
 for tool in grep awk; do printf '#!/bin/sh\necho "%s: memory exhausted" >&2\nexit 2\n' $tool > tools/$tool; done
 chmod +x tools/*
 run env PATH="$work/tools:$PATH" "$scripts/toss-inbound.sh" two
-expect "a packet stays where nothing can be told of it" [ "$status $(ls two/tossing | grep -c pkt)" = "2 1" ]
+expect "a packet stays if nothing is known of it" [ "$status $(ls two/tossing | grep -c pkt)" = "2 1" ]
 rm -rf tools
 cp links two/links
 run toss
@@ -206,7 +206,7 @@ run toss
 expect "a toss without a log" [ "$status $(ls two/inbound two/tossing | grep -c pkt)" = "3 0" ]
 expect "files all the same" [ "$before" != "$(filed)" ]
 
-# Who may not read them can hold no lock of the link file and of the base: the modes of docs/OPERATORS.md.
+# A user who may not read the link file and the base cannot hold their locks: the modes of docs/OPERATORS.md.
 if [ "$(id -u)" = 0 ] && command -v setpriv > /dev/null; then
   chmod 755 "$work" one
   chmod 644 one/links

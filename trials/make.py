@@ -1,14 +1,14 @@
-"""Makes the files of the trials that are shell scripts. Words: what to make, and its words.
+"""Makes the files of the trials that are shell scripts. Arguments: what to make, and its arguments.
 
-    links ADDRESS TAG LINK..         a link file of one area
-    packet FIRST COUNT SIZE          plain messages from 1:10/2 to 1:10/1
-    spread FIRST COUNT SIZE AREAS    the same, over so many areas, T0 and so on
-    base FIRST COUNT SIZE CURSOR     the base of 1:10/1 that has them
-    purged FIRST COUNT               that base, all of it scanned, after a purge
-    posted FIRST COUNT SIZE CURSOR   that base after the posting of `Hello` with serial 1
-    scanned LINK FIRST COUNT SIZE    the packet that it makes of them for a link
-    downlink FIRST COUNT SIZE        the base of the link that has tossed that packet
-    ids BASE                         the id of each message of a base, a line each
+links ADDRESS TAG LINK..         a link file of one area
+packet FIRST COUNT SIZE          plain messages from 1:10/2 to 1:10/1
+spread FIRST COUNT SIZE AREAS    the same, over so many areas, T0 and so on
+base FIRST COUNT SIZE CURSOR     the base of 1:10/1 with these messages
+purged FIRST COUNT               that base, all of it scanned, after a purge
+posted FIRST COUNT SIZE CURSOR   that base after the posting of `Hello` with serial 1
+scanned LINK FIRST COUNT SIZE    its packet of them for a link
+downlink FIRST COUNT SIZE        the base of the link that has tossed that packet
+ids BASE                         the id of each message of a base, a line each
 """
 import sys
 
@@ -16,12 +16,12 @@ import making
 
 
 def serials(first, count):
-    """That many serials from the first on."""
+    """So many serials from the first on."""
     return range(int(first), int(first) + int(count))
 
 
 def address(word):
-    """The address of a word."""
+    """The address of an argument."""
     zone, rest = word.split(":")
     net, node = rest.split("/")
     return int(zone), int(net), int(node)

@@ -1,8 +1,8 @@
 """The bytes of packets, texts, bases and link files, by docs/FORMATS.md and by nothing else.
 
-A number of messages that all trials share, the plain ones, comes from 1:10/2 to 1:10/1, which passes
-them on to 1:10/3 and 1:10/4. What the program is to make of them is worked out here too: the base of
-1:10/1 after the toss, the packets of its scan, and the bases of those who get these.
+The trials share some messages, the plain ones. They go from 1:10/2 to 1:10/1, which passes them on to 1:10/3 and
+1:10/4. This module also computes what the program has to make of them: the base of 1:10/1 after the toss, the packets
+of its scan, and the bases of the systems that get these.
 """
 import os
 import random
@@ -17,7 +17,7 @@ LONGEST_LINE = 79
 
 
 def try_hundreds(count, try_base):
-    """Tries bases of a hundred messages, each in a folder of its own. The seed is printed: SEED makes the same again."""
+    """Tries bases of a hundred messages, each in a folder of its own. Prints the seed: SEED makes the same again."""
     seed = int(os.environ.get("SEED", random.randrange(2 ** 32)))
     print("seed %d" % seed)
     chance = random.Random(seed)
@@ -28,12 +28,12 @@ def try_hundreds(count, try_base):
 
 
 def shown(address):
-    """An address in words."""
+    """An address as text."""
     return "%d:%d/%d" % address
 
 
 def header(origin, destination, kind=2):
-    """The 58 bytes in front of a packet."""
+    """The 58 bytes at the beginning of a packet."""
     return struct.pack(
         "<12H2B8s2H20s", origin[2], destination[2], *MOMENT, 0, kind, origin[1], destination[1],
         0, 0, bytes(8), origin[0], destination[0], bytes(20))
@@ -69,7 +69,7 @@ def text(tag, kept, seen, path):
 
 
 def stored(first, sender, body, to=b"All", by=b"Ann", subject=b"Hi", date=DATE):
-    """A message of a base: its first byte, sender, date, names, subject, and what follows these."""
+    """A message of a base: its first byte, sender, date, names, subject, and the bytes after these."""
     names = b"".join(bytes([len(name)]) + name for name in (to, by, subject))
     return bytes([first]) + struct.pack("<3H", *sender) + date + names + body
 
@@ -123,7 +123,7 @@ def pairs(addresses):
 
 
 def arrived(serial, size, tag=b"TEST"):
-    """The text of a plain message as it comes from 1:10/2."""
+    """The text of a plain message from 1:10/2."""
     return plain_text(serial, size, pairs([OWN, UPLINK]), pairs([UPLINK]), tag)
 
 
@@ -174,7 +174,7 @@ def downlink_base(serials, size):
 
 
 def read_base(content):
-    """The cursor and the messages of a base: first byte, sender, names and subject, and what follows."""
+    """The cursor and the messages of a base: first byte, sender, names and subject, and the bytes after these."""
     version, cursor, count = content[:8], *struct.unpack_from("<II", content, 8)
     messages, at = [], 16
     for _ in range(count):
@@ -195,7 +195,7 @@ def read_base(content):
 
 
 def id_of(message):
-    """The id of a message of a base, where its lines are those of plain messages or of postings."""
+    """The id of a message of a base with the lines of a plain message or of a posting."""
     first, _, _, _, body = message
     if first in (2, 3):
         return body

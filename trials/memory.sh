@@ -1,12 +1,11 @@
 #!/bin/bash
-# Refuses each growth of each test of a crate in turn. A test then passes, ends in a fault that tells of
-# memory, or stops: where it compares an answer, which may be that fault, or with words of its own. The tests
-# of a module `refused` look for answers that change in place of the fault, and are to pass whichever growth
-# is refused: where one does not, or any test does not end, that is told and the status is 1. How many
-# growths a test has is found by a run that is refused none.
-# Needs a C compiler and crates/CRATE/out/CRATE_tests, which `rt test` in crates/CRATE builds. Words:
-# CRATE (test_calls or disk_system), and tests of it where not all are to be tried.
-# `rt try --test --fail-alloc N` does the same for one N, and builds the tests anew for each.
+# Refuses each growth of each test of a crate in turn. A test then passes, ends in a fault that names memory, or
+# stops. It stops where it compares an answer, which may be that fault, or with a message of its own. The tests of a
+# module `refused` look for answers that change instead of the fault. They have to pass with any growth refused. If
+# one does not, or if any test does not end, that is printed and the status is 1. A run without refusals counts the
+# growths of a test. It needs a C compiler and crates/CRATE/out/CRATE_tests, which `rt test` in crates/CRATE builds.
+# Arguments: CRATE (test_calls or disk_system), and the tests of it, by default all. `rt try --test --fail-alloc N`
+# does the same for one N, and builds the tests again for each.
 set -u
 crate=${1:?the name of a crate}
 shift
@@ -17,13 +16,13 @@ work=$(mktemp -d)
 trap 'rm -rf "$work"' EXIT
 cc -O2 -shared -fPIC -o "$work/refuse.so" "$here/refuse.c" || exit 1
 
-# Tells how a test ended with these growths refused, each by itself. Words: the test, the growths.
+# Prints how a test ended with each of these growths refused. Arguments: the test, the growths.
 endings_of() {
   local test=$1 number told status
   shift
   for number in "$@"; do
     told=$work/told.$number
-    # The shell's own word on a test that stopped is left out.
+    # The shell's own message about a test that stopped is left out.
     { timeout 60 env CHOSEN="$number" LD_PRELOAD="$work/refuse.so" "$program" "$test" > "$told" 2>&1; } 2> /dev/null
     status=$?
     if [ $status = 0 ]; then

@@ -1,9 +1,10 @@
-"""Many commands at once on one station, some of them killed at any moment, and then a look at what is there (judge.py).
+"""Many commands at once on one station, some of them killed at any time. Then judge.py looks at the result.
 
-They post, toss, scan, purge, list, export and convert, on a base file and on a base folder: alone, while the base is turned
-from one into the other under the lock of the link file, and while the link file is replaced by another one of its name. What
-ended with 0 is there once, of what was killed all or nothing, no command is refused, and each packet is whole.
-Words: how many seconds (20), how many commands at once (8). SEED makes the same choices again.
+The commands post, toss, scan, purge, list, export and convert, on a base file and on a base folder. They run alone,
+while the base is converted to the other kind under the lock of the link file, and while the link file is replaced.
+What a command with status 0 did is there once. What a killed command did is there once or not at all. No command is
+refused, and each packet is whole. Arguments: how many seconds (20), how many commands at once (8). SEED makes the
+same choices again.
 """
 import os
 import random
@@ -13,10 +14,11 @@ import tempfile
 import threading
 import time
 
-from judge import LINKS, PROGRAM, Judge, Message, files_of, number_of, texts_of
+from contents import PROGRAM
+from judge import LINKS, Judge, Message, files_of, number_of, texts_of
 
 CHANCES = {"post": 8, "toss": 4, "scan": 4, "purge": 2, "list": 2, "mbox": 1, "convert": 1}
-# What docs/OPERATORS.md says, in both directions.
+# The commands of docs/OPERATORS.md, in both directions.
 MOVE = """if [ -d base ]; then rm -f new; else rm -rf new && mkdir new; fi &&
   "$0" convert base new && mv base base.old && mv new base && rm -rf base.old"""
 
@@ -36,7 +38,7 @@ class Mixed:
             return [Message(what, self.count + number, chance.choice((80, 300, 5000))) for number in range(count)]
 
     def command(self, chance, number):
-        """Runs a command, and maybe kills it."""
+        """Runs a command, and kills some."""
         what = chance.choices(list(CHANCES), CHANCES.values())[0]
         messages = self.messages(what, chance)
         copy = "copy.%d.%d" % (number, self.count)
@@ -63,7 +65,7 @@ class Mixed:
             os.remove(os.path.join(self.folder, copy))
 
     def disturb(self, chance, number):
-        """Turns the base into one of the other kind, or replaces the link file."""
+        """Converts the base to the other kind, or replaces the link file."""
         if self.change == "turned":
             self.judge.run(self.folder, "flock", "links", "sh", "-c", MOVE, PROGRAM)
         elif self.change == "replaced":
@@ -74,7 +76,7 @@ class Mixed:
         time.sleep(chance.random() * 0.02)
 
     def work(self, seed, until, deed):
-        """Does something again and again."""
+        """Repeats an action."""
         chance, number = random.Random(seed), 0
         while time.time() < until:
             try:
@@ -84,7 +86,7 @@ class Mixed:
             number += 1
 
     def look(self):
-        """Looks at what is there at last."""
+        """Looks at the result."""
         self.done.append([Message("post", self.count + 9, 80)])
         for what, messages in (("post", self.done[-1]), ("scan", []), ("list", [])):
             words, given = self.judge.words(what, messages)
@@ -102,7 +104,7 @@ class Mixed:
 
 
 def run_mixed(seed, seconds, count, is_folder, change):
-    """A station, many commands, and a look. Answers the number of faults."""
+    """A station, many commands, and a look. Returns the number of faults."""
     with tempfile.TemporaryDirectory(prefix="echonet-mixed.") as work:
         judge, folder = Judge(work), os.path.join(work, "station")
         os.makedirs(os.path.join(folder, "out"))

@@ -1,9 +1,9 @@
-"""Takes a station of CrashMail II over with examples/move, and gives it back, by the commands in docs/INTEROP.md.
+"""Moves a station of CrashMail II to echonet with examples/move, and back, by the commands in docs/INTEROP.md.
 
-CrashMail tosses packets that are made here, some of whose messages come again, and postings of crashwrite, into a JAM
-base and a folder of *.MSG. The base of the new station has to have each message once, in that order, with its names,
-date, subject and lines; late copies are known. Then CrashMail gets it all back, and knows late copies too. Word: how
-many messages an area has.
+CrashMail tosses packets that are made here, with some messages twice, and postings of crashwrite. It files them in a
+JAM base and in a folder of *.MSG. The base of the new station has to have each message once, in that order, with its
+names, date, subject and lines. Late copies are known. Then CrashMail gets all messages back, and also knows late
+copies. Argument: how many messages an area has.
 """
 import os
 import random
@@ -17,10 +17,10 @@ import time
 import making
 import reading
 import stored
-from jam import PROGRAM, crashmail_settings, read
-from readers import expect, write
+from contents import PROGRAM, TOP, read, write
+from jam import crashmail_settings
+from readers import expect
 
-TOP = os.path.dirname(os.path.dirname(os.path.abspath(__file__)))
 MOVE = os.path.join(TOP, "examples", "move")
 OWN, LINKS, NOBODY = (1, 10, 2), ((1, 10, 1), (1, 10, 3)), (1, 10, 30000)
 AREAS = (b"JTEST", b"MTEST")
@@ -28,7 +28,7 @@ LETTERS = b"abcXYZ 019 .,:;<>()@[]=?_\"\\'-" + bytes(range(128, 256))
 
 
 def commands(section):
-    """The commands of a section of docs/INTEROP.md: they stand in its list."""
+    """The commands of a section of docs/INTEROP.md, from its list."""
     text = read(os.path.join(TOP, "docs", "INTEROP.md")).decode().split("\n## %s\n" % section)[1].split("\n## ")[0]
     return "\n".join(line[7:] for line in text.split("\n") if line.startswith(" " * 7))
 
@@ -57,7 +57,7 @@ class Mail:
         self.path = [(10, self.link[2])]
 
     def fields(self):
-        """What is to stay of it."""
+        """The lines that have to stay."""
         return self.date, self.to, self.by, self.subject, self.kept
 
     def packed(self, tag):
@@ -104,7 +104,7 @@ def packets_of(mails):
 
 
 def bring(place, packets, number=16):
-    """Puts packets into CrashMail's inbound."""
+    """Puts packets into CrashMail's inbound folder."""
     for link, content in packets:
         write("%s/inbound/%07x%d.pkt" % (place, number, link[2]), content)
 
@@ -122,7 +122,7 @@ def post(place, tag, number):
 
 
 def fill(chance, place, count):
-    """Has CrashMail fill its bases. Answers the messages of each area in the order in which it files them."""
+    """Has CrashMail fill its bases. Returns the messages of each area in the order in which it files them."""
     mails = {tag: [] for tag in AREAS}
     for tag in AREAS:
         for number in range(count):
@@ -185,7 +185,7 @@ def check_base(place, filed):
 
 
 def tossed(place, packets):
-    """What tosses of packets of links print, under the real link file."""
+    """The output of tosses of packets of links, under the real link file."""
     lines = []
     for _, content in packets:
         write(place + "/late", content)
@@ -199,7 +199,7 @@ def told(filed, known):
 
 
 def check_late(chance, place, filed):
-    """Late copies are known, and new mail goes on."""
+    """Late copies are known, and new mail is passed on."""
     expect("late copies", tossed(place, packets_of(filed)),
            [told(0, sum(mail.link == link for tag in AREAS for mail in filed[tag])) for link in LINKS])
     new = Mail(chance, 1 << 20, [])
@@ -211,7 +211,7 @@ def check_late(chance, place, filed):
 
 
 def check_linked(place, mails):
-    """What CrashMail spoils where it links replies is found again, but for dates."""
+    """The fields that CrashMail changes when it links replies are recovered, except dates."""
     folder = place + "/linked"
     os.makedirs(folder + "/bases/mtest")
     write(folder + "/crashmail.prefs", (settings(folder) + "JAM_LINK\n").encode())
@@ -224,7 +224,7 @@ def check_linked(place, mails):
 
 
 def check_damaged(place, count):
-    """Deleted and damaged messages of a JAM base, and one that was never sent, are counted; the rest comes."""
+    """Deleted and damaged messages of a JAM base, and one that was never sent, are counted. The rest is imported."""
     words = "jam-to-packets 1:10/30000 1:10/2 JTEST bases/"
     whole = run(place, words + "jtest > whole")[1]
     expect("whole", whole, ["JTEST: %d messages" % count])
@@ -253,7 +253,7 @@ def check_damaged(place, count):
 
 
 def check_back(place, filed):
-    """CrashMail has all messages again, and knows late copies. A JAM base of ours makes the same packet as the folder."""
+    """CrashMail has all messages again, and knows late copies. Our JAM base makes the same packet as the folder."""
     run(place, "rm dupes bad/*")
     write(place + "/moving.prefs", crashmail_settings(place, "1:10/2", ["1:10/1", "1:10/3", "1:10/30000"]).encode())
     run(place, commands("Moving to another tosser").replace("/home/fido/msg", place + "/back"))

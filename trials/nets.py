@@ -1,7 +1,7 @@
-"""Tries `check` and `picture` on wide nets, tidy ones and such as hide their fault well: each at two sizes,
-of which one has twice the bytes of the other. The verdict is the one that the net was built for, each run
-takes at most 2.5 times the processor time at twice the bytes. Word: how many systems the greater ones
-have (20,000).
+"""Tries `check` and `picture` on large nets, tidy ones and ones whose fault is hard to find, each at two sizes. The
+greater size has twice the bytes of the other. The verdict has to be the one that the net was built for. Each run
+takes at most 2.5 times the processor time at twice the bytes. Argument: how many systems the greater nets have
+(20,000).
 """
 import math
 import os
@@ -11,9 +11,8 @@ import tempfile
 
 import making
 import running
+from contents import PROGRAM, TOP
 
-TOP = os.path.dirname(os.path.dirname(os.path.abspath(__file__)))
-PROGRAM = os.environ.get("ECHONET", os.path.join(TOP, "bin", "echonet"))
 MOST_RATIO, LEAST_SECONDS = 2.5, 0.2
 
 
@@ -23,7 +22,7 @@ def address(number):
 
 
 def linked(count, pairs):
-    """The links of each system, of pairs of systems."""
+    """The links of each system, from pairs of systems."""
     links = [[] for _ in range(count)]
     for one, other in pairs:
         links[one].append(other)
@@ -60,7 +59,7 @@ def ladder(count):
 
 
 def polygons(count, broken=False):
-    """Polygons of ten, each with the next one in a system of both; the last may lack a link."""
+    """Polygons of ten, each joined with the next one by a common system. The last may lack a link."""
     pairs = [(first + one, first + other) for first in range(0, count - 9, 9)
              for one in range(10) for other in range(one)]
     members = max(max(pair) for pair in pairs) + 1
@@ -68,7 +67,7 @@ def polygons(count, broken=False):
 
 
 def polygon(count, broken=False):
-    """All with all, for so many systems that their links are about as many; one link may lack."""
+    """All with all, for so many systems that their links are about as many. One link may be missing."""
     size = int(math.sqrt(count))
     pairs = [(one, other) for one in range(size) for other in range(one)]
     return linked(size, pairs[:-1] if broken else pairs)
@@ -101,7 +100,7 @@ NETS = [
 
 
 def write_net(folder, links):
-    """Leaves the link files in the folder, and answers their names and how many bytes they have."""
+    """Writes the link files to the folder. Returns their names and how many bytes they have."""
     shutil.rmtree(folder, ignore_errors=True)
     os.makedirs(folder)
     names, size = [], 0
@@ -126,7 +125,7 @@ def measure(make, count, command, folder):
 
 
 def try_net(row, command, count, folder):
-    """Tries a net, prints its line, and answers whether all held."""
+    """Tries a net, prints its line, and returns whether all held."""
     name, make, verdict = row
 
     def timed(count):

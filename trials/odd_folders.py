@@ -1,9 +1,9 @@
 """Base folders with a file that is missing, empty, cut, longer or of another kind, and each command on them.
 
-The log is cut at each byte, keys and messages at many. Each command works, or is refused with the fault that
-docs/FORMATS.md names, and then nothing in the folder has changed. No command destroys messages that stood there, or
-waits for ever. Where root runs the trial, files without rights are tried as another user.
-Word: at each how many-th byte `messages.N` is cut (5).
+The log is cut at each byte, keys and messages at many. Each command works, or is refused with the fault in
+docs/FORMATS.md. After a refusal nothing in the folder has changed. No command destroys existing messages, or waits
+forever. As root it also tries files without rights as another user. Argument: the step between the bytes where
+`messages.N` is cut (5).
 """
 import os
 import shutil
@@ -12,7 +12,8 @@ import subprocess
 import sys
 import tempfile
 
-from folder_station import COMMANDS, HELD, PROGRAM, content_of, filled_station, finish, is_orderly, packets_in, put
+from contents import PROGRAM, content_of, write
+from folder_station import COMMANDS, HELD, filled_station, finish, is_orderly, packets_in
 from judge import texts_of
 
 READING = {"list": ("list", "base"), "export": ("export", "base"), "convert": ("convert", "base", "made")}
@@ -21,7 +22,7 @@ OTHER = ("setpriv", "--reuid=65534", "--regid=65534", "--clear-groups")
 
 
 def tree(base):
-    """What stands in a folder: kinds, bytes and where links lead."""
+    """The contents of a folder: kinds, bytes and targets of links."""
     found = {}
     for name in sorted(os.listdir(base)):
         path = os.path.join(base, name)
@@ -32,7 +33,7 @@ def tree(base):
 
 
 class Odd:
-    """The station whose base is made odd, and the counts."""
+    """The station whose base is changed, and the counts."""
 
     def __init__(self, work):
         self.work, self.station, self.place = work, filled_station(os.path.join(work, "station")), os.path.join(work, "place")
@@ -53,7 +54,7 @@ class Odd:
             self.wrong.append(what)
 
     def run(self, words):
-        """Runs a command: status, output, fault. One that waits is killed, and has the status None."""
+        """Runs a command. Returns status, output and fault. One that waits is killed, and has the status None."""
         self.runs += 1
         try:
             ended = subprocess.run([*self.before, self.program, *words], cwd=self.place, stdin=subprocess.DEVNULL,
@@ -63,7 +64,7 @@ class Odd:
         return ended.returncode, ended.stdout, ended.stderr
 
     def fresh(self, spoil):
-        """The station, with the base that is spoiled."""
+        """The station, with its changed base."""
         if os.path.exists(self.place):
             shutil.rmtree(self.place)
         shutil.copytree(self.station, self.place)
@@ -74,8 +75,8 @@ class Odd:
                     os.chown(path, 65534, 65534, follow_symlinks=False)
 
     def attempt(self, what, spoil, wanted, names=EVERY):
-        """Tries commands on a base that is spoiled. Wanted is a fault, `refused`, `same`, `empty`, or `either` refused or
-        the same."""
+        """Tries commands on a changed base. Wanted is a fault, `refused`, `same`, `empty`, or `either` refused or the
+        same."""
         self.folders += 1
         self.fresh(spoil)
         for name in names:
@@ -102,7 +103,7 @@ class Odd:
             self.wrong.clear()
 
     def some(self):
-        """`list` and two other commands, others each time."""
+        """`list` and two other commands, different ones each time."""
         self.turn += 1
         others = [name for name in EVERY if name != "list"]
         return ["list"] + [others[(self.turn + more) % len(others)] for more in (0, 3)]
@@ -112,11 +113,11 @@ class Odd:
         def spoil(base):
             os.remove(os.path.join(base, name))
             if content is not None:
-                put(os.path.join(base, name), content)
+                write(os.path.join(base, name), content)
         return spoil
 
     def other_kind(self, name, deed):
-        """Does something with the path of a file that is removed, and with a copy that stands outside."""
+        """Removes a file, and calls `deed` with its path and with the path of a copy outside the folder."""
         def spoil(base):
             path, copy = os.path.join(base, name), os.path.join(self.place, "copy")
             if not os.path.exists(copy):
@@ -130,12 +131,12 @@ class Odd:
         return lambda base: os.chmod(os.path.join(base, name), mode)
 
     def only(self, contents):
-        """A folder with these files alone."""
+        """A folder with only these files."""
         def spoil(base):
             shutil.rmtree(base)
             os.mkdir(base)
             for name, content in contents.items():
-                put(os.path.join(base, name), content)
+                write(os.path.join(base, name), content)
         return spoil
 
 
@@ -156,7 +157,7 @@ def try_cuts(odd, step):
 
 
 def try_folders(odd):
-    """Folders of which other files are there."""
+    """Folders with other files."""
     (_, log), (messages, texts), (keys, entries) = odd.files.items()
     for name, content in ((messages, texts), (keys, entries), ("messages.7", b"x"), ("keys.7", b"x")):
         odd.attempt("%s alone" % name, odd.only({name: content}), "F1 NotBase\n")

@@ -1,27 +1,27 @@
 #!/usr/bin/env bash
-# What `make install` and `make deb` put in place: installed, completed in a real bash, used and taken away again. The
-# package is installed by dpkg under a fresh root, and the program run there, where this runs as root.
+# The files of `make install` and `make deb`: installed, completed in a real bash, used and removed again. As root it
+# also installs the package by dpkg under a fresh root, and runs the program there.
 set -u
 cd "$(dirname "$0")/.."
 . trials/setting.sh
 root=$work
 
-# Words: what is tried, what came of it, and what is wanted.
+# Arguments: what is tried, the found text, the wanted text.
 check() {
   if [ "$2" != "$3" ]; then echo "wanted '$3', found '$2'" >&2; fi
   expect "$1" test "$2" = "$3"
 }
 
-# What stands below a folder.
+# The contents of a folder.
 files() { (cd "$1" && find . ! -type d | sort); }
 
-# Installed and taken away.
+# Installed and removed.
 make -s install DESTDIR="$root/one" PREFIX=/usr > /dev/null || exit 1
 for file in bin/echonet share/man/man1/echonet.1 share/echonet/{post,reader,toss-inbound,scan-outbound,station}.sh \
   share/echonet/{jam-lock,printable.awk,echonet.service,echonet.timer,echonet.logrotate,settings} share/doc/echonet/{README,OPERATORS,FORMATS}.md \
   share/bash-completion/completions/echonet share/zsh/site-functions/_echonet \
   share/fish/vendor_completions.d/echonet.fish share/echonet/move/{links-from,packets.py}; do
-  check "$file stands there" "$([ -s "$root/one/usr/$file" ] && echo yes)" yes
+  check "$file is there" "$([ -s "$root/one/usr/$file" ] && echo yes)" yes
 done
 for folder in net nets; do
   check "examples/$folder" "$(diff -r "examples/$folder" "$root/one/usr/share/doc/echonet/examples/$folder" && echo same)" same
@@ -32,13 +32,13 @@ for tool in jam msg; do
 done
 check 'the program' "$(cmp bin/echonet "$root/one/usr/bin/echonet" && echo same)" same
 
-# What a real bash completes: the commands of the help, and the options of each command's help.
+# The completions in a real bash: the commands of the help, and the options of each command's help.
 complete() {
   bash -c '. "$1"; shift; COMP_WORDS=(echonet "$@"); COMP_CWORD=$#; _echonet; printf "%s\n" "${COMPREPLY[@]}"' \
     - "$root/one/usr/share/bash-completion/completions/echonet" "$@" | sort
 }
 
-# What a real fish completes, where there is one.
+# The completions in a real fish, if there is one.
 in_fish() {
   HOME=$root fish -c 'source $argv[1]; complete -C "echonet $argv[2]"' \
     "$root/one/usr/share/fish/vendor_completions.d/echonet.fish" "$1" | cut -f 1 | sort
@@ -65,7 +65,7 @@ check 'a program that fails completes nothing' "$(scripts/completions.sh /bin/fa
 echo text > "$root/some file"
 check 'files' "$(cd "$root" && complete show some)" 'some file'
 
-# The scripts find what stands beside them.
+# The scripts find the files in their folder.
 mkdir -p "$root/station"
 printf 'SYSTEM 1:10/1\nNAME Alpha\nAREA TEST 1:10/2\n' > "$root/station/links"
 posted=$(echo Hello | PATH=$root/one/usr/bin:$PATH "$root/one/usr/share/echonet/post.sh" "$root/station" TEST All Ann Hi)
@@ -73,7 +73,7 @@ check 'a posting' "${posted% *}" 'posted TEST 1:10/1'
 check 'a scan' "$(PATH=$root/one/usr/bin:$PATH "$root/one/usr/share/echonet/scan-outbound.sh" "$root/station" | cut -d ' ' -f 1-3)" 'packet 1:10/2 1'
 check 'a toss' "$(PATH=$root/one/usr/bin:$PATH "$root/one/usr/share/echonet/toss-inbound.sh" "$root/station"; echo $?)" 0
 
-# The sessions of the guide, from the examples that were installed.
+# The sessions of the guide, from the installed examples.
 if command -v binkd > /dev/null || [ -x /usr/sbin/binkd ]; then
   scripts/follow.sh docs/OPERATORS.md bin/echonet "$root/one/usr/share/doc/echonet" > "$root/followed"
   check 'the guide' "$? $(tail -1 "$root/followed" | cut -d , -f 2)" '0  0 did not'
@@ -82,8 +82,8 @@ fi
 make -s uninstall DESTDIR="$root/one" PREFIX=/usr > /dev/null || exit 1
 check 'nothing is left' "$(files "$root/one")" ''
 
-# The unit has the paths below PREFIX, and does what it says: it is run here for a station with the folders of Debian's
-# binkd, which gets a packet that is cut and has a message that waits.
+# The unit has the paths below PREFIX, and does what it says. It runs here for a station with the folders of Debian's
+# binkd, which gets a cut packet and has a message that waits.
 make -s install DESTDIR= PREFIX="$root/here" > /dev/null || exit 1
 share=$root/here/share/echonet
 check 'paths of the unit' "$(grep -o '[^ =]*/[a-z]*/echonet[^ ;]*' "$share/echonet.service" | sort -u)" \

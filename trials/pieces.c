@@ -1,5 +1,4 @@
-// Loaded in front of the C library: of the reads and writes of several bytes those that are chosen move
-// one byte.
+// Loaded before the C library: the chosen reads and writes of several bytes move one byte.
 #include "counting.h"
 
 static size_t piece(size_t size) {

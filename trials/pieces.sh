@@ -1,7 +1,7 @@
 #!/usr/bin/env bash
-# Lets each read and write of several bytes move one byte in turn, in one run of each command, and then all
-# of them, by calls that are loaded before the C library's (pieces.c, which needs a C compiler). Each run
-# ends as with whole reads and writes: its status, what it printed, the base and the packets.
+# In one run of each command, each read and write of several bytes moves one byte in turn, and then all of them do.
+# The calls are loaded before the C library's (pieces.c, which needs a C compiler). Each run ends as with whole reads
+# and writes: its status, its output, the base and the packets.
 set -eu
 cd "$(dirname "$0")/.."
 . trials/setting.sh
@@ -9,7 +9,7 @@ cd "$work"
 . "$top/trials/commands.sh"
 make_loaded pieces
 
-# Runs it and holds it against the run with whole calls.
+# Runs it and compares it with the run with whole calls.
 try_with() {
   run_behind pieces "$1" "$2"
   expect "$1, call $2: status" [ $status = "$wanted" ]

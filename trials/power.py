@@ -1,9 +1,9 @@
-"""A disk whose power can be cut at any moment: a block device that logs each write and each flush.
+"""A disk whose power can be cut at any time: a block device that logs each write and each flush.
 
-A FUSE file system of one file, served here by /dev/fuse alone, has the image; a loop device stands on that file, and a
-file system of the kernel on it. The log is played again up to a cut: all that was written before the last flush is on
-the disk, and of what was written behind it any part, in sectors: of 512 bytes, but of 4096 for btrfs, whose super block must
-not be torn. Only root can do this.
+A FUSE file system of one file has the image. This module serves it by /dev/fuse. A loop device uses that file, and a
+file system of the kernel uses the loop device. The log is played again up to a cut. The disk has all that was written
+before the last flush, and any part of what was written after it, in sectors. Sectors have 512 bytes, or 4096 for
+btrfs, whose super block must not be torn. Only root can do this.
 """
 import contextlib
 import ctypes
@@ -27,7 +27,8 @@ KINDS = {
 
 
 def enter():
-    """Goes on in a name space of its own for mounts, which end with it. Answers why that cannot be, or nothing."""
+    """Continues in a name space of its own for mounts, which end with it. Returns why that is not possible, or
+    nothing."""
     if os.environ.get("POWER_ENTERED"):
         return None
     if os.geteuid() != 0:
@@ -56,7 +57,7 @@ def kinds(chosen=()):
 
 @contextlib.contextmanager
 def mounted(kind, image, at):
-    """Mounts an image, which may be the file of a disk or what a cut left."""
+    """Mounts an image: the file of a disk, or what a cut left."""
     if kind == "btrfs":
         subprocess.run(["btrfs", "device", "scan", "--forget"], check=False, capture_output=True)
     options = ",".join(filter(None, ("loop", KINDS[kind][1])))
@@ -89,7 +90,7 @@ def copy_sparse(source, target):
 
 
 class Served:
-    """Serves the one file of the FUSE file system, and logs what is done to it."""
+    """Serves the one file of the FUSE file system, and logs the calls on it."""
 
     def __init__(self, fuse, image, log):
         self.fuse, self.image, self.log = fuse, image, log
@@ -105,7 +106,7 @@ class Served:
                     continue
                 return
             _, kind, unique = struct.unpack_from("<2IQ", request)
-            if kind in (2, 36, 42):  # FORGET, INTERRUPT, BATCH_FORGET: nobody waits for an answer
+            if kind in (2, 36, 42):  # FORGET, INTERRUPT, BATCH_FORGET: these get no answer
                 continue
             answer = self.answer(kind, request[40:])
             code, content = (answer, b"") if isinstance(answer, int) else (0, answer)
@@ -152,7 +153,7 @@ def entries(path):
 
 
 class Disk:
-    """A disk with a file system in a folder: it is written to once, with a log, and then cut many times."""
+    """A disk with a file system in a folder: it is written once, with a log, and then cut many times."""
 
     def __init__(self, folder, kind):
         self.kind, self.at = kind, os.path.join(folder, "at")
@@ -171,7 +172,7 @@ class Disk:
 
     @contextlib.contextmanager
     def recording(self):
-        """Mounts the disk, with a log of what is written."""
+        """Mounts the disk, with a log of the writes."""
         fuse = os.open("/dev/fuse", os.O_RDWR)
         options = "fd=%d,rootmode=100600,user_id=0,group_id=0,allow_other" % fuse
         if LIBC.mount(b"echonet-disk", self.file.encode(), b"fuse", 0, options.encode()):
@@ -191,12 +192,12 @@ class Disk:
             os.waitpid(server, 0)
 
     def mark(self, words):
-        """Notes in the log what happens now."""
+        """Writes a mark to the log."""
         add(self.log, MARK, words.encode())
 
     def cuts(self, chance, count):
-        """Cuts the power so many times, half of them just behind a flush: what was marked before, and the image of the disk,
-        in the order of the log."""
+        """Cuts the power so many times, half of them immediately after a flush. Yields the marks before the cut, and
+        the image of the disk, in the order of the log."""
         log = list(entries(self.log_path))
         first = next(number for number, (at, _) in enumerate(log) if at == MARK)
         flushes = [number for number, (at, _) in enumerate(log) if at == FLUSH and number > first] or [first]
@@ -223,7 +224,7 @@ class Disk:
 
 
 def kept_of(chance, pending, sector):
-    """What a disk keeps of writes that were not flushed: the first ones, or any of them, some of them torn."""
+    """The part of unflushed writes that a disk keeps: the first ones, or any of them, some of them torn."""
     way = chance.choice(("all", "none", "first", "some", "torn"))
     if way == "first":
         pending = pending[:chance.randrange(len(pending) + 1)]

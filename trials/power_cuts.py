@@ -1,12 +1,16 @@
-"""Cuts the power under the program and the scripts of examples/net, and judges what stands on the disk then.
+"""Cuts the power under the program and the scripts of examples/net, and judges what the disk has then.
 
-Stations on one disk post, toss, scan, purge, convert and export, on base files and base folders, or by the scripts, while
-another program flushes files of its own. At each cut (power.py) the file system is mounted again. What ended with status
-0 is there, whole and once; what was running is there wholly or not at all; no message is twice in a base or in the
-packets under their names; and the next commands go on without help (judge.py). Some disks are flushed whole before some
-files get their names: then btrfs keeps no order among names that nobody flushed. At last all is done with an `fsync` that
-does nothing: there cuts have to do harm.
-Words: how many cuts (2000), and the file systems (ext4 xfs btrfs). SEED makes the same again.
+Stations on one disk post, toss, scan, purge, convert and export, on base files and base folders, or by the scripts.
+At the same time another program flushes files of its own. At each cut (power.py) the file system is mounted again.
+
+- What ended with status 0 is there, whole and once.
+- What was running is there wholly or not at all.
+- No message is twice in a base or in the packets under their names.
+- The next commands work without help (judge.py).
+
+Some disks are flushed whole before some files get their names: after that, btrfs keeps no order among unflushed
+names. At last all is done with an `fsync` that does nothing. There cuts have to do harm.
+Arguments: how many cuts (2000), and the file systems (ext4 xfs btrfs). SEED makes the same again.
 """
 import os
 import random
@@ -24,11 +28,12 @@ import jam
 import making
 import power
 import stored
-from judge import LINKS, PROGRAM, TOP, Judge, Message, content, files_of, number_of, packet_of, texts_of
+from contents import PROGRAM, TOP
+from judge import LINKS, Judge, Message, content, files_of, number_of, packet_of, texts_of
 
 NO_FLUSH = b"int fsync(int f) { (void)f; return 0; }\nint fdatasync(int f) { (void)f; return 0; }\n"
 
-# Flushes the whole disk before the first file of a process gets a name, and before each third one behind that.
+# Flushes the whole disk before the first file of a process gets a name, and before each third one after that.
 WHOLE_FLUSH = br"""
 #define _GNU_SOURCE
 #include <fcntl.h>
@@ -62,7 +67,7 @@ int rename(const char *from, const char *to) { return renameat2(AT_FDCWD, from, 
 
 
 class Step(NamedTuple):
-    """What a station does: a word, the messages that come with it, and a name."""
+    """A step of a station: its word, the messages that it brings, and a name."""
     station: object
     what: str
     messages: list = []
@@ -70,7 +75,7 @@ class Step(NamedTuple):
 
 
 def make(path, given):
-    """Makes a file as a mailer does: it is on the disk then, under its name."""
+    """Makes a file as a mailer does: afterwards it is on the disk under its name."""
     with open(path + ".part", "wb") as file:
         file.write(given)
         file.flush()
@@ -80,27 +85,27 @@ def make(path, given):
 
 
 def flush(path, is_all=False):
-    """Flushes a folder, or the whole disk that it is on."""
+    """Flushes a folder, or its whole disk."""
     found = os.open(path, os.O_RDONLY)
     (power.LIBC.syncfs if is_all else os.fsync)(found)
     os.close(found)
 
 
 def all_of(steps):
-    """The messages that came with steps."""
+    """The messages of these steps."""
     return [message for step in steps for message in step.messages]
 
 
 def before_last(steps, what):
-    """The steps before the last one of this word."""
+    """The steps before the last one with this word."""
     return steps[:max((number for number, step in enumerate(steps) if step.what == what), default=0)]
 
 
 class Plain:
-    """A station whose commands are called by themselves."""
+    """A station whose commands run without the scripts."""
     chances = {"post": 8, "toss": 5, "scan": 4, "purge": 1, "convert": 2}
-    comes = {"post": "post", "toss": "toss"}  # how the messages come that a step has
-    passing = [("", ".new"), ("out", ".new"), ("msg", ".new")]  # what does not stay, by folders and ends of names
+    comes = {"post": "post", "toss": "toss"}  # how the messages of a step are made
+    passing = [("", ".new"), ("out", ".new"), ("msg", ".new")]  # files that do not stay, by folders and ends of names
 
     def __init__(self, name, is_folder):
         self.name, self.is_folder = name, is_folder
@@ -114,7 +119,7 @@ class Plain:
             os.mkdir(join(folder, "base"))
 
     def step(self, chance, serials, number, is_first=False):
-        """What it does next."""
+        """Its next step."""
         what = next(iter(self.chances)) if is_first else chance.choices(list(self.chances), self.chances.values())[0]
         way = self.comes.get(what)
         count = {None: 0, "toss": chance.choice((1, 2, 8))}.get(way, 1)
@@ -122,7 +127,7 @@ class Plain:
         return Step(self, what, messages, "copy.%d.%s" % (number, chance.choice(("file", "folder"))))
 
     def do(self, judge, folder, step, wanted=0):
-        """Does a step, and answers its status."""
+        """Does a step, and returns its status."""
         has_base = os.path.exists(join(folder, "base"))
         if step.what not in ("post", "toss", "scan", "purge") and not has_base:
             return 0
@@ -134,7 +139,7 @@ class Plain:
         return judge.run(folder, PROGRAM, *words, given=given, wanted=wanted)
 
     def look(self, judge, folder, done, opened):
-        """Looks at what stands on the disk after these steps, and at some moment of the opened one."""
+        """Looks at the contents of the disk after these steps. The opened step may have ended at any point."""
         may = all_of(done) + opened.messages
         seen = judge.texts(self.name + ": base", texts_of(join(folder, "base")), all_of(done), may)
         is_whole = len({message.serial in seen for message in opened.messages}) < 2
@@ -151,7 +156,7 @@ class Plain:
                 judge.texts("%s: %s" % (self.name, step.name), texts_of(join(folder, step.name)), wanted, wanted)
 
     def again(self, judge, folder, done, opened):
-        """Goes on with the step that was cut; answers the steps that are done."""
+        """Continues the step that was cut. Returns the steps that are done."""
         base = join(folder, "base")
         seen = {number_of(text) for text in texts_of(base)}
         if not opened.what or opened.messages and opened.messages[0].serial in seen:
@@ -162,12 +167,12 @@ class Plain:
         return done + [opened]
 
     def fresh(self, serials):
-        """Steps that have to go after a cut."""
+        """Steps that have to work after a cut."""
         steps = [Step(self, way, [Message(way, next(serials), 300)]) for way in ("post", "toss")]
         return steps + [Step(self, what) for what in ("scan", "purge", "list")]
 
     def mend(self, judge, folder, done, opened, serials):
-        """Goes on after a cut."""
+        """Continues after a cut."""
         done = self.again(judge, folder, done, opened)
         for step in self.fresh(serials):
             self.do(judge, folder, step)
@@ -189,7 +194,7 @@ class Exports(Plain):
         try:
             texts = [b"\r" + message.text for message in jam.Jam(join(folder, "jam")).messages]
         except (SystemExit, struct.error) as fault:
-            # Entries of zeros may stand there while a run goes on.
+            # There may be entries of zeros during a run.
             judge.expect("%s: jam: %r" % (self.name, fault), opened.what == "jam")
             return
         judge.texts(self.name + ": jam", texts, all_of(before_last(done, "jam")), may,
@@ -207,7 +212,7 @@ def look_at_stored(judge, what, folder, wanted, may):
 
 
 class Scripts(Plain):
-    """A station that the scripts of examples/net run, with a mailer and an editor who flush their files."""
+    """A station that the scripts of examples/net run, with a mailer and an editor that flush their files."""
     chances = {"arrive": 4, "toss": 3, "scan": 3, "mail": 2, "write": 3, "read": 3}
     comes = {"arrive": "toss", "write": "write"}
     passing = [("inbound", ".pkt"), ("tossing", ""), ("scanned", ""), ("bad", ""), ("outbound", (".bsy", ".hold")),
@@ -216,7 +221,7 @@ class Scripts(Plain):
 
     def __init__(self, name, is_folder):
         super().__init__(name, is_folder)
-        self.mailed = {}  # the packets that the mailer took, and by which step
+        self.mailed = {}  # the packets that the mailer sent, and by which step
 
     def do(self, judge, folder, step, wanted=0):
         if step.what in self.words:
@@ -233,7 +238,7 @@ class Scripts(Plain):
         return 0
 
     def mail(self, folder, step):
-        """Sends what the flow files name, as a mailer does."""
+        """Sends the packets that the flow files name, as a mailer does."""
         packets, outbound = (join(folder, name) for name in ("packets", "outbound"))
         for flow, lines in files_of(outbound, ".flo").items():
             for line in lines.decode().split():
@@ -246,7 +251,7 @@ class Scripts(Plain):
         flush(outbound)
 
     def filed(self, done):
-        """What has to be in the base: what came before a run that took it in."""
+        """The messages that the base has to have: those made before a run that files them."""
         runs = (("toss", "toss"), ("write", "read"))
         return [message for way, what in runs for message in all_of(before_last(done, what)) if message.way == way]
 
@@ -263,7 +268,7 @@ class Scripts(Plain):
             for file in files_of(join(folder, place), (".pkt", ".msg")).values():
                 came = b"\r" + file.replace(b"\0", b"\r")
                 texts.update(message.serial for message in opened.messages if b"\r%08x x" % message.serial in came)
-        # What was on its way to this disk may not have come.
+        # A message on its way to this disk may be missing.
         return done + [opened] if not opened.messages or opened.messages[0].serial in texts else done
 
     def fresh(self, serials):
@@ -271,7 +276,7 @@ class Scripts(Plain):
 
     def mend(self, judge, folder, done, opened, serials):
         for name in files_of(join(folder, "outbound"), ".bsy"):
-            if next(serials) % 2:  # by now the number in it is that of another process
+            if next(serials) % 2:  # the number in it now belongs to another process
                 with open(join(folder, "outbound", name), "w", encoding="ascii") as file:
                     file.write("%d\n" % os.getpid())
         super().mend(judge, folder, done, opened, serials)
@@ -295,7 +300,7 @@ def disturb(at, chance, stop):
 
 
 def fill(judge, disk, stations, steps, chance, is_quiet):
-    """Does the steps on a disk, with marks in its log, and mostly beside another program."""
+    """Does the steps on a disk, with marks in its log. Mostly another program writes at the same time."""
     with disk.recording() as at:
         for station in stations:
             station.begin(join(at, station.name))
@@ -315,7 +320,7 @@ def fill(judge, disk, stations, steps, chance, is_quiet):
 
 
 def judge_cut(judge, at, stations, steps, marks, chance, serials):
-    """Judges each station after a cut, and goes on with the one that was running and with another one."""
+    """Judges each station after a cut. Then the running station and another one continue."""
     ended = {int(mark.split()[0]) for mark in marks if mark.endswith(" 0") and mark != "0"}
     opened = steps[int(marks[-1])] if marks[-1].isdigit() else None
     mended = [opened.station if opened else stations[0], chance.choice(stations)]
@@ -332,7 +337,7 @@ def judge_cut(judge, at, stations, steps, marks, chance, serials):
 
 
 def session(kind, stations, chance, count, cuts, is_lazy=False):
-    """Fills a disk by so many steps, and cuts its power so many times. Answers how many cuts did harm."""
+    """Fills a disk by so many steps, and cuts its power so many times. Returns how many cuts did harm."""
     began, serials, bad = time.time(), iter(range(1, 1 << 30)), 0
     with tempfile.TemporaryDirectory(prefix="echonet-power.", dir="/dev/shm" if os.path.isdir("/dev/shm") else None) as work:
         judge, disk = Judge(work), power.Disk(join(work, "disk"), kind)
@@ -358,20 +363,21 @@ def session(kind, stations, chance, count, cuts, is_lazy=False):
 
 
 def in_front(work, source):
-    """Makes what is loaded in front of the C library."""
+    """Compiles a library that is loaded before the C library."""
     path = join(work, "in_front.so")
     subprocess.run(["cc", "-shared", "-fPIC", "-x", "c", "-o", path, "-"], input=source, check=True)
     return path
 
 
-# Stations whose commands are called by themselves, and those of the scripts; the steps of each disk.
+# Stations whose commands run without the scripts, and those of the scripts, and the steps of each disk.
 STATIONS = {
     "commands": (120, lambda: [Plain("file", False), Plain("folder", True), Exports("out_of_file", False), Exports("out_of_folder", True)]),
     "scripts": (60, lambda: [Scripts("scripts_file", False), Scripts("scripts_folder", True)])}
 
 
 def main(words):
-    """Half of the cuts are on the first file system, and a quarter under scripts; then some without flushes."""
+    """Half of the cuts are on the first file system, and a quarter under scripts. Then there are some without
+    flushes."""
     why, there = power.enter(), power.kinds(words[1:])
     if why or not there:
         print("power_cuts.py: skipped: %s" % (why or "no file system can be made"))

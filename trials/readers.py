@@ -1,7 +1,8 @@
-"""Runs `export --jam` and `export --msg` beside each other, and after power cuts.
+"""Runs several `export --jam` and `export --msg` at the same time, and after power cuts.
 
-No message of the base may come twice, and the counts have to be right. What a power cut leaves of a JAM base is begun again or gone on with,
-what stopped runs left beside files goes, links are not followed, and new files have the mode that the umask says.
+No message of the base may be exported twice, and the counts have to be right. A JAM base after a power cut is begun
+again or continued. Temporary files of stopped runs are removed. Links are not followed, and new files have the mode
+of the umask.
 """
 import fcntl
 import os
@@ -14,6 +15,7 @@ import time
 
 import jam
 import stored
+from contents import read, write
 
 FIXED = 1024
 
@@ -28,20 +30,14 @@ def made(count):
 
 
 def words_of(form, path, base, first=0):
-    """The words of an export."""
+    """The arguments of an export."""
     return [jam.PROGRAM, "export", form, path, "--area", "TEST", "--from", str(first), base]
 
 
 def expect(what, got, wanted):
-    """Ends the trial where something is not as it is to be."""
+    """Ends the trial if something is not as it has to be."""
     if got != wanted:
         sys.exit("%s: %r, and not %r" % (what, got, wanted))
-
-
-def write(path, content):
-    """Makes a file, or writes over it."""
-    with open(path, "wb") as file:
-        file.write(content)
 
 
 def quiet(words, mask=0o022):
@@ -50,7 +46,7 @@ def quiet(words, mask=0o022):
 
 
 def waited(form, path, base, locked, change):
-    """What a run prints that waits for a lock, while this is done."""
+    """The output of a run that waits for a lock during this action."""
     lock = os.open(locked, os.O_RDONLY)
     fcntl.flock(lock, fcntl.LOCK_EX)
     with subprocess.Popen(words_of(form, path, base), stdout=subprocess.PIPE) as waiting:
@@ -67,7 +63,7 @@ def exported(count, end):
 
 
 def try_two_jam(place, base, messages):
-    """A run that waited for another one adds nothing that the other one added, though the base grew meanwhile."""
+    """A run that waited for another one adds no message of the other one again, although the base grew in between."""
     path, other, some = os.path.join(place, "two"), os.path.join(place, "other"), messages[:-3]
     jam.write_base(base, messages)
     jam.add(other, base, 0, messages, len(messages))
@@ -98,7 +94,7 @@ def try_begun(place, base, messages):
 
 
 def try_two_msg(place, base, messages):
-    """The same of folders of stored messages."""
+    """The same for folders of stored messages."""
     folder, other, some = os.path.join(place, "two.msg"), os.path.join(place, "other.msg"), messages[:-3]
     jam.write_base(base, messages)
     stored.add(other, base, 0, len(messages), len(messages))
@@ -117,7 +113,7 @@ def try_two_msg(place, base, messages):
 
 
 def try_zeros(place, base, messages):
-    """Entries of zeros at the end are written over where the count knows none of them, else the base is refused."""
+    """Entries of zeros at the end are overwritten if the count includes none of them. Else the base is refused."""
     path, some = os.path.join(place, "zeros"), messages[:-4]
     jam.write_base(base, some)
     jam.add(path, base, 0, some, len(some))
@@ -131,20 +127,20 @@ def try_zeros(place, base, messages):
         jam.put(path, [headers, texts, index + bytes(zeros), last])
         jam.write_base(base, some)
         jam.add(path, base, 0, [], len(some))
-        expect("the index", jam.read(path + ".jdx")[:len(index) + 8], index)
+        expect("the index", read(path + ".jdx")[:len(index) + 8], index)
         for bad in (index[:-8] + bytes(8), bytes(8) + index[8:], bytes(len(index))):
             files = [headers, texts, bad + bytes(zeros - zeros % 8), last]
             jam.put(path, files)
             expect("zeros", jam.run(path, base), (3, "", "echonet: cannot use %s\n" % path))
-            expect("what stands there", jam.contents(path), files)
+            expect("the files", jam.contents(path), files)
 
 
 def try_alone(place, base, messages):
-    """Headers alone with nothing in them are begun again."""
+    """Files with empty headers only are begun again."""
     path = os.path.join(place, "alone")
     jam.write_base(base, [])
     jam.add(path, base, 0, [], 0)
-    fixed = jam.read(path + ".jhr")
+    fixed = read(path + ".jhr")
     jam.write_base(base, messages)
     for found in (fixed, b"", bytes(512), bytes(FIXED)):
         for left in ([], [".jdx"], [".jdx", ".jdt", ".jlr"]):
@@ -164,11 +160,11 @@ def try_alone(place, base, messages):
         if index is not None:
             write(path + ".jdx", index)
         expect("alone", jam.run(path, base), (3, "", "echonet: cannot use %s\n" % path))
-        expect("headers", jam.read(path + ".jhr"), found)
+        expect("headers", read(path + ".jhr"), found)
 
 
 def try_links(place, base, messages):
-    """No symbolic link in the place of a file is followed."""
+    """A symbolic link at the path of a file is not followed."""
     path, kept = os.path.join(place, "link"), os.path.join(place, "kept")
     jam.write_base(base, messages)
     jam.add(kept, base, 0, messages[:], len(messages))
@@ -181,14 +177,14 @@ def try_links(place, base, messages):
                     shutil.copy(kept + end, path + end)
             target = kept + linked if is_there else os.path.join(place, "missing")
             os.symlink(target, path + linked)
-            content = jam.read(kept + linked)
+            content = read(kept + linked)
             expect("a link", jam.run(path, base), (3, "", "echonet: cannot use %s\n" % path))
-            expect("what it leads to", jam.read(kept + linked), content)
+            expect("what it leads to", read(kept + linked), content)
             expect("nothing is made", os.path.exists(os.path.join(place, "missing")), False)
 
 
 def try_left(place, base, messages):
-    """What stopped runs left beside files goes, whatever it holds; what is no regular file stays."""
+    """Temporary files of stopped runs are removed, whatever their contents. Other kinds of files stay."""
     path, folder = os.path.join(place, "left"), os.path.join(place, "left.msg")
     jam.write_base(base, messages)
     os.makedirs(folder)
@@ -223,9 +219,9 @@ def try_left(place, base, messages):
 
 
 def try_others(path, folder, base, messages):
-    """What another user left stays, but where a file of this kind is made in its place."""
+    """What another user left stays, unless a file of this kind replaces it."""
     first, beside = os.path.join(folder, "2.msg"), os.path.join(folder, "2.msg.~msg~.new")
-    wanted = jam.read(first)
+    wanted = read(first)
     for content, status in ((b"anything", 3), (wanted[:50], 0), (b"", 0)):
         for name in os.listdir(folder):
             os.remove(os.path.join(folder, name))
@@ -236,11 +232,11 @@ def try_others(path, folder, base, messages):
     write(path + ".jhr.~jam~.new", b"anything")
     os.chown(path + ".jhr.~jam~.new", 65534, 65534)
     expect("left by another user", quiet(words_of("--jam", path, base)).stdout.decode(), exported(0, len(messages)))
-    expect("it stays", jam.read(path + ".jhr.~jam~.new"), b"anything")
+    expect("it stays", read(path + ".jhr.~jam~.new"), b"anything")
 
 
 def try_modes(place, base, messages):
-    """New files have the mode that the umask says."""
+    """New files have the mode of the umask."""
     jam.write_base(base, messages)
     for mask in (0o022, 0o027, 0o077, 0o002):
         path, folder = os.path.join(place, "mode%o" % mask), os.path.join(place, "mode%o.msg" % mask)

@@ -1,6 +1,6 @@
-"""Reads packets, texts and bases by docs/FORMATS.md, so that what the program says can be compared.
+"""Reads packets, texts and bases by docs/FORMATS.md, to compare the output of the program.
 
-It shares no code with the program. It is slow and plain: each rule stands as the document tells it.
+It shares no code with the program. It is slow and plain: each rule is written as in the document.
 """
 import struct
 from typing import NamedTuple
@@ -12,7 +12,7 @@ MOST_SHOWN = 16_777_216
 
 
 class Fault(Exception):
-    """A fault, in the words of the fault line."""
+    """A fault, as the fault line prints it."""
 
 
 class Message(NamedTuple):
@@ -35,7 +35,7 @@ class Echo(NamedTuple):
 
 
 def string_end(content, at, most, too_long):
-    """Where the 00 of a string is that begins at a place."""
+    """The place of the 00 of a string that begins at a place."""
     end = content.find(b"\0", at, at + most + 1)
     if end >= 0:
         return end
@@ -60,7 +60,7 @@ def read_header(content):
 
 
 def read_message(content, at, most_text):
-    """The message at a place and what follows it, or None where the packet ends."""
+    """The message at a place and the place after it, or None if the packet ends."""
     number, = struct.unpack("<H", fixed(content, at, 2))
     if number == 0:
         return None
@@ -103,7 +103,7 @@ def is_kind(line, begin):
 
 
 def is_of_tail(line):
-    """Whether a line may stand in the control tail."""
+    """Whether a line may be in the control tail."""
     return is_kind(line, b"SEEN-BY:") or is_kind(line, b"\x01") or not line.strip(BLANKS)
 
 
@@ -116,7 +116,7 @@ def number_of(word):
 
 
 def read_list(content):
-    """The entries of a SEEN-BY or PATH line, and how many tokens are none."""
+    """The entries of a SEEN-BY or PATH line, and how many tokens are not entries."""
     entries, dropped, net = [], 0, None
     for token in content.replace(b"\t", b" ").replace(b"\n", b" ").split(b" "):
         if token == b"":
@@ -171,18 +171,18 @@ def first_id(kept, lead=b"\x01MSGID:"):
 
 
 def key_of(echo, names):
-    """By what a message is known."""
+    """The key of a message."""
     found = first_id(echo.kept)
     return (echo.tag, found) if found is not None else (echo.tag, names, tuple(echo.kept))
 
 
 def written(echo):
-    """The text of what one says."""
+    """The text of a message."""
     return making.text(echo.tag, echo.kept, sorted(echo.seen), echo.path)
 
 
 def address_in(word):
-    """The address that a word is, or none."""
+    """The address in a word, or none."""
     zone, _, rest = word.partition(b":")
     net, _, node = rest.partition(b"/")
     if word.count(b":") != 1 or word.count(b"/") != 1 or not all(part.isdigit() for part in (zone, net, node)):
@@ -201,7 +201,7 @@ def link_lines(content):
 
 
 def line_fault(line, words, earlier):
-    """Why a line of a link file is refused, where these lines stand before it."""
+    """Why a line of a link file is refused, after these lines before it."""
     same = [others for others in earlier if others[0] == words[0]]
     if any(byte < 0x20 and byte != 9 for byte in line) or words[0] not in (b"SYSTEM", b"NAME", b"AREA"):
         return "L1 UnknownWord"
@@ -225,7 +225,7 @@ def line_fault(line, words, earlier):
 
 
 def wrong_word(fault, line, words):
-    """The word of a line of a link file that a fault is about."""
+    """The word in a line of a link file that a fault names."""
     if fault.startswith("L1"):
         return next((word for word in words if any(byte < 0x20 for byte in word)), words[0])
     if fault.startswith("L4"):
@@ -272,7 +272,7 @@ class Record:
         self.content, self.at, self.number = content, at, number
 
     def take(self, size):
-        """So many bytes more."""
+        """So many more bytes."""
         if len(self.content) < self.at + size:
             raise Fault("F2 Truncated record %d" % self.number)
         self.at += size
@@ -312,7 +312,7 @@ def read_record(record, version, scanned, keys):
 
 
 def read_base(content):
-    """How many bytes a base has and its keys, or its fault."""
+    """The size of a base and its keys, or its fault."""
     versions = {b"ECHOBAS1": 1, b"ECHOBAS2": 2}
     if not any(name.startswith(content[:8]) for name in versions):
         raise Fault("F1 NotBase")

@@ -1,9 +1,9 @@
 #!/usr/bin/env bash
-# Refuses each growth of memory in one run of each command in turn, by a malloc that is loaded before the C
-# library's (refuse.c, which needs a C compiler). Each run ends as with all its growths, or with 3, one
-# fault line, and the old base or the new one whole, or the old one with the messages of the packet that
-# were tossed before it; no packet in part. How many growths a run has is found by one that is refused
-# none; growths before the program's own, the loader's, are among them.
+# Refuses each growth of memory in one run of each command in turn. It does so by a malloc that is loaded before the C
+# library's (refuse.c, which needs a C compiler). Each run ends as without refusals, or with 3 and one fault line.
+# Then the base is the old one or the new one, whole, or the old one with the messages that were tossed before. No
+# packet is incomplete. A run without refusals counts the growths. They include those of the loader, before the
+# program's own.
 set -eu
 cd "$(dirname "$0")/.."
 . trials/setting.sh

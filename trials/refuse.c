@@ -1,4 +1,4 @@
-// Loaded in front of the C library: refuses the growths that are chosen, among all that are asked for.
+// Loaded before the C library: refuses the chosen growths of memory.
 #include "counting.h"
 #include <stddef.h>
 

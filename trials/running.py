@@ -1,7 +1,7 @@
-"""Runs the program and tells how it ended: status, output, fault, processor time, and memory.
+"""Runs the program and returns how it ended: status, output, fault, processor time, and memory.
 
-As a script it runs any command and prints these, from a process that is small itself, since the memory
-that the system tells of a child is never less than its parent's.
+As a script it runs any command and prints these values. It uses a small process of its own, since the memory that the
+system reports for a child is never less than its parent's.
 """
 import os
 import resource
@@ -12,7 +12,7 @@ import time
 from typing import NamedTuple
 
 LONGEST = 20  # seconds for a small input
-# So that a grown input harms nobody else: eight GiB, where MOST_MEMORY does not tell other bytes.
+# A limit that protects others from a grown input: eight GiB, unless MOST_MEMORY names other bytes.
 MOST_MEMORY = int(os.environ.get("MOST_MEMORY", 8 << 30))
 
 
@@ -25,7 +25,7 @@ class Ended(NamedTuple):
     kilobytes: int
 
     def is_orderly(self, most=3):
-        """Whether it ended by itself, with one fault line where the status tells of a fault."""
+        """Whether it ended by itself, with one fault line if the status is a fault."""
         if self.status in (0, 1):
             return self.fault == b""
         one_line = self.fault.startswith(b"echonet: ") and self.fault.count(b"\n") == 1
@@ -42,7 +42,7 @@ class Runner:
         self.out, self.err = (os.path.join(folder, name) for name in (".out", ".err"))
 
     def run(self, *words, given=os.devnull):
-        """Runs it with these words; `given` is the file for its standard input."""
+        """Runs it with these arguments. `given` is the file for its standard input."""
         self.runs += 1
         writing = os.O_WRONLY | os.O_CREAT | os.O_TRUNC
         actions = [
@@ -54,7 +54,7 @@ class Runner:
         return self.told(status, used)
 
     def told(self, status, used):
-        """What a run left."""
+        """The result of a run."""
         with open(self.out, "rb") as out, open(self.err, "rb") as err:
             ended = Ended(os.waitstatus_to_exitcode(status), out.read(), err.read(),
                           used.ru_utime + used.ru_stime, used.ru_maxrss)
@@ -64,7 +64,7 @@ class Runner:
 
 
 def wait_for(process):
-    """Waits for a process, and kills it where it takes too long."""
+    """Waits for a process, and kills it if it takes too long."""
     signal.signal(signal.SIGALRM, lambda *_: os.kill(process, signal.SIGKILL))
     signal.alarm(LONGEST)
     _, status, used = os.wait4(process, 0)
@@ -82,16 +82,16 @@ def measured(words, given=None, most_seconds=600):
 
 
 def steady_ratio(run, size):
-    """How many times the processor time is at twice the bytes, from the best of three runs at a size and at
-    a quarter of it. `run` runs at a size, and answers the bytes of the input and the seconds."""
+    """How many times the processor time grows when the bytes double. It takes the best of three runs at a size and at a
+    quarter of it. `run` runs at a size, and returns the bytes of the input and the seconds."""
     runs = [[run(some) for _ in range(3)] for some in (size, size // 4)]
     (whole, longer), (part, shorter) = [(some[0][0], min(seconds for _, seconds in some)) for some in runs]
     return 2 * (longer / shorter * part / whole) ** 0.5
 
 
 def main(words):
-    """Runs the words, without its output, and prints a line: its status, seconds of processor time and in
-    all, kilobytes, and its fault."""
+    """Runs the command without its output, and prints a line: its status, seconds of processor time and in all,
+    kilobytes, and its fault."""
     started = time.time()
     resource.setrlimit(resource.RLIMIT_CORE, (0, 0))
     resource.setrlimit(resource.RLIMIT_AS, (MOST_MEMORY, MOST_MEMORY))

@@ -1,5 +1,5 @@
-# What the trials that are shell scripts share: the program, a folder of their own that is removed at
-# the end, counts of what held, and bases, which are `files` or, with that as the first word, `folders`.
+# Shared by the trials that are shell scripts: the program, a folder of their own that is removed at the end, counts
+# of what held, and bases. Bases are `files` or, with that as the first argument, `folders`.
 program=${ECHONET:-$PWD/bin/echonet}
 [ -x "$program" ] || { echo "$0: there is no $program: run make first" >&2; exit 1; }
 top=$PWD
@@ -17,7 +17,7 @@ esac
 
 make_file() { python3 "$top/trials/make.py" "$@"; }
 
-# Words: what is tried, and a command that says whether it held.
+# Arguments: what is tried, and a command that tests whether it held.
 expect() {
   local what=$1
   shift
@@ -39,7 +39,7 @@ is_one_of() {
   return 1
 }
 
-# Puts the messages of a base file in place as a base. Words: the file, the path.
+# Makes a base with the messages of a base file. Arguments: the file, the path.
 put_base() {
   rm -rf "$2"
   if [ $kind = files ]; then
@@ -54,7 +54,7 @@ put_base() {
   cp -r "$1.folder" "$2"
 }
 
-# Puts a base without messages in place.
+# Makes a base without messages.
 put_empty() {
   rm -rf "$1"
   if [ $kind = folders ]; then mkdir "$1"; fi
@@ -79,7 +79,7 @@ base_is() {
   is_one_of "$file" "$@"
 }
 
-# Whether no file of these names is there.
+# Whether there is no file with these names.
 is_none() {
   local file
   for file in "$@"; do
@@ -87,12 +87,12 @@ is_none() {
   done
 }
 
-# Whether a run ended so: its status, the file of its standard error, and the fault line's beginning.
+# Whether a run ended with this status and, in the file of its standard error, this beginning of the fault line.
 ended_with_fault() {
   [ "$1" = "$2" ] && [ "$(wc -l < "$3")" = 1 ] && case $(cat "$3") in "$4"*) true ;; *) false ;; esac
 }
 
-# The last line, which tells the counts, and the status.
+# The last line with the counts, and the status.
 finish() {
   if [ $kind = folders ]; then set -- "$1 on folders"; fi
   echo "$1: $passed passed, $failed failed"

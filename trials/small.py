@@ -1,7 +1,7 @@
-"""Small hostile inputs, each made from a seeded source of chance.
+"""Small hostile inputs, each made from seeded random choices.
 
-Half of them follow the formats of docs/FORMATS.md with odd parts in them, so that they get far into the
-program; the other half is spoiled: bytes changed, pieces cut out, doubled, or put in from elsewhere.
+Half of them follow the formats of docs/FORMATS.md with odd parts in them, so that they get far into the program. The
+other half is damaged: bytes are changed, and pieces are cut out, doubled or inserted from elsewhere.
 """
 import struct
 
@@ -35,7 +35,7 @@ def plain_bytes(chance, most=40):
 
 
 def entry(chance):
-    """A token of a SEEN-BY or PATH line, mostly one that is an entry."""
+    """A token of a SEEN-BY or PATH line, mostly a valid entry."""
     net, node = chance.choice([0, 10, 10, 20, 65535, 65536, 7]), chance.choice([0, 1, 2, 3, 4, 65535, 99999])
     return chance.choice([
         b" %d/%d" % (net, node), b" %d" % node, b" %d/%d" % (net, node), b" /%d" % node, b" %d/" % net,
@@ -43,7 +43,7 @@ def entry(chance):
 
 
 def message_id(chance):
-    """What follows MSGID: and REPLY:, mostly an id."""
+    """The text after MSGID: and REPLY:, mostly an id."""
     serial = b"%08x" % chance.choice([0, 1, chance.getrandbits(32), chance.getrandbits(4)])
     origin = chance.choice([b"1:10/2", b"1:10/1", b"2:20/3.4@net", b'"a ""b"" c"', b'"', b"x"])
     return chance.choice([
@@ -84,7 +84,7 @@ def packed(chance):
 
 
 def packet(chance, real):
-    """A packet: one that was really written, or one of this maker."""
+    """A packet: a really written one, or one of this maker."""
     if chance.random() < 0.25:
         content = chance.choice(real)
         if chance.random() < 0.7:
@@ -134,7 +134,7 @@ def echo_parts(chance, serial):
 
 
 def stored(chance, serial, version, scanned):
-    """A message of a base that is in order."""
+    """A valid message of a base."""
     tag, kept, seen, path = echo_parts(chance, serial)
     names = {"to": plain_bytes(chance, 36)[:35], "by": plain_bytes(chance, 36)[:35],
              "subject": plain_bytes(chance, 72)[:71], "date": bytes(chance.choice(ODD_BYTES) for _ in range(20))}
@@ -215,7 +215,7 @@ NEAR = [
 
 
 def near_link_file(chance):
-    """A link file of lines that are in order or just not."""
+    """A link file of lines that are valid or nearly valid."""
     lines = [chance.choice(NEAR) for _ in range(some(chance, 5))]
     lines.insert(chance.randrange(len(lines) + 1), chance.choice(["SYSTEM 1:10/1"] * 9 + [""]))
     return "".join(line + chance.choice(["\n", "\r\n"]) for line in lines).encode()
@@ -261,7 +261,7 @@ def hexadecimal(chance, real):
 
 
 def posting(chance):
-    """The words of a posting and its body."""
+    """The arguments of a posting and its body."""
     serial = chance.choice(["%08x" % chance.getrandbits(32), "%08X" % chance.getrandbits(32), "1", "0000000g"])
     stamp = chance.choice([making.STAMP] * 4 + ["2026-02-31T00:00:00", "2080-01-01T00:00:00", "2026-13-01T00:00:00", "Now"])
     to, by, subject = (plain_bytes(chance, most).decode("latin-1") for most in (38, 38, 75))

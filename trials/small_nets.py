@@ -1,8 +1,10 @@
-"""Holds the verdicts of `check --more` on all small nets against the definitions, tried out one by one: each net is an area
-of the same systems, and `check --all --more` judges thousands of them in one run. These nets are: all link files of four
-systems; all of three of which two have one net and node, with an address that has no file; each graph of five systems and
-less; two polygons of four with a system in common, with up to one of their links left out, under three numberings; and
-graphs of seven systems by chance.
+"""Compares the verdicts of `check --more` on all small nets with the definitions, which it tries one by one. Each net
+is an area of the same systems, and `check --all --more` judges thousands of them in one run. The nets are:
+- all link files of four systems
+- all of three systems of which two have one net and node, with an address that has no file
+- each graph of at most five systems
+- two polygons of four with a common system, with up to one of their links left out, under three numberings
+- random graphs of seven systems
 """
 import itertools
 import os
@@ -12,8 +14,8 @@ import sys
 import tempfile
 from typing import NamedTuple
 
-TOP = os.path.dirname(os.path.dirname(os.path.abspath(__file__)))
-PROGRAM = os.environ.get("ECHONET", os.path.join(TOP, "bin", "echonet"))
+from contents import PROGRAM
+
 MOST_AREAS = 16000  # a link file has at most 1,048,576 bytes
 FOUR = ("1:10/1", "1:10/2", "1:10/3", "1:10/4")
 TWINS = ("1:10/1", "1:10/2", "2:10/1", "2:10/9")
@@ -23,7 +25,7 @@ CHAINED = [pair for first in (0, 3) for pair in itertools.combinations(range(fir
 
 
 class Area(NamedTuple):
-    """The addresses, ascending, and what each system lists, by their numbers: None where it has not the area."""
+    """The addresses, ascending, and what each system lists, by their numbers: None if it lacks the area."""
     addresses: tuple
     lists: tuple
 
@@ -40,12 +42,12 @@ class Area(NamedTuple):
         return self.has(one, other) and self.has(other, one)
 
     def same_net_node(self, one, other):
-        """Whether two carriers differ in the zone alone."""
+        """Whether two carriers differ only in the zone."""
         near = self.addresses[one].split(":")[1] == self.addresses[other].split(":")[1]
         return one < other and near and one in self.carriers() and other in self.carriers()
 
     def is_wrong(self, fault, one, other):
-        """Whether this fault is that of these two."""
+        """Whether these two have this fault."""
         if fault == "V3 SelfLink":
             return one == other and self.has(one, one)
         if fault == "V4 Unknown":
@@ -55,7 +57,7 @@ class Area(NamedTuple):
         return self.same_net_node(one, other)
 
     def reached(self, start, without=None):
-        """How many links away each system is to which a walk leads that does not pass one."""
+        """How many links away each system is that a walk from `start` reaches without passing `without`."""
         found, left = {start: 0}, [start]
         for here in left:
             for other in self.carriers():
@@ -65,7 +67,7 @@ class Area(NamedTuple):
         return found
 
     def in_one_block(self, link, other):
-        """Whether no system parts two links: without any one a walk joins what is left of both."""
+        """Whether no system separates two links: without any one, a walk joins the rest of both."""
         for without in self.carriers():
             ends = [one for one in link if one != without]
             if not any(one in self.reached(ends[0], without) for one in other if one != without):
@@ -73,14 +75,15 @@ class Area(NamedTuple):
         return True
 
     def pinches(self):
-        """Systems with two links that are not linked, though a walk around the system joins them, ascending."""
+        """Systems with two links that are not linked, although a walk around the system joins them, ascending."""
         for middle in self.carriers():
             for one, other in itertools.combinations([near for near in self.carriers() if self.linked(middle, near)], 2):
                 if not self.linked(one, other) and other in self.reached(one, middle):
                     yield middle, one, other
 
     def loop(self, middle, one, other):
-        """The loop of a pinch: the least of the shortest walks around it, from its smallest system to the smaller one beside it."""
+        """The loop of a pinch: the least of the shortest walks around it, from its smallest system to the smaller
+        neighbour."""
         away = self.reached(other, middle)
         ring = [middle, one]
         while ring[-1] != other:
@@ -113,7 +116,7 @@ class Area(NamedTuple):
         return found + ["V8 Loop " + self.named(loop) for loop in self.loops()]
 
     def verdict(self, tag):
-        """The lines that `check --more` prints."""
+        """The output of `check --more`."""
         found = self.faults()
         if found:
             return ["no %s %s" % (tag, found[0])] + ["also " + fault for fault in found[1:]]
@@ -122,7 +125,7 @@ class Area(NamedTuple):
 
 
 def all_files(addresses, systems):
-    """All link files of so many systems: each lists some of the addresses, or has not the area."""
+    """All link files of so many systems: each lists some of the addresses, or lacks the area."""
     some = [None] + [frozenset(chosen) for size in range(5) for chosen in itertools.combinations(range(4), size)]
     for lists in itertools.product(some, repeat=systems):
         if any(listed is not None for listed in lists):
@@ -130,7 +133,7 @@ def all_files(addresses, systems):
 
 
 def graph(addresses, members, pairs):
-    """The area in which just these are linked."""
+    """The area where exactly these are linked."""
     lists = [frozenset(b if a == one else a for a, b in pairs if one in (a, b)) for one in range(members)]
     return Area(addresses, tuple(lists))
 
@@ -144,7 +147,7 @@ def all_graphs():
 
 
 def chained_polygons():
-    """Two polygons of four with a system in common, with up to one link left out, numbered in three ways."""
+    """Two polygons of four with a common system, with up to one link left out, numbered in three ways."""
     for factor in (1, 3, 5):
         numbered = [tuple(sorted((one * factor % 7, other * factor % 7))) for one, other in CHAINED]
         for left_out in [None, *numbered]:
@@ -152,7 +155,7 @@ def chained_polygons():
 
 
 def chance_graphs(count):
-    """Graphs of seven systems, each link there by the same chance."""
+    """Graphs of seven systems, each link with the same probability."""
     chance = random.Random(7)
     every = list(itertools.combinations(range(7), 2))
     for _ in range(count):
@@ -161,7 +164,7 @@ def chance_graphs(count):
 
 
 def judged(areas, folder):
-    """What `check --all --more` prints of these areas, which have the same addresses, by their tags."""
+    """The output of `check --all --more` for these areas, which have the same addresses, by their tags."""
     systems = max(len(area.lists) for area in areas)
     for system in range(systems):
         with open(os.path.join(folder, "%d.links" % system), "w", encoding="ascii") as file:
@@ -181,7 +184,7 @@ def judged(areas, folder):
 
 
 def differ(areas, folder):
-    """How many of the areas are answered otherwise than by the definitions; the first ones are printed."""
+    """How many of the areas have an answer that differs from the definitions. Prints the first ones."""
     wrong = 0
     for begins in range(0, len(areas), MOST_AREAS):
         batch = areas[begins:begins + MOST_AREAS]
@@ -197,7 +200,7 @@ def differ(areas, folder):
 
 
 def main():
-    """Tries all, prints a line for each kind, and a last one with the counts."""
+    """Tries all. Prints a line for each kind, and a last one with the counts."""
     kinds = [("four systems", list(all_files(FOUR, 4))), ("twins and an address without a file", list(all_files(TWINS, 3))),
              ("graphs of at most five", list(all_graphs())), ("polygons in a chain", list(chained_polygons())),
              ("graphs of seven", list(chance_graphs(2000)))]

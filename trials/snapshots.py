@@ -1,10 +1,11 @@
 """Snapshots of a base folder by hard links, as `cp -al` takes them.
 
-1. Each command runs on a base folder that shares its files with a snapshot. It does what it does on a folder of its own, and the
-   snapshot stays as it was.
+1. Each command runs on a base folder that shares its files with a snapshot. It does the same as on a folder of its
+own,
+   and the snapshot stays unchanged.
 2. All commands run one after another, with a snapshot before each.
-3. Where strace is installed, each command is killed at each call that changes the disk or flushes it. The snapshot stays, and the
-   command run again ends as if nothing had been.
+3. With strace, each command is killed at each call that changes the disk or flushes it. The snapshot stays, and the
+   command run again ends as if it had not been killed.
 """
 import os
 import shutil
@@ -16,7 +17,7 @@ from folder_station import COMMANDS, converted, copy_of, expect, filled_station,
 
 
 def snapshot(station, name="snapshot"):
-    """A snapshot of the base, and what its files hold."""
+    """A snapshot of the base, and the contents of its files."""
     base, place = os.path.join(station, "base"), os.path.join(station, name)
     os.mkdir(place)
     for file in os.listdir(base):
@@ -25,13 +26,14 @@ def snapshot(station, name="snapshot"):
 
 
 def expect_kept(what, taken):
-    """A snapshot is as it was."""
+    """A snapshot is unchanged."""
     place, files = taken
     expect("%s: %s" % (what, os.path.basename(place)), packets_in(place) == files)
 
 
 def expect_alone(what, station):
-    """No file of the base has a second path, but for the note, which is never written to: another file replaces it."""
+    """No file of the base has a second path, except the note. The note is never written to: another file replaces
+    it."""
     base = os.path.join(station, "base")
     files = [file for file in os.listdir(base) if file != "outbound"]
     shared = [file for file in files if os.stat(os.path.join(base, file)).st_nlink > 1]
@@ -39,7 +41,7 @@ def expect_alone(what, station):
 
 
 def run_shared(name, words, station, folder):
-    """Runs a command on a base folder that a snapshot shares, and on one that none does."""
+    """Runs a command on a base folder that a snapshot shares, and on a folder without a snapshot."""
     own, place = (copy_of(station, os.path.join(folder, it)) for it in ("own", "shared"))
     taken = snapshot(place)
     one, other = run(own, *words), run(place, *words)

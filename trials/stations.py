@@ -1,15 +1,15 @@
-"""Runs random lists of commands on the files of random nets, replays the same events, and compares what
-both leave, byte for byte: the base file of each system and each packet, after the last event and after
-some before it. Where they differ it names the net and the first event after which they do.
+"""Runs random lists of commands on the files of random nets, and replays the same events. It compares the results
+byte for byte: the base file of each system and each packet, after the last event and after some before it. If they
+differ it prints the net and the first event after which they do.
 
-Posts (refused ones too), scans, purges, and tosses: of any packets so far, again, in any order, or never;
-several in one run, among them some that are for another system, or not there; torn ones, which are
-tossed whole after that; and such as have bytes after their end. What each command ends with and prints is
-looked at too, and at the end the counts of `replay` beside those of `list`.
+Events are postings (also refused ones), scans, purges, and tosses. Packets are tossed again, in any order, or never.
+A run may toss several, some of them for another system or missing. Torn packets are tossed whole afterwards, and some
+have bytes after their end. The status and output of each command are checked too. At the end the counts of `replay`
+are compared with those of `list`.
 
-Words: how many nets (200), how many at a time (1), where their numbers begin (0). `--one NUMBER FOLDER`
-tries one net and leaves its files. `--spoil` before these changes one byte of one base file of each net
-after some event, so that each has to be told.
+Arguments: how many nets (200), how many at a time (1), the first number (0). `--one NUMBER FOLDER` tries one net and
+leaves its files. `--spoil` before these changes one byte of one base file of each net after some event. The trial has
+to find each of these changes.
 """
 import multiprocessing
 import os
@@ -25,9 +25,8 @@ import laws
 import making
 import running
 import topologies
+from contents import PROGRAM, TOP, content_of, write
 
-TOP = os.path.dirname(os.path.dirname(os.path.abspath(__file__)))
-PROGRAM = os.environ.get("ECHONET", os.path.join(TOP, "bin", "echonet"))
 REPLAY = os.environ.get("BENCH", os.path.join(TOP, "crates", "test_trials", "out", "test_trials"))
 MOMENT = "2000-01-01T00:00:00"
 EMPTY = making.base(0, [])
@@ -37,38 +36,22 @@ COUNTS = ("commands", "events", "refused", "packets", "torn", "areas in order", 
 
 
 class Wrong(Exception):
-    """What a command was not to do."""
+    """What a command did wrong."""
 
 
 class Exported(NamedTuple):
-    """A packet that a scan left: its file, its bytes, and whom it is for."""
+    """A packet that a scan left: its file, its bytes, and its addressee."""
     path: str
     content: bytes
     to: tuple
 
 
 class Event(NamedTuple):
-    """What was done, and what stood after it: so many lines of the script, the base files, so many packets."""
+    """The state after an event: the number of lines of the script, the base files, the number of packets."""
     what: str
     lines: int
     bases: tuple
     packets: int
-
-
-def content_of(path):
-    """The bytes of a file, or None."""
-    try:
-        with open(path, "rb") as file:
-            return file.read()
-    except FileNotFoundError:
-        return None
-
-
-def put(path, content):
-    """Writes a file, and answers its path."""
-    with open(path, "wb") as file:
-        file.write(content)
-    return path
 
 
 def cursor_and_count(base):
@@ -78,7 +61,7 @@ def cursor_and_count(base):
 
 
 class Net:
-    """The files of a net, and what was done to them."""
+    """The files of a net, and the events so far."""
 
     def __init__(self, number, folder, spoil):
         self.chance = random.Random("stations %d" % number)
@@ -88,7 +71,7 @@ class Net:
         self.told = topologies.net(self.chance)
         self.addresses = [address for address, _, _ in self.told]
         self.tags = [[tag for tag, _ in areas] for _, _, areas in self.told]
-        self.links = [put(self.path("%d.links" % i), making.link_file(address, areas, name))
+        self.links = [write(self.path("%d.links" % i), making.link_file(address, areas, name))
                       for i, (address, name, areas) in enumerate(self.told)]
         for i in range(len(self.told)):
             os.mkdir(self.path("out.%d" % i))
@@ -102,16 +85,16 @@ class Net:
         return os.path.join(self.folder, name)
 
     def station(self, i):
-        """The words for a system: its link file and its base file."""
+        """The arguments for a system: its link file and its base file."""
         return self.links[i], self.path("%d.base" % i)
 
     def need(self, what, it):
-        """Stops where something does not hold."""
+        """Stops if something does not hold."""
         if not it:
             raise Wrong(what)
 
     def run(self, *words, fault=None, given=os.devnull):
-        """Runs a command, which is to end well or with this fault. Answers what it printed."""
+        """Runs a command, which has to end well or with this fault. Returns its output."""
         self.counts["commands"] += 1
         ended = self.runner.run(*words, given=given)
         self.need("%s: status %d, fault %r" % (words[0], ended.status, ended.fault), ended.is_orderly())
@@ -124,7 +107,7 @@ class Net:
         return ended.out
 
     def happen(self, what, i, *lines):
-        """Notes what a command left at a system, and the lines of the script that say the same."""
+        """Notes what a command left at a system, and the lines of the script for it."""
         self.lines += lines
         self.counts["events"] += len(lines)
         self.bases[i] = content_of(self.station(i)[1])
@@ -142,7 +125,7 @@ class Net:
         fault = "B1 NoArea" if tag not in self.tags[i] else "B4 KnownSerial" if (i, serial) in self.posted else None
         out = self.run("post", "--area", given_tag, "--to", "All", "--from", "Sysop", "--subject", text, "--serial",
                        self.chance.choice((text, text.upper())), "--at", MOMENT, *self.station(i),
-                       fault=fault, given=put(self.path("body"), body + ending))
+                       fault=fault, given=write(self.path("body"), body + ending))
         if fault is None:
             self.posted.add((i, serial))
             self.need("post: %r" % out, out == b"posted %s %s %s\n" % (
@@ -151,7 +134,7 @@ class Net:
         self.happen("post at %d in %s" % (i, tag), i, line + b" " * (body != b"") + body)
 
     def scan(self, i):
-        """Scans: the packets are those that are printed, in order."""
+        """Scans: the packets are the printed ones, in order."""
         cursor, count = cursor_and_count(self.bases[i])
         out = self.run("scan", "--at", MOMENT, *self.station(i), self.path("out.%d" % i))
         for address, messages, size in laws.PACKET_LINE.findall(out):
@@ -172,7 +155,7 @@ class Net:
         self.happen("purge at %d" % i, i, b"PURGE %d" % i)
 
     def toss(self, i):
-        """Tosses some packets that are for the system, and at times one that ends the run."""
+        """Tosses some packets for the system, and at times one that ends the run."""
         own, others = self.packets_for(i)
         if not own and not others:
             return self.post(i)
@@ -202,14 +185,14 @@ class Net:
         return found
 
     def file_of(self, k):
-        """The file of a packet, or another one with the same packet and more bytes behind its end."""
+        """The file of a packet, or another file with the same packet and more bytes after its end."""
         packet = self.packets[k]
         if self.chance.random() < 0.9:
             return packet.path
-        return put(self.path("%d.long" % k), packet.content + self.chance.choice((b"\0", b"hello", packet.content)))
+        return write(self.path("%d.long" % k), packet.content + self.chance.choice((b"\0", b"hello", packet.content)))
 
     def tossed(self, i, files, fault, lines):
-        """Runs `toss`, whose lines are to count what the base gained."""
+        """Runs `toss`, whose lines have to count what the base gained."""
         before = cursor_and_count(self.bases[i])
         out = self.run("toss", *self.station(i), *files, fault=fault)
         tallies = laws.TALLY.findall(out)
@@ -227,7 +210,7 @@ class Net:
         k = self.chance.choice(own[-8:])
         packet = self.packets[k]
         cut = self.chance.randrange(len(packet.content))
-        self.tossed(i, [put(self.path("torn.pkt"), packet.content[:cut])], "P1 Truncated at ", 1)
+        self.tossed(i, [write(self.path("torn.pkt"), packet.content[:cut])], "P1 Truncated at ", 1)
         self.tossed(i, [packet.path], None, 1)
         self.counts["torn"] += 1
         self.delivered.add(k)
@@ -263,13 +246,13 @@ class Net:
         i = chance.choice([i for i, base in enumerate(self.bases) if base is not None])
         content = bytearray(self.bases[i])
         content[chance.randrange(len(content))] ^= chance.randint(1, 255)
-        put(self.station(i)[1], content)
+        write(self.station(i)[1], content)
         self.bases[i] = content_of(self.station(i)[1])
         last = self.events[-1]
         self.events[-1] = last._replace(what=last.what + " (spoiled)", bases=tuple(self.bases))
 
     def counted_alike(self):
-        """What `replay` counts is what `list` lists, and what was tossed."""
+        """The counts of `replay` are those of `list`, and of the tosses."""
         lines, all_scanned = [], True
         for i, tags in enumerate(self.tags):
             for tag in tags:
@@ -287,10 +270,10 @@ class Net:
 
     def script(self, count):
         """The file of the first so many lines."""
-        return put(self.path("script"), b"".join(line + b"\n" for line in self.lines[:count]))
+        return write(self.path("script"), b"".join(line + b"\n" for line in self.lines[:count]))
 
     def checked(self):
-        """Counts which areas are in order."""
+        """Counts the areas that are in order."""
         for tag in topologies.TAGS:
             if any(tag in tags for tags in self.tags):
                 ended = self.runner.run("check", tag, *self.links)
@@ -308,7 +291,7 @@ def some_body(chance):
 
 
 def difference(net, event, replayed):
-    """How the replay of the events up to this one differs from the files then, or None."""
+    """How the replay of the events up to this one differs from the files at that time, or None."""
     laws.clear(replayed.folder)
     ended = replayed.run("world", replayed.folder, net.script(event.lines), *net.links)
     if ended.status != 0:
@@ -329,7 +312,7 @@ def difference(net, event, replayed):
 
 
 def first_difference(net, replayed):
-    """Compares after some events and the last one; looks for the first event where that differs."""
+    """Compares after some events and the last one. Searches the first event where that differs."""
     last = len(net.events) - 1
     begin = 0
     for cut in sorted({*(random.Random(last).randrange(last + 1) for _ in range(CUTS)), last}):
@@ -343,7 +326,7 @@ def first_difference(net, replayed):
 
 
 def files_stay(net):
-    """Whether the packet files are as they were made, and no others were left."""
+    """Whether the packet files are unchanged, and there are no others."""
     for packet in net.packets:
         net.need("%s has changed" % packet.path, content_of(packet.path) == packet.content)
     left = sum(len(os.listdir(net.path("out.%d" % i))) for i in range(len(net.told)))
@@ -351,7 +334,7 @@ def files_stay(net):
 
 
 def try_net(number, folder, spoil):
-    """Tries one net. Answers its counts, and what did not hold, or None."""
+    """Tries one net. Returns its counts, and what did not hold, or None."""
     net = Net(number, os.path.join(folder, "net"), spoil)
     replayed = running.Runner(REPLAY, os.path.join(folder, "replayed"))
     wrong = None
@@ -367,7 +350,7 @@ def try_net(number, folder, spoil):
 
 
 def try_share(share):
-    """Tries each so-many-th net, in a process of its own. Answers the counts and the failures."""
+    """Tries each so-many-th net, in a process of its own. Returns the counts and the failures."""
     first, count, step, begin, spoil = share
     folder = tempfile.mkdtemp(prefix="echonet-trials.", dir="/dev/shm" if os.path.isdir("/dev/shm") else None)
     all_counts, failures = dict.fromkeys(COUNTS, 0), []
@@ -384,7 +367,7 @@ def try_share(share):
 
 
 def try_all(count, jobs, begin, spoil):
-    """Tries so many nets, prints what did not hold, and the counts. Answers the status."""
+    """Tries so many nets, prints what did not hold, and the counts. Returns the status."""
     started = time.time()
     with multiprocessing.Pool(jobs) as pool:
         results = pool.map(try_share, [(first, count, jobs, begin, spoil) for first in range(jobs)], chunksize=1)

@@ -1,8 +1,8 @@
-"""Reads what `export --msg` makes with a reader of stored messages that is written from FTS-0001 alone.
+"""Reads the output of `export --msg` with a reader of stored messages that is written from FTS-0001 only.
 
-Bases are made by chance from a seed, with names, subjects and lines of any bytes, from here and from elsewhere, with
-and without an origin line. They are exported at once, in pieces, and after a run that was stopped: the same files come
-each time, and each is read as what was put into the base. Words: how many messages.
+The bases are random from a seed. Names, subjects and lines have any bytes. Messages are from here and from elsewhere,
+with and without an origin line. The bases are exported at once, in pieces, and after a stopped run. Each time there
+are the same files, and the reader reads each message unchanged. Argument: how many messages.
 """
 import os
 import struct
@@ -11,8 +11,9 @@ import sys
 
 import export
 import making
+from contents import PROGRAM
+from jam import write_base
 
-PROGRAM = export.PROGRAM
 AREA = b"AREA:TEST\r"
 
 
@@ -25,7 +26,7 @@ def run(*words):
 
 
 class Stored:
-    """A stored message, taken apart as FTS-0001 has it."""
+    """A stored message, parsed by FTS-0001."""
 
     def __init__(self, content):
         self.by, self.to, self.subject = (
@@ -54,7 +55,7 @@ def check(message, content):
 
 
 def made(chance, number, ids):
-    """A message by chance, with what is wanted of it."""
+    """A random message, with its expected form."""
     message = export.Message(chance, number, ids)
     message.scanned = False
     message.sender = chance.choice([None, (1, 10, 2), (65535, 1, 65534)])
@@ -66,12 +67,6 @@ def made(chance, number, ids):
         1 if message.sender else 0, message.sender or (0, 0, 0), making.whole_body(message.written), message.to,
         message.by, message.subject, message.date)
     return message
-
-
-def write_base(path, messages):
-    """Makes the base of these messages, of which the first were scanned."""
-    with open(path, "wb") as file:
-        file.write(making.base(sum(message.scanned for message in messages), [message.content for message in messages]))
 
 
 def files_of(folder):
@@ -95,7 +90,7 @@ def add(folder, base, first, count, end):
 
 
 def try_base(chance, place, count):
-    """A base, its files in three ways."""
+    """A base, and its files made in three ways."""
     messages = []
     for number in range(count):
         messages.append(made(chance, number, [message.id for message in messages]))

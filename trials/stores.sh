@@ -1,8 +1,8 @@
 #!/usr/bin/env bash
-# Runs `post`, `toss` of two packets, `scan` and `purge` on base folders on the disk in memory, each stopped after each
-# number of its calls, with what was not synced torn at each length; the folder is read then, and a next command run on
-# it, and both are held against bases in memory. Needs the built crates/test_trials/out/test_trials.
-# Words: how many bases (100), how many at a time (1), by how many bytes the lengths differ (1), the number of the first.
+# Runs `post`, `toss` of two packets, `scan` and `purge` on base folders on the disk in memory. Each is stopped after
+# each number of its calls, and unsynced writes are torn at each length. Then the folder is read, and a next command
+# runs on it. Both are compared with bases in memory. It needs the built crates/test_trials/out/test_trials.
+# Arguments: how many bases (100), how many at a time (1), the step between the lengths (1), the number of the first.
 set -eu
 cd "$(dirname "$0")/.."
 program=${DISK_TRIALS:-$PWD/crates/test_trials/out/test_trials}
@@ -14,7 +14,7 @@ first=${4:-0}
 told=$(mktemp -d)
 trap 'rm -rf "$told"' EXIT
 
-# Tries one base, and keeps what was told of it.
+# Tries one base, and keeps its output.
 one() {
   "$program" crashes "$1" $(($1 + 1)) "$step" > "$told/$1" 2>&1 || { sed "s/^/stores.sh: /" "$told/$1"; touch "$told/failed"; }
 }

@@ -1,7 +1,8 @@
-"""What a terminal is told: that a lock is waited for, how far a command is, and why one stopped.
+"""The messages of the program to a terminal: that it waits for a lock, the progress of a command, and why one
+stopped.
 
-The program runs with standard error on a terminal of this trial's own (a pty), and with a pipe in its place, where it
-is to be told nothing of that. What stands on the screen is worked out from the bytes as a terminal shows them.
+The program runs with standard error on a terminal of this trial (a pty). With a pipe it has to print none of these
+messages. The trial computes the screen from the bytes, as a terminal shows them.
 """
 import fcntl
 import os
@@ -16,9 +17,8 @@ import tempfile
 import time
 
 import making
+from contents import PROGRAM, TOP
 
-TOP = os.path.dirname(os.path.dirname(os.path.abspath(__file__)))
-PROGRAM = os.environ.get("ECHONET", os.path.join(TOP, "bin", "echonet"))
 LINKS = making.link_file(making.OWN, [("TEST", [making.UPLINK, *making.DOWNLINKS])])
 MAIL = b"From: Ann\nTo: All\nSubject: Hi\nNewsgroups: TEST\n\nHello\n"
 LONGEST, MANY, MOST = 20, 60_000, 3
@@ -47,7 +47,7 @@ class Trial:
 
 
 def read_for(end, seconds, last=None):
-    """What comes from a descriptor until its other end is closed or it ends so, or for so long."""
+    """Reads a descriptor until its other end is closed, the bytes end so, or the time is over."""
     came, until = b"", time.monotonic() + seconds
     while not (last and came.endswith(last)) and select.select([end], [], [], max(0, until - time.monotonic()))[0]:
         try:
@@ -75,7 +75,7 @@ def screen(came):
 
 
 class Started:
-    """A run whose standard error is a terminal, or a pipe; standard output goes to the same terminal where asked."""
+    """A run whose standard error is a terminal, or a pipe. With `both`, standard output goes to the same terminal."""
 
     def __init__(self, words, given=b"", terminal=True, both=False):
         self.end, other = pty.openpty() if terminal else os.pipe()
@@ -87,7 +87,7 @@ class Started:
         self.process.stdin.close()
 
     def ended(self):
-        """Its status, what came to standard error, and what it printed elsewhere."""
+        """Its status, the bytes on standard error, and its other output."""
         came = read_for(self.end, LONGEST)
         status = self.process.wait(LONGEST)
         os.close(self.end)
@@ -96,14 +96,14 @@ class Started:
 
 
 def locked(path):
-    """The lock of a file, held here."""
+    """The lock of a file, held by this trial."""
     held = os.open(path, os.O_RDONLY)
     fcntl.flock(held, fcntl.LOCK_EX)
     return held
 
 
 def try_lock(trial, name, words, path, given=b""):
-    """One command whose lock is held for a while: on a terminal, with a pipe, and then free."""
+    """One command while its lock is held: on a terminal, with a pipe. Then with a free lock."""
     told = b"echonet: waiting for the lock of %s\r\n" % path
     for terminal in (True, False):
         held = locked(path)
@@ -113,10 +113,10 @@ def try_lock(trial, name, words, path, given=b""):
         trial.expect("%s waits" % name, run.process.poll() is None)
         os.close(held)
         status, late, _ = run.ended()
-        trial.expect("%s goes on once the lock is free" % name, status == 0, late)
-        trial.expect("%s tells a terminal, once" % name, early + late == (told if terminal else b""), early + late)
+        trial.expect("%s goes on when the lock is free" % name, status == 0, late)
+        trial.expect("%s says so on a terminal, once" % name, early + late == (told if terminal else b""), early + late)
     status, came, _ = Started(words, given).ended()
-    trial.expect("%s tells nothing where the lock is free" % name, (status, came) == (0, b""), came)
+    trial.expect("%s prints nothing if the lock is free" % name, (status, came) == (0, b""), came)
 
 
 def locks(trial):
@@ -156,7 +156,7 @@ def has_open(process, name):
 
 
 def slowed(words, name, terminal=True, both=False):
-    """A run that is stopped for a while once it has a file of this name open, so that it takes longer than a
+    """A run that is stopped for a while after it has opened a file of this name, so that it takes longer than a
     second."""
     run = Started(words, b"", terminal, both)
     while not has_open(run.process.pid, name) and run.process.poll() is None:
@@ -186,7 +186,7 @@ def scanned(terminal, both=False):
 
 
 def try_folder(trial):
-    """A scan of many messages of a base folder, which begins late, since its link file is locked for a while."""
+    """A scan of many messages of a base folder. It begins late, since its link file is locked for a while."""
     put_base(ALL)
     shutil.rmtree("many.folder", ignore_errors=True)
     os.mkdir("many.folder")
@@ -199,12 +199,12 @@ def try_folder(trial):
     status, came, out = run.ended()
     told = told_in(came, MESSAGES)
     trial.expect("a scan of a folder ends well", (status, out) == (0, sent_lines()), out)
-    trial.expect("a scan of a folder tells how far it is", told and {each[1] for each in told} == {ALL}, came)
+    trial.expect("a scan of a folder prints its progress", told and {each[1] for each in told} == {ALL}, came)
     trial.expect("a scan of a folder goes on", told == sorted(told) and told[-1][0] <= ALL, came)
 
 
 def replayed(terminal, both=False):
-    """A slow replay of many postings: its script is a pipe, into which nothing is written for a while."""
+    """A slow replay of many postings: its script is a pipe, and nothing is written to it for a while."""
     os.mkfifo("many.script")
     run = Started(REPLAY, b"", terminal, both)
     time.sleep(1.1)
@@ -221,55 +221,56 @@ def put_script(count):
 
 
 def clear_out():
-    """Makes the folder of the packets of scans, without any."""
+    """Makes an empty folder for the packets of scans."""
     shutil.rmtree("many.out", ignore_errors=True)
     os.mkdir("many.out")
 
 
 def put_base(count):
-    """Puts a base of so many messages in place, none of which was scanned."""
+    """Makes a base of so many messages, none of which was scanned."""
     with open("many.base", "wb") as base:
         base.write(making.plain_base(range(count), 100, 0))
 
 
 def put_packets(count):
-    """Puts packets of so many messages each in place."""
+    """Makes packets of so many messages each."""
     for number in range(MOST):
         with open("%d.pkt" % number, "wb") as packet:
             packet.write(making.plain_packet(range(number * count, (number + 1) * count), 100))
 
 
 def told_in(came, form):
-    """The numbers that lines of this form told, one after another."""
+    """The numbers in the lines of this form, one after another."""
     return [tuple(map(int, each)) for each in re.findall(rb"\r" + form + rb" *(?=\r)", came)]
 
 
 def try_slow(trial, name, run, forms, lines, may=None):
-    """One slow command: what it tells has one of these forms, each with the greatest number that it may tell, and it
-    prints these lines. It may also tell lines of the last form, and then begins once again, as a scan reads twice."""
+    """One slow command. Its messages have one of these forms, each with the greatest number in it, and it prints
+    these lines. It may also print messages of the last form. Then its numbers may begin again once, as a scan reads
+    twice."""
     status, came, out = run(True)
     trial.expect("%s ends well" % name, (status, out) == (0, lines), out)
     left = came
     for form, most in forms:
         told = told_in(came, form)
-        trial.expect("%s tells how far it is" % name, told and {each[1] for each in told} == {most}, came)
+        trial.expect("%s prints its progress" % name, told and {each[1] for each in told} == {most}, came)
         back = sum(1 for one, other in zip(told, told[1:]) if other < one)
         trial.expect("%s goes on" % name, back <= (1 if may else 0) and all(each[0] <= most for each in told), came)
         left = re.sub(rb"\r" + form + rb" *\r", b"", left)
     if may:
         told = told_in(came, may[0])
-        trial.expect("%s passes no number" % name, all(one <= most == may[1] for one, most in told), came)
+        trial.expect("%s exceeds no number" % name, all(one <= most == may[1] for one, most in told), came)
         left = re.sub(rb"\r" + may[0] + rb" *\r", b"", left)
-    trial.expect("%s tells nothing else" % name, not re.sub(rb"\r *\r", b"", left), came)
-    trial.expect("%s takes the line away" % name, screen(came) == [""], came)
+    trial.expect("%s prints nothing else" % name, not re.sub(rb"\r *\r", b"", left), came)
+    trial.expect("%s removes the line" % name, screen(came) == [""], came)
     status, came, _ = run(True, both=True)
-    trial.expect("what %s prints stands there alone" % name, screen(came) == lines.decode().split("\n"), came)
-    trial.expect("where %s told how far it was, too" % name, b"echonet: " in came, came)
-    trial.expect("%s tells a pipe nothing" % name, run(False) == (0, b"", lines))
+    trial.expect("the screen has only the output of %s" % name, screen(came) == lines.decode().split("\n"), came)
+    trial.expect("and %s printed its progress" % name, b"echonet: " in came, came)
+    trial.expect("%s prints nothing to a pipe" % name, run(False) == (0, b"", lines))
 
 
 def progress(trial):
-    """How far a command is."""
+    """The progress of a command."""
     with open("many.links", "wb") as links:
         links.write(LINKS)
     put_packets(MANY)
@@ -286,7 +287,7 @@ def progress(trial):
     clear_out()
     put_base(0)
     for words in (TOSS, LIST, SCAN, REPLAY):
-        trial.expect("a short %s tells nothing" % words[0], Started(words).ended()[:2] == (0, b""))
+        trial.expect("a short %s prints nothing" % words[0], Started(words).ended()[:2] == (0, b""))
 
 
 def notes(trial):
@@ -308,7 +309,7 @@ def notes(trial):
 
 
 def as_other():
-    """The program, run by a user whom modes of files bind: that of this trial, or nobody where that is root."""
+    """The program, run by a user whom modes of files bind: the user of this trial, or `nobody` instead of root."""
     if os.getuid():
         return [PROGRAM]
     shutil.copy(PROGRAM, "program")
@@ -317,21 +318,21 @@ def as_other():
 
 
 def listed_last():
-    """What `list` prints of the last of the messages."""
+    """The output of `list` for the last of the messages."""
     shown = b"".join(b"line %s\n" % line.replace(b"\x01", rb"\x01") for line in making.plain_kept(ALL - 1, 100))
     return b"message %d area TEST from 1:10/2 waiting\ndate %s\\x00\nto All\nfrom Ann\nsubject Hi\n" % (
         ALL - 1, making.DATE[:19]) + shown + b"seen 2 path 1\nend %d messages, %d waiting\n" % (ALL, ALL)
 
 
 def sent_lines():
-    """What `scan` prints of the packets."""
+    """The output of `scan` for the packets."""
     sizes = [len(making.scanned_packet(link, range(ALL), 100)) for link in making.DOWNLINKS]
     return "".join("packet %s %d messages %d bytes\n" % (making.shown(link), ALL, size)
                    for link, size in zip(making.DOWNLINKS, sizes)).encode()
 
 
 def main():
-    """Tries it in a folder of its own."""
+    """Runs the trial in a folder of its own."""
     trial = Trial()
     with tempfile.TemporaryDirectory(prefix="echonet-trials.") as folder:
         os.chdir(folder)

@@ -1,7 +1,6 @@
-"""Small random nets: systems with different addresses, and for each area who is linked to whom. About
-half of the areas are drawn as a tree of polygons, which is in order; the others have rings, links that
-one side does not list, links to addresses without a system, to the system itself, or parts without a way
-between them.
+"""Small random nets: systems with different addresses, and the links of each area. About half of the areas are trees
+of polygons, which are in order. The others have rings, links that one side does not list, links to addresses without
+a system, links to the system itself, or parts that no walk joins.
 """
 
 TAGS = ("TEST", "FIDO.NET", "R")
@@ -20,7 +19,7 @@ def addresses(chance, count):
 
 
 def tree_of_polygons(chance, members):
-    """Pairs of a tree whose branches are polygons: each polygon begins at a system that is there."""
+    """Pairs of a tree whose branches are polygons: each polygon begins at an existing system."""
     pairs, linked, left = set(), [members[0]], list(members[1:])
     while left:
         size = min(len(left), chance.choice((1, 1, 1, 2, 3)))
@@ -32,7 +31,7 @@ def tree_of_polygons(chance, members):
 
 
 def any_pairs(chance, members):
-    """Pairs by chance, both ways."""
+    """Random pairs, both ways."""
     density = chance.choice((0.2, 0.5, 0.8))
     pairs = {(one, other) for one in members for other in members if one < other and chance.random() < density}
     return pairs | {(other, one) for one, other in pairs}

@@ -1,14 +1,16 @@
-"""What happens beside commands that wait, and a scan into a folder without hard links, on a base file and on a base folder.
+"""What happens to commands that wait, and to a scan into a folder without hard links, on a base file and on a base
+folder.
 
-1. 400 postings by 20 processes while the link file is replaced by another one of its name: each that ended with 0 is there.
-   The same of the first eight postings of a station, 40 times: no base file is there then, and the lock of its folder keeps
-   others out. Runs wait for that lock, and then add to the base that is there; another base of the folder waits too.
-2. Commands that wait for the lock while the base is turned into one of the other kind go on with what is there then.
-3. A scan into a folder that has no hard links is refused, and changes nothing; the next one into a good folder does all.
-   Where strace is installed the call is refused; where a file system without hard links can be mounted it is tried, too.
-4. What stopped runs and power cuts leave under temporary names goes, whatever it holds; what is no regular file of this
+1. 400 postings by 20 processes while the link file is replaced by another one: each that ended with 0 is there.
+   Then the first eight postings of a station, 40 times. There is no base file yet, and the lock of its folder keeps
+   others out. Runs wait for that lock, and then add to the existing base. Another base of the folder waits too.
+2. Commands wait for the lock while the base is converted to the other kind. Then they use the new base.
+3. A scan into a folder without hard links is refused, and changes nothing. The next one into a good folder does all.
+   With strace the call is refused. If a file system without hard links can be mounted it is tried too.
+4. Temporary files of stopped runs and power cuts are removed, whatever their contents. What is no regular file of
+this
    user stays, and is a fault.
-Words: which of them (replaced begun turned no_links left); with none, all.
+Arguments: which of them (replaced begun turned no_links left), by default all.
 """
 import fcntl
 import os
@@ -19,7 +21,8 @@ import tempfile
 import threading
 import time
 
-from judge import LINKS, PROGRAM, Judge, Message, content, files_of, packet_of, texts_of
+from contents import PROGRAM, write
+from judge import LINKS, Judge, Message, content, files_of, packet_of, texts_of
 
 TRIED = []
 
@@ -73,7 +76,8 @@ def try_replaced(judge, folder):
 
 
 def try_begun(judge, folder):
-    """The first postings of stations while their link files are replaced, and while another run holds the folder of a base file."""
+    """The first postings of stations while their link files are replaced, and while another run holds the base file's
+    folder."""
     is_folder = os.path.isdir(os.path.join(folder, "base"))
     for number in range(40):
         station = new_station(folder, "station.%d" % number, is_folder)
@@ -104,7 +108,7 @@ def try_begun(judge, folder):
 
 
 def try_turned(judge, folder):
-    """Commands that wait while the base becomes one of the other kind, and then back."""
+    """Commands that wait while the base is converted to the other kind, and then back."""
     base, new = (os.path.join(folder, name) for name in ("base", "new"))
     done = [Message("post", 1, 80)]
     do(judge, folder, "post", done)
@@ -219,12 +223,6 @@ def try_left(judge, folder):
                     (os.rmdir if deed is os.mkdir else os.remove)(os.path.join(folder, path))
 
 
-def write(path, given):
-    """Makes a file."""
-    with open(path, "wb") as file:
-        file.write(given)
-
-
 def others(path):
     """Makes a file of another user."""
     write(path, b"precious")
@@ -232,7 +230,7 @@ def others(path):
 
 
 def main(words):
-    """Each of them, or those that are named, with both kinds of bases."""
+    """Each of them, or the named ones, with both kinds of bases."""
     count = 0
     for trial in (try_replaced, try_begun, try_turned, try_no_links, try_left):
         for is_folder in (False, True) if not words or trial.__name__[4:] in words else ():

@@ -1,6 +1,6 @@
 #!/usr/bin/env bash
-# The built program under valgrind, where that is installed: each command's happy path, and hostile inputs.
-# No run may have an error, or lose memory. Word: how many hostile inputs.
+# The built program under valgrind, if that is installed: a successful run of each command, and hostile inputs. No run
+# may have an error, or lose memory. Argument: how many hostile inputs.
 set -eu
 cd "$(dirname "$0")/.."
 . trials/setting.sh
@@ -9,7 +9,7 @@ command -v valgrind > /dev/null || { echo "valgrind: it is not installed"; exit 
 examples=$top/examples
 cd "$work"
 
-# Runs the program, whose status is to be the one given, and looks for errors.
+# Runs the program, which has to end with the given status, and looks for errors.
 watched() {
   local wanted=$1 status=0
   shift
@@ -19,7 +19,7 @@ watched() {
   expect "no error of $*" grep -q 'ERROR SUMMARY: 0 errors' errors
 }
 
-# The same of an input that may be refused.
+# The same for an input that may be refused.
 watched_whatever() {
   local status=0
   valgrind --log-file=errors --error-exitcode=99 --leak-check=full --errors-for-leak-kinds=definite \

@@ -1,14 +1,14 @@
-"""Tries `why` on small nets, all of them, and on greater ones with one defect each. The events that it prints
-are done with `post`, `scan` and `toss` on real files, and what it says of the harm is compared with what
-trials/reading.py reads of the packets and bases that these left; `replay` takes the script and counts alike.
-`picture --why` is compared with `picture` and with who sent these packets by which event.
+"""Tries `why` on all small nets, and on greater ones with one defect each. Its events are done with `post`, `scan`
+and `toss` on real files. Its statement of the harm is compared with what trials/reading.py reads of the resulting
+packets and bases. `replay` accepts the script and has the same counts. `picture --why` is compared with `picture`,
+and with the events that sent these packets.
 
-Small: every connected net of up to 5 systems, every way in which 3 systems list each other and themselves, every
-net of 4 of which two have one net and node, every way in which 2 systems list each other and an address that
-no file has. Where `check` says no by V3, V5, V7 or V8, a system is to be sent a message again or its own, or not
-to get one; where an address that no file has is linked, likewise, or the message never comes to rest.
+The small nets are: every connected net of up to 5 systems; every way in which 3 systems list each other and
+themselves; every net of 4 of which two have one net and node; every way in which 2 systems list each other and an
+address without a file. If `check` says no by V3, V5, V7 or V8, a system has to receive a message again or its own, or
+to miss one. If an address without a file is linked, the same, or the message never comes to rest.
 
-Words: how many greater nets (40), how many systems they have (300).
+Arguments: how many greater nets (40), how many systems they have (300).
 """
 import itertools
 import os
@@ -21,26 +21,25 @@ import laws
 import making
 import reading
 import running
+from contents import PROGRAM, write
 
-TOP = os.path.dirname(os.path.dirname(os.path.abspath(__file__)))
-PROGRAM = os.environ.get("ECHONET", os.path.join(TOP, "bin", "echonet"))
 MOMENT = "2000-01-01T00:00:00"
 BROKEN = (b"V3", b"V5", b"V7", b"V8")
 COUNTS = ("nets", "yes", "again", "own", "never gets", "never rests", "no harm", "events")
 
 
 class Wrong(Exception):
-    """What the program was not to say."""
+    """What the program said wrongly."""
 
 
 def need(what, it):
-    """Stops where something does not hold."""
+    """Stops if something does not hold."""
     if not it:
         raise Wrong(what)
 
 
 class Net:
-    """The link files of a net, its bases, and the packets that were made."""
+    """The link files of a net, its bases, and the packets so far."""
 
     def __init__(self, folder, listed, runner):
         laws.clear(folder)
@@ -57,24 +56,21 @@ class Net:
         self.delivered = set()
 
     def put(self, name, content):
-        """Writes a file, and answers its path."""
-        path = os.path.join(self.folder, name)
-        with open(path, "wb") as file:
-            file.write(content)
-        return path
+        """Writes a file, and returns its path."""
+        return write(os.path.join(self.folder, name), content)
 
     def base(self, i):
         """The base file of a system."""
         return os.path.join(self.folder, "%d.base" % i)
 
     def run(self, *words):
-        """Runs a command that is to end well."""
+        """Runs a command that has to end well."""
         ended = self.runner.run(*words)
         need("%s ended with %d, %r" % (words[0], ended.status, ended.fault), ended.status == 0)
         return ended.out
 
     def happen(self, line):
-        """Does what a line of the script says."""
+        """Does a line of the script."""
         self.step += 1
         word, number, *rest = line.split()
         number = int(number)
@@ -90,7 +86,7 @@ class Net:
             raise Wrong("the line %r" % line)
 
     def scan(self, i):
-        """A system scans: its packets come last, by ascending destination."""
+        """A system scans. Its packets are appended, by ascending destination."""
         out = os.path.join(self.folder, "out")
         laws.clear(out)
         self.run("scan", "--at", MOMENT, self.files[i], self.base(i), out)
@@ -103,7 +99,7 @@ class Net:
         self.steps += [self.step] * len(made)
 
     def deliver(self, k):
-        """A packet comes to the first system of its destination."""
+        """A packet reaches the first system of its destination."""
         to, content = self.packets[k]
         if to in self.addresses:
             i = self.addresses.index(to)
@@ -138,28 +134,28 @@ class Net:
         return cursor, [making.id_of(message) for message in messages]
 
     def has_settled(self):
-        """Whether nothing waits and all came."""
+        """Whether nothing waits and all packets were tossed."""
         waits = any(cursor < len(ids) for cursor, ids in map(self.messages, range(len(self.files))))
         return not waits and len(self.delivered) == len(self.packets)
 
     def lacks(self, address, message):
-        """Whether a carrier of this address has not the message."""
+        """Whether a carrier of this address lacks the message."""
         return any(message not in self.messages(i)[1] for i, own in enumerate(self.addresses) if own == address)
 
     def never_comes(self, message):
-        """Whether a packet with the message is for the address of no file."""
+        """Whether a packet with the message goes to the address without a file."""
         return any(to not in self.addresses and message in self.ids(content) for to, content in self.packets)
 
 
 def address_in(words):
-    """The address that stands there."""
+    """The address at the beginning."""
     zone, rest = words.decode().split(":")
     net, node = rest.split("/")
     return int(zone), int(net), int(node)
 
 
 def harm_is_so(net, words):
-    """Which harm a line says, and what links carry then; it is to be so."""
+    """Finds the harm that a line states, and its links. The statement has to be true."""
     if words[2:] == b"never comes to rest".split():
         message = b" ".join(words[:2])
         need("a message that comes to rest", net.never_comes(message))
@@ -183,7 +179,7 @@ def harm_is_so(net, words):
 
 
 def picture_is_so(net, steps):
-    """With `--why` the picture has these steps as labels of its links, and is as without else."""
+    """With `--why` the picture has these steps as labels of its links, and is otherwise the same."""
     plain = net.runner.run("picture", "TEST", *net.files)
     drawn = net.runner.run("picture", "--why", "TEST", *net.files)
     need("the status of a picture", plain.is_orderly(1) and drawn.is_orderly(1) and plain.status == drawn.status)
@@ -198,21 +194,22 @@ def picture_is_so(net, steps):
 
 
 def replays_alike(net, script):
-    """The script as it was printed is one for `replay`, which counts the same packets."""
+    """The printed script is one for `replay`, which counts the same packets."""
     out = net.run("replay", net.put("script", script), *net.files)
     counts = b"packets %d undelivered %d\n" % (len(net.packets), len(net.packets) - len(net.delivered))
     need("replay: %r" % out, counts in out)
 
 
 def named_so(net, lines, events):
-    """Before the events a note for each system that posts or scans, ascending, with its address and its file."""
+    """Before the events there is a note for each system that posts or scans, ascending, with its address and its
+    file."""
     systems = sorted({int(words[1]) for words in map(bytes.split, events) if words[0] != b"DELIVER"})
     need("who is who", lines[:-len(events)] == [
         b"; %d is %s %s" % (i, b"%d:%d/%d" % net.addresses[i], os.fsencode(net.files[i])) for i in systems])
 
 
 def try_net(net, counts):
-    """Tries a net, and answers the first line and which harm was found."""
+    """Tries a net. Returns the first line and the found harm."""
     checked = net.runner.run("check", "TEST", *net.files)
     ended = net.runner.run("why", "TEST", *net.files)
     need("status %d" % ended.status, ended.is_orderly(1) and ended.status == checked.status)
@@ -242,7 +239,7 @@ def try_net(net, counts):
 
 
 def is_as_promised(net, verdict, harm):
-    """What is to be found is found."""
+    """Each harm that has to be found was found."""
     fault = verdict.split()[2] if verdict.startswith(b"no") else b""
     if fault in BROKEN:
         need("%r: %s" % (verdict, harm), harm in ("again", "own", "never gets"))
@@ -256,13 +253,13 @@ def own(number):
 
 
 def with_links(addresses, links):
-    """What each system lists, by pairs of which the first lists the second."""
+    """What each system lists, from pairs of which the first lists the second."""
     return [(address, sorted(addresses[other] for one, other in links if one == i))
             for i, address in enumerate(addresses)]
 
 
 def both_ways(links):
-    """Links that stand in both files."""
+    """Links that both files list."""
     return [pair for one, other in links for pair in ((one, other), (other, one))]
 
 
@@ -302,7 +299,7 @@ def small_nets():
 
 
 def tidy_net(chance, count):
-    """The links of a tidy net: polygons of two to five, each of which begins at a system that is there."""
+    """The links of a tidy net: polygons of two to five, each of which begins at an existing system."""
     links, blocks, size = [], [], 1
     while size < count:
         more = min(chance.choice([1, 1, 1, 2, 3, 4]), count - size)
@@ -314,7 +311,7 @@ def tidy_net(chance, count):
 
 
 def great_net(chance, count):
-    """A great net with one defect."""
+    """A large net with one defect."""
     links, blocks = tidy_net(chance, count)
     addresses = [(1, 10 + i // 100, 1 + i % 100) for i in range(count)]
     listed = set(both_ways(links))

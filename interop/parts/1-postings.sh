@@ -12,7 +12,7 @@ same "LEAF is in order" "yes LEAF 3 systems 2 links" "$(cat verdict.txt)"
 "$program" check ALL {one,two,three}/links > verdict.txt
 same "ALL is in order" "yes ALL 3 systems 3 links" "$(cat verdict.txt)"
 
-# The job of cron, beside the hooks of binkd.
+# The job of cron. The hooks of binkd run at the same time.
 while sleep 0.3; do
   one/toss.sh
   three/toss.sh
@@ -38,7 +38,7 @@ for area in $areas; do
 done
 wait_for 18 60
 
-# Twenty postings at once, whose moments and serials post.sh finds.
+# Twenty postings at once. post.sh finds their times and serials.
 postings=()
 for number in $(seq 1 20); do
   echo "Body $number" | "$scripts/post.sh" three MIDDLE All Cid "At once $number" > "posted/$number" &

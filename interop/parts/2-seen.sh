@@ -1,6 +1,6 @@
-# SEEN-BY and PATH of what came, as the way of each message asks
+# SEEN-BY and PATH of the received messages, as the path of each asks
 
-# Words: the receiver, what tells the messages as they came.
+# Arguments: the receiver, the command that prints the received messages.
 check_ways() {
   local receiver=$1 line area id poster
   while IFS= read -r line; do

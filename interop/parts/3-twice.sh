@@ -1,12 +1,12 @@
-# Packets that come twice, to either tosser
+# Packets that are received twice, by either tosser
 
-# Sends a copy of a packet once more. Words: from which station, to which number, packet, its new name.
+# Sends a copy of a packet again. Arguments: the sending station, the receiving number, the packet, its new name.
 send_again() {
   cp "$3" "$1/packets/$4"
   printf '^%s\n' "$work/$1/packets/$4" >> "$1/outbound/000a000$2.flo"
 }
 
-# The first kept packet of a station that came from a number. Words: station, number.
+# The first kept packet of a station from a number. Arguments: station, number.
 kept_from() {
   local packet
   for packet in "$1"/kept/*.pkt; do
@@ -17,7 +17,7 @@ kept_from() {
   done
 }
 
-# How many messages a station was told it had before.
+# How many known messages the log of a station reports.
 known_at() {
   awk '/known/ { for (i = 1; i < NF; i++) if ($i == "known") n += $(i + 1) } END { print n + 0 }' "$1/toss.log"
 }

@@ -1,6 +1,6 @@
 # A daemon killed halfway through a packet: Beta's while it receives, and while it sends
 
-# Waits for the beginning of a packet in the folder for parts. Words: station. Answers its bytes.
+# Waits for the beginning of a packet in the folder for parts, and prints its size. Argument: station.
 part_of() {
   local until=$((SECONDS + 30)) part
   while [ $SECONDS -lt $until ]; do

@@ -4,7 +4,7 @@ echo 'Who is there?' | post_echonet one MIDDLE All Ann 'Chain' 00000201 2026-07-
 scan one
 wait_for 189 30
 id="1:10/1 00000201"
-# A reply of Beta: its REPLY line stands at the front of the text.
+# A reply of Beta. Its REPLY line is at the beginning of the text.
 printf '\001REPLY: %s\nBeta is.\n' "$id" | post_crashmail MIDDLE Ann Bob 'Re: Chain'
 wait_for 190 30
 id=$(tail -n 1 expected/two | cut -d '|' -f 2)

@@ -1,9 +1,9 @@
-# What the other tosser changes, as docs/INTEROP.md tells it
+# What the other tosser changes, as docs/INTEROP.md says
 
-# The body lines of a message. Words: station, subject.
+# The body lines of a message. Arguments: station, subject.
 body_at() { messages_of "$1" | awk -F '|' -v subject="$2" '$6 == subject { print $8 }'; }
 
-# SEEN-BY lines of a body. The area LEAF goes from Alpha to both others; MIDDLE goes by Beta to Gamma.
+# SEEN-BY lines of a body. The area LEAF goes from Alpha to both others. MIDDLE goes by Beta to Gamma.
 printf 'before\nSEEN-BY: 10/9\n> SEEN-BY: 10/8\nafter\n' |
   post_echonet one MIDDLE All Ann Quoted 00000301 2026-07-06T00:00:00
 printf 'before\nSEEN-BY: 10/3\nafter\n' | post_echonet one MIDDLE All Ann Unsent 00000302 2026-07-06T00:00:01
@@ -23,7 +23,7 @@ same "and what it names counts as seen" "10/1 10/2 10/3 10/9" \
 same "what it names is not sent the message" "" "$(body_at three Unsent)"
 same "between two of echonet the line stays" 'before\rSEEN-BY: 10/3\rafter\r'"$ending" "$(body_at three Kept)"
 
-# Two ids that differ behind their first 79 bytes.
+# Two ids that differ after their first 79 bytes.
 long=$(printf 'a%.0s' $(seq 1 90))
 bad=$(ls two/msg/bad | wc -l)
 for number in 1 2; do
@@ -51,7 +51,7 @@ sleep 3
 same "a message without an id comes to Alpha once" 1 "$(body_at one Nameless | wc -l)"
 same "and to Gamma once" 1 "$(body_at three Nameless | wc -l)"
 
-# One without an id that comes twice.
+# A message without an id that is received twice.
 known=$(known_at three)
 for name in 0000000a 0000000b; do
   perl "$here/mail.pl" make 1 2 AREA:MIDDLE 'No id either' '--- x' ' * Origin: x (1:10/1)' 'SEEN-BY: 10/1 2' \

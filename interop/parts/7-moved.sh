@@ -1,11 +1,12 @@
-# Beta moves from CrashMail to echonet, with its messages, as docs/INTEROP.md tells it
+# Beta moves from CrashMail to echonet, with its messages, as docs/INTEROP.md says
 
 stop_daemon two
 mkdir -p moved/{base,inbound,packets,old}
 move=$here/../examples/move
 "$move/links-from" crashmail 1:10/2 two/prefs > moved/real
 same "its link file" "$(sed '/^NAME/d; s/ $//' two/links)" "$(cat moved/real)"
-# It is taken in under a link file that has an address of nobody as the only link, so that nothing goes on.
+# Beta's new base imports its messages under a link file. Its only link is the address of no system. So nothing is
+# sent.
 sed 's,^\(AREA [^ ]*\).*,\1 1:10/30000,' moved/real > moved/links
 "$move/links-from" --bases crashmail 1:10/2 two/prefs | while read -r tag kind path; do
   "$move/$kind-to-packets" 1:10/30000 1:10/2 "$tag" "$path" 2> moved/told > "moved/old/$tag.pkt"
@@ -17,7 +18,7 @@ messages_of two | cut -d '|' -f 1-8 | sort -u > crashmail.txt
 messages_of moved | cut -d '|' -f 1-8 | sort > moved.txt
 same "Beta has what it had" 0 "$(diff crashmail.txt moved.txt; echo $?)"
 
-# What comes late is known, and new mail goes on.
+# Late copies are known, and new mail is passed on.
 same "an old packet of Alpha" "filed 0 known $(perl "$here/mail.pl" packet "$to_beta" | wc -l)" \
   "$("$program" toss moved/links moved/base "$to_beta" | cut -d ' ' -f 1-4)"
 echo 'New.' | post_echonet one MIDDLE All Ann 'After the move' 00000401 2026-07-07T00:00:00

@@ -1,4 +1,4 @@
-/* Loaded before the C library: the time is what NOW says. */
+/* Loaded before the C library: the time is NOW. */
 #include <stdlib.h>
 #include <time.h>
 

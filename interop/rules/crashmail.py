@@ -1,5 +1,4 @@
-"""A system of its own with CrashMail II: it is given packets and postings, and what it files and sends is
-read from its folders."""
+"""A system of its own with CrashMail II. It gets packets and postings. Its folders show what it files and sends."""
 import glob
 import os
 import struct
@@ -8,6 +7,7 @@ import time
 
 import making
 import reading
+from contents import read, write
 from judge import OWN, Packed
 
 HERE = os.path.dirname(os.path.abspath(__file__))
@@ -16,26 +16,14 @@ LONGEST = 300  # seconds
 LOCAL = 0x100  # the attribute of a message that was written here
 
 
-def read(path):
-    """The bytes of a file."""
-    with open(path, "rb") as file:
-        return file.read()
-
-
-def write(path, content):
-    """Makes a file."""
-    with open(path, "wb") as file:
-        file.write(content)
-
-
 def wait_for_second():
-    """Waits until a second begins, and answers it."""
+    """Waits until a second begins, and returns it."""
     time.sleep(1.02 - time.time() % 1)
     return int(time.time())
 
 
 def within_a_second(act):
-    """Does something anew until it begins and ends in one second, ten times at most."""
+    """Repeats an action until it begins and ends in one second, ten times at most."""
     for number in range(10):
         second = wait_for_second()
         act(number)
@@ -44,9 +32,9 @@ def within_a_second(act):
 
 
 class CrashMail:
-    """A station in a folder. `nets` has the links of each system in each area. Of its settings, `without` names
-    lines to leave out and `adding` has others; `area` has further lines for each area, `node` words for the line
-    of a link, and `link` a mark for it in the EXPORT lines."""
+    """A station in a folder. `nets` has the links of each system in each area. `without` names lines to leave out of
+    its settings, and `adding` has further lines. `area` has further lines for each area, `node` words for the line of
+    a link, and `link` a mark for it in the EXPORT lines."""
 
     name = "CrashMail"
 
@@ -87,13 +75,13 @@ class CrashMail:
                        stdin=subprocess.DEVNULL, stdout=subprocess.DEVNULL)
 
     def bring(self, *packets):
-        """Puts packets into the inbound."""
+        """Puts packets into the inbound folder."""
         for content in packets:
             write(self.path("inbound/%08x.pkt" % self.brought), content)
             self.brought += 1
 
     def toss(self, *packets):
-        """Tosses packets, and answers what it sends on."""
+        """Tosses packets, and returns what it sends on."""
         self.bring(*packets)
         self.run("TOSS")
         return self.sent()
@@ -104,7 +92,7 @@ class CrashMail:
         return self.sent()
 
     def write_posting(self, tag, to, by, subject, lines, folder="write", changed=None):
-        """Has crashwrite make the packet of a posting, with a changed environment, and answers the message."""
+        """Has crashwrite make the packet of a posting, with a changed environment, and returns the message."""
         write(self.path("body"), b"".join(line + b"\n" for line in lines))
         os.makedirs(self.path(folder), exist_ok=True)
         before = set(glob.glob(self.path(folder) + "/*.pkt"))
@@ -120,7 +108,7 @@ class CrashMail:
         return Packed(*message[1:])
 
     def post(self, tag, to, by, subject, lines):
-        """Posts a message, and answers it and what is sent."""
+        """Posts a message, and returns it and what is sent."""
         message = self.write_posting(tag, to, by, subject, lines)
         self.run("TOSSDIR", self.path("write"), "NOSECURITY")
         return message, self.sent()
@@ -132,7 +120,7 @@ class CrashMail:
         write(self.path("msg/test/%d.msg" % number), head + written.text.partition(b"\r")[2] + b"\0")
 
     def sent(self):
-        """What the mailer is to send: each message of the packets in the flow files, with its addressee."""
+        """What the mailer has to send: each message of the packets in the flow files, with its addressee."""
         copies = []
         for flow in sorted(glob.glob(self.path("outbound*/*.?lo"))):
             folder, name = flow.split("/")[-2:]
@@ -155,6 +143,6 @@ class CrashMail:
         return [Packed(*message[1:]) for message in messages]
 
     def filed(self):
-        """The subjects of what stands in its areas, but for those of bad messages."""
+        """The subjects of the messages in its areas, without those of bad messages."""
         return [read(path)[72:144].split(b"\0")[0] for tag in self.nets
                 for path in glob.glob(self.path("msg/%s/*.msg" % tag.lower()))]

@@ -1,18 +1,19 @@
-"""A system of its own with echonet, given the same."""
+"""A system of its own with echonet, with the methods of crashmail.py."""
 import glob
 import os
 import subprocess
 
 import making
 import reading
-from crashmail import LONGEST, read, write
+from contents import read, write
+from crashmail import LONGEST
 from judge import OWN, Packed
 
-REFUSED = 2  # the status where a packet was cut
+REFUSED = 2  # the status if a packet was cut
 
 
 class Echonet:
-    """A station in a folder; `nets` has the links of each system in each area."""
+    """A station in a folder. `nets` has the links of each system in each area."""
 
     name = "echonet"
 
@@ -34,7 +35,7 @@ class Echonet:
             raise ValueError("echonet %s: %s" % (command, ended.stderr.decode()))
 
     def toss(self, *packets):
-        """Tosses packets, and answers what it sends on."""
+        """Tosses packets, and returns what it sends on."""
         paths = [self.path("%d.pkt" % number) for number in range(len(packets))]
         for path, content in zip(paths, packets):
             write(path, content)
@@ -55,7 +56,7 @@ class Echonet:
         return copies
 
     def post(self, tag, to, by, subject, lines):
-        """Posts a message, and answers it and what is sent."""
+        """Posts a message, and returns it and what is sent."""
         self.serial += 1
         self.run("post", "--area", tag, "--to", to, "--from", by, "--subject", subject, "--serial",
                  "%08x" % self.serial, "--at", making.STAMP, self.path("links"), self.path("base"),
@@ -64,7 +65,7 @@ class Echonet:
         return Packed(making.DATE, *posted[2], posted[4]), self.settle()
 
     def filed(self):
-        """The subjects of what stands in its base."""
+        """The subjects of the messages in its base."""
         if not os.path.exists(self.path("base")):
             return []
         return [message[2][2] for message in making.read_base(read(self.path("base")))[1]]

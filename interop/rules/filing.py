@@ -4,7 +4,7 @@ import signal
 import subprocess
 import time
 
-from crashmail import read, write
+from contents import read, write
 from trying import FOUR, ONE, OWN, STRANGER, THREE, message, net, trials_of, with_id
 
 TRIALS, trial = trials_of("files once")
@@ -104,7 +104,7 @@ def short_date(run):
 
 @trial("files once", "sends once", alone=True)
 def own_comes_back(run):
-    """a message of an editor, sent by SCAN, comes from a link: it is filed and sent again"""
+    """a message of an editor, sent by SCAN, is received from a link: it is filed and sent again"""
     own = message(b"Own", with_id(b"1:10/2 00000001", b"Hello"), seen=())
     run.write_by_editor(2, own)
     run.settle()
@@ -112,7 +112,7 @@ def own_comes_back(run):
 
 
 def kill_between_packets(run):
-    """Has a run killed when its first packet is tossed and its second is not."""
+    """Kills a run after it tossed its first packet and before it tosses its second."""
     tosser, reached = run.tosser, run.tosser.path("reached")
     tosser.bring(run.packet(ONE, message(b"First"), message(b"Second")), run.packet(THREE, message(b"Third")))
     write(tosser.path("keep.sh"), b"#!/bin/sh\ncase $1 in *%x.pkt) : > %s; sleep 60 ;; esac\n" % (

@@ -1,7 +1,7 @@
-"""Judges by the five rules of docs/INTEROP.md what a tosser did with what it was given.
+"""Judges what a tosser did with its input by the five rules of docs/INTEROP.md.
 
-What came, what was posted, what the tosser filed and what it sent are read by trials/reading.py, from
-docs/FORMATS.md. Two copies are one message where they have one subject: each message of a trial has its own.
+trials/reading.py reads the received packets, the postings, the filed messages and the sent packets, by
+docs/FORMATS.md. Each message of a trial has its own subject: two copies with one subject are one message.
 """
 import functools
 from collections import Counter
@@ -16,13 +16,13 @@ RULES = ("files once", "keeps", "sends once", "tells", "new keys")
 
 @functools.lru_cache(maxsize=None)
 def read_echo(text):
-    """What a text says, or None where it is no echomail."""
+    """What a text says, or None if it is no echomail."""
     found = reading.read_text(text)
     return None if isinstance(found, str) else found
 
 
 class Packed(NamedTuple):
-    """A message as it stands in a packet."""
+    """A message in a packet."""
     date: bytes
     to: bytes
     by: bytes
@@ -30,11 +30,11 @@ class Packed(NamedTuple):
     text: bytes
 
     def echo(self):
-        """What its text says, or None where that is no echomail."""
+        """What its text says, or None if that is no echomail."""
         return read_echo(self.text)
 
     def key(self):
-        """By what it is known."""
+        """Its key: an id, or what replaces one."""
         return reading.key_of(self.echo(), self.names())
 
     def names(self):
@@ -42,20 +42,20 @@ class Packed(NamedTuple):
         return self.date.split(b"\0")[0], self.to, self.by, self.subject
 
     def content(self):
-        """What is to arrive unchanged."""
+        """The parts that have to arrive unchanged."""
         return self.names(), tuple(self.echo().kept)
 
 
 class Given(NamedTuple):
-    """A message that came, or that was posted where it has no sender."""
+    """A received message, or a posted one, which has no sender."""
     sender: tuple
     message: Packed
 
 
 class Observed(NamedTuple):
-    """All that is judged: the links of each system in each area, what the tosser was given, the subjects of
-    what it filed, the copies that it sent, each with the addressee, and a line for each packet of it that could
-    not be read."""
+    """Everything that is judged: the links of each system in each area, the input of the tosser, the subjects that it
+    filed, the copies that it sent with their addressees, and a line for each of its packets that could not be
+    read."""
     nets: dict
     given: list
     filed: list
@@ -64,7 +64,7 @@ class Observed(NamedTuple):
 
 
 def behind(links, link):
-    """The systems that the tosser reaches through this link alone."""
+    """The systems that the tosser reaches through this link only."""
     reached, waiting = {OWN, link}, [OWN]
     while waiting:
         for system in links[waiting.pop()] - reached:
@@ -74,12 +74,12 @@ def behind(links, link):
 
 
 def listed(addresses):
-    """Addresses in words."""
+    """Addresses as text."""
     return " ".join(making.shown(address) for address in sorted(addresses))
 
 
 class Judge:
-    """Finds out which rules were broken, and by what."""
+    """Finds the broken rules, and what broke them."""
 
     def __init__(self, observed):
         self.observed, self.broken = observed, []
@@ -113,7 +113,7 @@ class Judge:
         return self.broken
 
     def take(self, given):
-        """What is to be done with a message as it comes."""
+        """What the tosser has to do with a received message."""
         message, subject = given.message, given.message.subject
         self.first.setdefault(subject, given)
         self.contents.setdefault(subject, []).append(message.content())
@@ -126,7 +126,7 @@ class Judge:
             self.history.add(message.key())
 
     def judge_posting(self, message):
-        """New keys, and tells."""
+        """The rules "new keys" and "tells"."""
         if message.key() in self.history:
             self.breaks("new keys", "%r was posted with an id that is known" % message.subject)
         carriers = {link[1:] for link in self.links(message)} - {OWN[1:]}
@@ -134,14 +134,15 @@ class Judge:
             self.breaks("tells", "%r was posted with others in SEEN-BY" % message.subject)
 
     def judge_filing(self):
-        """Files once."""
+        """The rule "files once"."""
         for subject in set(self.filed) | set(self.first):
             if self.filed[subject] != self.due[subject]:
                 self.breaks("files once", "%r is filed %d times, not %d" % (
                     subject, self.filed[subject], self.due[subject]))
 
     def judge_sending(self, given, to):
-        """Sends once: what is filed goes to each link that did not send it and does not stand in its SEEN-BY."""
+        """The rule "sends once": a filed message goes to each link that did not send it and that its SEEN-BY
+        lacks."""
         message, targets = given.message, []
         if self.filed[message.subject]:
             targets = [link for link in self.links(message)[OWN]
@@ -150,7 +151,7 @@ class Judge:
             self.breaks("sends once", "%r went to (%s), not to (%s)" % (message.subject, listed(to), listed(targets)))
 
     def judge_copy(self, given, to, copy, all_to):
-        """Keeps, and tells."""
+        """The rules "keeps" and "tells"."""
         what = "%r to %s" % (copy.subject, making.shown(to))
         if copy.echo() is None:
             self.breaks("keeps", what + ": it is no echomail")

@@ -6,7 +6,7 @@ TRIALS, trial = trials_of("keeps")
 
 
 def with_body(subject, *lines):
-    """A message with these lines behind its id."""
+    """A message with these lines after its id."""
     return message(subject, with_id(new_id(subject), *lines))
 
 
@@ -36,26 +36,26 @@ def long_text(run):
 
 @trial("keeps", "tells")
 def no_last_line_end(run):
-    """a text ends without 0D: SEEN-BY is put right behind its last line, as a part of it"""
+    """a text ends without 0D: SEEN-BY follows its last line directly, as a part of it"""
     text = making.text(b"TEST", with_id(new_id(b"No end"), b"Hello"), [], [])
     run.toss(ONE, message(b"No end", text=text[:-1]))
 
 
 @trial("keeps", "sends once")
 def seen_in_body(run):
-    """a body line begins with SEEN-BY:. It is dropped, and who stands there is not sent the message"""
+    """a body line begins with SEEN-BY:. It is dropped, and the systems in it are not sent the message"""
     run.toss(ONE, with_body(b"Seen", b"Before", b"SEEN-BY: 10/3", b"After"))
 
 
 @trial("keeps", "sends once")
 def seen_in_long_line(run):
-    """so too where SEEN-BY: stands behind the 198th byte of a line"""
+    """so too if SEEN-BY: follows the 198th byte of a line"""
     run.toss(ONE, with_body(b"Long", b"x" * 198 + b"SEEN-BY: 10/3", b"After"))
 
 
 @trial("keeps", "sends once")
 def seen_behind_line_feed(run):
-    """so too where it stands behind a line feed"""
+    """so too if it follows a line feed"""
     run.toss(ONE, with_body(b"Feed", b"Before\nSEEN-BY: 10/3", b"After"))
 
 

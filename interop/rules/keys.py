@@ -17,7 +17,7 @@ def written(run, subject, folder, **more):
 
 
 def sent(run, *folders):
-    """Has CrashMail take what was posted."""
+    """Has CrashMail toss the posting."""
     for folder in folders:
         run.tosser.run("TOSSDIR", run.tosser.path(folder), "NOSECURITY")
         run.copies += run.tosser.sent()

@@ -1,9 +1,8 @@
-"""Holds CrashMail II to the rules that docs/INTEROP.md asks of each tosser, and prints which it keeps.
+"""Tests whether CrashMail II keeps the rules that docs/INTEROP.md asks of each tosser, and prints which it keeps.
 
-In each trial a system of its own gets packets and postings; what it files and sends is judged by all five
-rules, and the rules that it breaks have to be those that the trial names. The same trials are held with
-echonet, where they can be, which has to break none. Words: the trials to hold (all without a word); with -v
-what was broken is printed. rules.sh calls this.
+In each trial a system of its own gets packets and postings. All five rules judge what it files and sends. It has to
+break exactly the rules that the trial names. echonet runs the same trials where it can, and has to break no rule.
+Arguments: the trials to run, by default all. With -v it prints what was broken. rules.sh calls this.
 """
 import os
 import sys
@@ -34,7 +33,7 @@ def held(trial, tosser):
 
 
 def expect(trial, tosser, breaks, is_wordy):
-    """Whether a tosser breaks just these rules in a trial."""
+    """Whether a tosser breaks exactly these rules in a trial."""
     broken = held(trial, tosser)
     found = frozenset(rule for rule, _ in broken)
     if found != breaks:
@@ -61,7 +60,7 @@ def print_table(trials):
 
 
 def main(words):
-    """Holds the trials."""
+    """Runs the trials."""
     is_wordy = "-v" in words
     names = set(words) - {"-v"}
     trials = [trial for trial in TRIALS if not names or trial.name in names]

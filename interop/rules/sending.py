@@ -2,7 +2,8 @@
 import os
 
 import making
-from crashmail import wait_for_second, within_a_second, write
+from contents import write
+from crashmail import wait_for_second, within_a_second
 from trying import FAR, ONE, OWN, SEEN, THREE, ZONES, message, net, new_id, trials_of, with_id
 
 TRIALS, trial = trials_of("sends once")
@@ -44,7 +45,7 @@ def busy_link(run):
 
 @trial("sends once", "keeps", alone=True)
 def rescan(run):
-    """RESCAN for a link: it is sent all again with a further control line, also what it sent itself"""
+    """RESCAN for a link: it is sent all again with a further control line, also its own messages"""
     run.toss(ONE, message(b"Came"))
     run.toss(THREE, message(b"Its own"))
     run.tosser.run("RESCAN", "TEST", "RESCANNODE", making.shown(THREE))
@@ -53,7 +54,7 @@ def rescan(run):
 
 @trial("sends once")
 def rescanned(run):
-    """a message has a control line RESCANNED, as of the rescan of a link: it is sent to nobody"""
+    """a message has a control line RESCANNED, as of the rescan of a link: it is sent to no link"""
     subject = b"Rescanned"
     run.toss(ONE, message(subject, with_id(new_id(subject), b"\x01RESCANNED 1:10/1", b"Hello")))
 
@@ -72,7 +73,7 @@ def one_second(run):
 
 @trial("sends once")
 def no_blank(run):
-    """SEEN-BY:10/3, without a blank, and a tab between entries: who stands there is sent the message"""
+    """SEEN-BY:10/3, without a blank, and a tab between entries: the systems in it are sent the message"""
     for subject, line in ((b"No blank", b"SEEN-BY:10/3"), (b"Tab", b"SEEN-BY: 10/1\t10/3")):
         text = making.text(b"TEST", with_id(new_id(subject), b"Hello"), [], [])
         run.toss(ONE, message(subject, text=text + line + b"\r"))
@@ -80,7 +81,7 @@ def no_blank(run):
 
 @trial("sends once", "keeps")
 def long_seen_line(run):
-    """a SEEN-BY line of more than 198 bytes: what stands behind them is taken for a body line"""
+    """a SEEN-BY line of more than 198 bytes: the rest of it counts as a body line"""
     text = making.text(b"TEST", with_id(new_id(b"Long"), b"Hello"), [], [])
     entries = b"".join(b" 10/%d" % node for node in (1, 2, 11, *range(10000, 10030), 3))
     run.toss(ONE, message(b"Long", text=text + b"SEEN-BY:" + entries + b"\r"))
@@ -88,7 +89,7 @@ def long_seen_line(run):
 
 @trial("sends once", nets=ZONES)
 def from_other_zone(run):
-    """a message of a link in another zone: its SEEN-BY is dropped, and who stands there is sent it again"""
+    """a message of a link in another zone: its SEEN-BY is dropped, and the systems in it are sent it again"""
     run.toss(FAR, message(b"Far", seen=((10, 1), (10, 2), (20, 5))))
 
 
@@ -121,7 +122,7 @@ def many_packets(run):
 
 @trial("sends once", without=("CHECKSEENBY",))
 def no_checkseenby(run):
-    """no CHECKSEENBY: who stands in SEEN-BY is sent the message"""
+    """no CHECKSEENBY: the systems in SEEN-BY are sent the message"""
     run.toss(ONE, message(b"Seen", seen=SEEN + ((10, 3),)))
 
 

@@ -1,4 +1,4 @@
-"""What the trials share: the net around the tosser, messages, and the run of one trial."""
+"""The net around the tosser, messages, and the run of one trial."""
 import zlib
 from typing import NamedTuple
 
@@ -11,7 +11,7 @@ STRANGER = (1, 10, 9)
 
 
 def net(polygon, leaves=()):
-    """The links of each system, where those of a polygon are linked with each other, and each leaf with one."""
+    """The links of each system. Systems of a polygon are linked with each other, and each leaf with one system."""
     links = {system: set(polygon) - {system} for system in polygon}
     for hub, leaf in leaves:
         links[hub].add(leaf)
@@ -23,12 +23,12 @@ def net(polygon, leaves=()):
 LEAVES = ((OWN, LEAF), (ONE, (1, 10, 11)), (THREE, (1, 10, 31)), (FOUR, (1, 10, 41)))
 NETS = {"TEST": net((OWN, ONE, THREE, FOUR), LEAVES), "OTHER": net((OWN, ONE))}
 ZONES = {"TEST": net((OWN, ONE, THREE, FAR))}
-# What the SEEN-BY and the PATH of a message of 1:10/11 have when it comes by 1:10/1.
+# The SEEN-BY and the PATH of a message of 1:10/11 that 1:10/1 sends.
 SEEN, PATH = ((10, 1), (10, 2), (10, 11)), ((10, 11), (10, 1))
 
 
 def with_id(ident, *lines):
-    """Lines of a message behind a MSGID line."""
+    """Lines of a message after a MSGID line."""
     return [b"\x01MSGID: " + ident, *lines]
 
 
@@ -38,14 +38,14 @@ def new_id(subject):
 
 
 def message(subject, lines=None, tag=b"TEST", seen=SEEN, text=None, date=making.DATE, to=b"All", by=b"Zed"):
-    """A message as it comes by a link; `lines` are all but those of area, SEEN-BY and PATH."""
+    """A message from a link. `lines` are all lines except those of area, SEEN-BY and PATH."""
     if lines is None:
         lines = with_id(new_id(subject), b"Hello", b"--- x", b" * Origin: x (1:10/11)")
     return Packed(date, to, by, subject, text if text is not None else making.text(tag, lines, seen, PATH))
 
 
 class Run:
-    """A trial of one tosser: what it is given and what it does with it."""
+    """A trial of one tosser: its input and what it does with it."""
 
     def __init__(self, tosser):
         self.tosser, self.given, self.copies = tosser, [], []
@@ -57,22 +57,22 @@ class Run:
             making.packed(sender, OWN, each.text, each.to, each.by, each.subject, each.date) for each in messages])
 
     def toss(self, sender, *messages):
-        """Has a packet tossed, and what is due sent on."""
+        """Tosses a packet, and sends the messages of it that are due."""
         self.copies += self.tosser.toss(self.packet(sender, *messages))
 
     def post(self, subject, *lines):
-        """Has a message posted and sent."""
+        """Posts a message and sends it."""
         posted, copies = self.tosser.post("TEST", "All", "Bob", subject, list(lines))
         self.given.append(Given(None, posted))
         self.copies += copies
 
     def write_by_editor(self, number, written):
-        """Puts a message that an editor wrote into the folder of its area."""
+        """Puts a message of an editor into the folder of its area."""
         self.tosser.write_message(number, written)
         self.given.append(Given(None, written))
 
     def settle(self):
-        """Has sent what waits."""
+        """Sends what waits."""
         self.copies += self.tosser.settle()
 
     def broken(self):
@@ -83,8 +83,8 @@ class Run:
 
 
 class Trial(NamedTuple):
-    """A trial: for which rule it is, which rules CrashMail breaks in it, what is done, and, where it is for
-    CrashMail alone, with which settings."""
+    """A trial: its rule, the rules that CrashMail breaks in it, its function, and the settings of a trial for
+    CrashMail only."""
     rule: str
     breaks: frozenset
     act: object
@@ -104,8 +104,8 @@ class Trial(NamedTuple):
 
 
 def trials_of(rule):
-    """A list of the trials for a rule, and what puts one into it. The words are the rules that CrashMail breaks
-    there; `alone` is for trials that only CrashMail can be put to, as are those with settings."""
+    """A list of the trials for a rule, and a decorator that adds one. The arguments are the rules that CrashMail
+    breaks there. `alone` marks trials for CrashMail only. Trials with settings are also for CrashMail only."""
     trials = []
 
     def trial(*breaks, nets=None, alone=False, **settings):

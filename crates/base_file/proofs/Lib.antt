@@ -12,3 +12,4 @@ pub mod StubBases
 pub mod SavedAgain
 pub mod NotedTags
 pub mod Pieces
+pub mod LoneMessages

@@ -192,7 +192,7 @@ unfolding stored_at
 stored_says cursor place m is =
     stored_back (is_short Second cursor place m) m is (form_of cursor place m (is_short Second cursor place m) refl)
 
-not_damaged : (cursor : ℕ) (earlier : List Filed) (m : Filed) → IsFiled m → is_known earlier (key_of m) ≡ false
+pub not_damaged : (cursor : ℕ) (earlier : List Filed) (m : Filed) → IsFiled m → is_known earlier (key_of m) ≡ false
     → is_damaged Second cursor earlier (stored_at cursor (length earlier) m) ≡ false
 unfolding stored_at
 not_damaged cursor earlier m h new = stored_right cursor earlier m h new (is_short Second cursor (length earlier) m) refl
@@ -263,7 +263,7 @@ size_right short m h enough =
       last = ltb-true (length ((stored_as short m).last)) (2 ^ 32) enough;
     }
 
-size_at : (cursor place : ℕ) (m : Filed) → IsFiled m → is_short_enough (stored_at cursor place m) ≡ true → IsStored Second (stored_at cursor place m)
+pub size_at : (cursor place : ℕ) (m : Filed) → IsFiled m → is_short_enough (stored_at cursor place m) ≡ true → IsStored Second (stored_at cursor place m)
 unfolding stored_at
 size_at cursor place m h enough = size_right (is_short Second cursor place m) m h enough
 

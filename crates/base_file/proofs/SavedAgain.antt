@@ -82,7 +82,7 @@ stored_as_back s size kind sender last =
       last = end i;
     }
 
-stored_at_back : (cursor : ℕ) (earlier : List Filed) (s : Stored) → IsStored Second s → is_damaged Second cursor earlier s ≡ false
+pub stored_at_back : (cursor : ℕ) (earlier : List Filed) (s : Stored) → IsStored Second s → is_damaged Second cursor earlier s ≡ false
     → stored_at cursor (length earlier) (message_in Second s) ≡ s
 unfolding is_damaged stored_at
 stored_at_back cursor earlier s size h =

@@ -4,3 +4,4 @@ pub mod BaseFile
 pub mod Saving
 pub mod Loading
 pub mod Pieces
+pub mod Alone

@@ -224,8 +224,29 @@ fn key_of(
     })
 }
 
-/// The message with its key, unless a field is wrong or it has another form than a message at this
+/// The message with its `last`, unless a field is wrong or it has another form than a message at this
 /// place should have.
+pub(crate) fn sound_message(
+    alloc: Global,
+    version: Version,
+    cursor: usize,
+    place: usize,
+    stored: StoredMessage,
+) -> Result<Option<(Filed, Items<u8>)>, AllocError>
+    requires { IsStored version stored }
+    ensures { IfOk result (UnlessWrong (is_wrong version cursor place stored) (message_in version stored, stored.last)) }
+{
+    let with_tag = has_tag(version, stored.kind);
+    let Some((message, last)) = right_message(alloc, version, stored)? else {
+        return Ok(None);
+    };
+    if has_wrong_form(version, cursor, place, with_tag, &message) {
+        return Ok(None);
+    }
+    Ok(Some((message, last)))
+}
+
+/// The message of `sound_message`, with its key.
 pub(crate) fn judged(
     alloc: Global,
     version: Version,
@@ -237,12 +258,9 @@ pub(crate) fn judged(
     ensures { IfOk result (Judges (is_wrong version cursor place stored) (message_in version stored)) }
 {
     let with_tag = has_tag(version, stored.kind);
-    let Some((message, last)) = right_message(alloc, version, stored)? else {
+    let Some((message, last)) = sound_message(alloc, version, cursor, place, stored)? else {
         return Ok(None);
     };
-    if has_wrong_form(version, cursor, place, with_tag, &message) {
-        return Ok(None);
-    }
     let key = key_of(alloc, with_tag, &message, last)?;
     Ok(Some((key, message)))
 }

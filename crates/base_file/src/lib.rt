@@ -4,10 +4,11 @@
 //!
 //! Begin with `base`: the messages by their keys, saved and loaded. `purging` makes stubs,
 //! `judging` refuses stored messages that no base may have, `tags` has the tags of all messages.
-//! `piece` judges a base file in pieces, message by message.
+//! `piece` judges a base file in pieces, message by message, and `alone` reads one message by itself.
 //! `fault` lists the refusals, `laws` states the promise.
 #![tactic(auto)]
 
+mod alone;
 mod base;
 mod fault;
 mod judging;
@@ -16,6 +17,7 @@ mod piece;
 mod purging;
 mod tags;
 
+pub use alone::read_message;
 pub use base::{Base, Head};
 pub use fault::BaseFault;
 pub use laws::{loaded_base_law, one_base_or_fault, saved_again_law, saved_base_law};

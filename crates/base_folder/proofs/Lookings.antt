@@ -1,9 +1,9 @@
 -- A folder that is looked at can be read, and what is wrong with it. The log goes on meanwhile.
-use Rattle.std.proofs.Common.{◌≡◌, ◌∙◌, ◌-◌, ap, ℕ, Bool, List, [], ◌∷◌, length, take, drop, Result, Ok, Err, sym, subst, arith}
+use Rattle.std.proofs.Common.{◌≡◌, ◌∙◌, ◌-◌, ap, ℕ, Bool, List, length, take, drop, Result, Ok, Err, sym, subst, arith}
 use Rattle.std.specs.Result.{IfErr, IfOk, IsErrAnd}
 use Rattle.disk_io.specs.Disk.{DiskState, Files, Honestly}
 use Rattle.disk_io.specs.Runs.{ChangesNothing}
-use Rattle.base_file.specs.Base.{Base}
+use Rattle.echo_filed.specs.Filed.{Filed}
 use Rattle.base_file.specs.declared.fault.BaseFault.TheVariants as fault
 use Rattle.base_log.specs.Opening.{HasFiles}
 use Rattle.base_log.specs.Reading.{IsLogIn, IsRead, ReadsAll}
@@ -102,7 +102,7 @@ unseen_message keyed strange path files bytes (unread.NotOwner address) one none
 
 -- the error of a message that was not read
 pub unvouched_by : (keyed : ℕ → ℕ → List ℕ → ℕ) (bytes : BaseBytes) (i : ℕ) (error : StoreError)
-    → ((s : Stored) → IsThere bytes i s → HasDigest keyed bytes i s → Answers {T = Base} (λ alone. alone.messages ≡ message_in Second s ∷ []) (Err error)) → IsUnvouched keyed bytes (unread_message error i)
+    → ((s : Stored) → IsThere bytes i s → HasDigest keyed bytes i s → Answers {T = Filed} (λ m. m ≡ message_in Second s) (Err error)) → IsUnvouched keyed bytes (unread_message error i)
 unvouched_by keyed bytes i store.Damaged none = none
 unvouched_by keyed bytes i store.Device none = tt
 unvouched_by keyed bytes i store.Memory none = tt

@@ -5,7 +5,6 @@ use Rattle.base_file.specs.Base.{Base}
 use Rattle.echo_filed.specs.Filed.{Filed}
 use Rattle.base_folder_store.specs.Held.{HoldsBase}
 use Rattle.base_folder_store.specs.Opened.{held_by}
-use Rattle.base_folder_store.specs.State.{only_message}
 use Rattle.base_folder_store.specs.Vouched.{IsLookedAt}
 use Rattle.base_folder_store.specs.declared.folder.Folder.{Folder}
 
@@ -32,12 +31,12 @@ pub record SeesBase (keyed : ℕ → ℕ → List ℕ → ℕ) (disk : DiskState
   pub count : folder.keys / 16 ≡ length base.messages
 
 -- A base folder as such a source.
-abbrev pub folder_source : DiskState → ℕ → (ℕ → ℕ → List ℕ → ℕ) → Folder → Option Base → SourceState
-folder_source disk failures keyed folder alone = record {
+abbrev pub folder_source : DiskState → ℕ → (ℕ → ℕ → List ℕ → ℕ) → Folder → Option Filed → SourceState
+folder_source disk failures keyed folder message = record {
   is_honest = disk.is_honest;
   is_ready = IsLookedAt disk folder;
   count = folder.keys / 16;
   holds = λ base. SeesBase keyed disk folder base;
-  at_hand = only_message alone;
+  at_hand = message;
   failures = failures;
 }

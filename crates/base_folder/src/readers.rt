@@ -13,7 +13,7 @@ use crate::open_error::OpenError;
 use crate::reading::ReadingProgress;
 use crate::source::MessageSource;
 use base_file::Base;
-use base_folder_store::{Alone, Folder};
+use base_folder_store::Folder;
 use base_store::{Digest, StoreError};
 use cmd_status::Fault;
 use disk_io::Disk;
@@ -80,7 +80,7 @@ pub struct FolderReader<D: Disk, H: Digest> {
     disk: D,
     folder: Folder,
     // The current message.
-    alone: Option<Alone>,
+    message: Option<Filed>,
     digests: PhantomData<H>,
 }
 
@@ -98,7 +98,7 @@ impl<D: Disk, H: Digest> FolderReader<D, H> {
             alloc,
             disk,
             folder,
-            alone: None,
+            message: None,
             digests: PhantomData,
         }
     }
@@ -132,7 +132,7 @@ pub fn read_folder<D: Disk + Drop, H: Digest, P: ReadingProgress>(
 impl<D: Disk, H: Digest> MessageSource for FolderReader<D, H> {
     ghost use Rattle.base_folder.specs.Source.{folder_source};
 
-    ghost state = { λ r. folder_source (D.state r.disk) (D.failures r.disk) H.keyed r.folder r.alone };
+    ghost state = { λ r. folder_source (D.state r.disk) (D.failures r.disk) H.keyed r.folder r.message };
 
     fn count(&self) -> usize {
         self.folder.count()
@@ -143,15 +143,14 @@ impl<D: Disk, H: Digest> MessageSource for FolderReader<D, H> {
     }
 
     fn fetch(&mut self, place: usize) -> Result<(), StoreError> {
-        let alone = self
+        let message = self
             .folder
             .read_vouched::<D, H>(self.alloc, &mut self.disk, place)?;
-        self.alone = Some(alone);
+        self.message = Some(message);
         Ok(())
     }
 
     fn at_hand(&self) -> Option<&Filed> {
-        let alone = self.alone.as_ref()?;
-        alone.message(0)
+        self.message.as_ref()
     }
 }

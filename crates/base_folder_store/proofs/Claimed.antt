@@ -4,6 +4,7 @@ use Rattle.disk_io.specs.Disk.{DiskState}
 use Rattle.base_log.specs.declared.log.FolderIdentity.{FolderIdentity}
 use Rattle.echo_filed.specs.Stored.{Stored}
 use Rattle.base_file.specs.Base.{Base}
+use Rattle.echo_filed.specs.Filed.{Filed}
 use Rattle.base_store.specs.Keys.{keys_from}
 use Rattle.base_store.specs.declared.index.Index.{Index}
 use Rattle.base_store.proofs.Placed.{keys_long}
@@ -81,13 +82,13 @@ pub claim_keeps : (keyed : ℕ → ℕ → List ℕ → ℕ) → ((first second 
 claim_keeps keyed fits d f g mark result base claim opened holds =
     by_claim (λ (x : Folder). HoldsBase keyed (held_by d x) base) f g mark result claim holds (λ free. claimed_holds keyed fits d f mark base opened free holds)
 
-pub claim_goes_on : (keyed : ℕ → ℕ → List ℕ → ℕ) (d : DiskState) (f g : Folder) (mark : FolderIdentity) (result : Bool) (k : Option Base) → IsClaim f g mark result → IsUsable d f → GoesOn (state_of d keyed f k) (state_of d keyed g k)
+pub claim_goes_on : (keyed : ℕ → ℕ → List ℕ → ℕ) (d : DiskState) (f g : Folder) (mark : FolderIdentity) (result : Bool) (k : Option Filed) → IsClaim f g mark result → IsUsable d f → GoesOn (state_of d keyed f k) (state_of d keyed g k)
 claim_goes_on keyed d f g mark result k claim usable =
     by_claim (λ (x : Folder). GoesOn (state_of d keyed f k) (state_of d keyed x k)) f g mark result claim
     (record { ready = usable; committed = λ honest base is. is; honest = λ is. is })
     (λ free. record { ready = record { named = usable.named; opened = λ honest. claimed_open d f mark (usable.opened honest) }; committed = λ honest base is. is; honest = λ is. is })
 
-pub claim_commits : (keyed : ℕ → ℕ → List ℕ → ℕ) (d : DiskState) (f g : Folder) (mark : FolderIdentity) (result : Bool) (k : Option Base) → IsClaim f g mark result → IsUsable d f → CommitsNothing (state_of d keyed f k) (state_of d keyed g k)
+pub claim_commits : (keyed : ℕ → ℕ → List ℕ → ℕ) (d : DiskState) (f g : Folder) (mark : FolderIdentity) (result : Bool) (k : Option Filed) → IsClaim f g mark result → IsUsable d f → CommitsNothing (state_of d keyed f k) (state_of d keyed g k)
 claim_commits keyed d f g mark result k claim usable =
     by_claim (λ (x : Folder). CommitsNothing (state_of d keyed f k) (state_of d keyed x k)) f g mark result claim
     (stages d d keyed f f k k refl (run_none d f usable.opened))

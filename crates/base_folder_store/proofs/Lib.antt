@@ -12,11 +12,9 @@ mod Plain
 pub mod Runs
 pub mod Seen
 mod Shorter
-mod Single
 pub mod Staged
 pub mod Stated
 pub mod Stubbed
 pub mod Vouchings
 pub mod Waits
 mod WhereSo
-pub mod Whole

@@ -4,7 +4,7 @@ use Rattle.std.specs.List.{list_any}
 use Rattle.std.proofs.lemmas.Bool.{cases_lt, false_from_ne_true, or_from}
 use Rattle.echo_filed.specs.Filed.{Filed}
 use Rattle.base_store.specs.Keys.{digest_at}
-use Rattle.base_folder_store.specs.Added.{IsStoredAlone}
+use Rattle.base_file.specs.Alone.{IsStoredAlone}
 use Rattle.base_folder_store.specs.Answers.{HaveDigest, IsStoredOf}
 
 -- none passes

@@ -7,12 +7,13 @@ use Rattle.echo_filed.specs.Stored.{IsStored, Stored, message_in, stored_bytes}
 use Rattle.echo_filed.specs.declared.stored.Version.TheVariants.{Second}
 use Rattle.echo_filed.proofs.Plain.{all_append}
 use Rattle.base_log.specs.Standing.{BaseBytes}
+use Rattle.base_file.specs.Alone.{IsStoredAlone, MayStandAlone}
 use Rattle.base_file.specs.Base.{Base, is_known}
 use Rattle.base_file.proofs.Entries.{one_more}
-use Rattle.base_store.specs.Keys.{FolderStandsFor, MayStandAlone, digested, entry, keys_from}
+use Rattle.base_store.specs.Keys.{FolderStandsFor, digested, entry, keys_from}
 use Rattle.base_store.proofs.Placed.{bytes_of, keys_append}
 use Rattle.base_store.specs.Store.{with_message}
-use Rattle.base_folder_store.specs.Added.{IsStoredAlone, with_stored}
+use Rattle.base_folder_store.specs.Added.{with_stored}
 use Rattle.base_folder_store.specs.Held.{HoldsBase, digest_by}
 
 pub files_more : (digest : List ℕ → ℕ) (base : List Filed) (cursor : ℕ) (messages keys : List ℕ) (m : Filed) (bytes : List ℕ) (number : ℕ) → FolderStandsFor digest base cursor messages keys → IsStoredAlone m bytes → IsFiled m

@@ -9,16 +9,16 @@ use Rattle.echo_text.specs.Echo.{msgid_of}
 use Rattle.echo_filed.specs.Filed.{Filed, IsFiled, has_id, key_of, same_key}
 use Rattle.echo_filed.specs.declared.key.Key.{Key}
 use Rattle.echo_filed.proofs.Keys.{same_key_decides}
+use Rattle.base_file.specs.Alone.{IsStoredAlone}
 use Rattle.base_file.specs.Base.{Base, IsBase, is_known}
 use Rattle.base_store.specs.Keys.{digested, digested_key, digested_with}
 use Rattle.base_store.proofs.Digests.{of_key}
 use Rattle.base_store.proofs.Told.{tells_each}
 use Rattle.base_store.specs.Store.{all_scanned, with_message}
-use Rattle.base_folder_store.specs.Added.{IsStoredAlone, with_stored}
-use Rattle.base_folder_store.specs.Answers.{HaveDigest, IsAloneOf}
+use Rattle.base_folder_store.specs.Added.{with_stored}
+use Rattle.base_folder_store.specs.Answers.{HaveDigest}
 use Rattle.base_folder_store.specs.Held.{HoldsBase, digest_by}
 use Rattle.base_folder_store.specs.Opened.{IsOpen, held_by}
-use Rattle.base_folder_store.specs.State.{only_message}
 use Rattle.base_folder_store.specs.declared.folder.Folder.{Folder}
 use Rattle.base_folder_store.proofs.Bases.{told_where}
 use Rattle.base_folder_store.proofs.Legible.{keys_all, legible_open}
@@ -55,11 +55,11 @@ many_messages keyed d f base opened holds =
     let long = keys_all d f (legible_open d f opened) in
     omega (arith, many, long)
 
--- the message that was fetched
-pub fetched : (base : List Filed) (place : ℕ) (alone : Base) → place < length base → IsAloneOf base place alone → only_message (Some alone) ≡ slice_get base place
-fetched base place alone within is =
+-- the message of a number
+pub message_at : (base : List Filed) (place : ℕ) (m : Filed) → place < length base → ((d : Filed) → get_or base place d ≡ m) → slice_get base place ≡ Some m
+message_at base place m within is =
     let d : Filed = some_message base place within in
-    ap (λ (l : List Filed). slice_get l 0) (is d) ∙ sym (slice_get-get_or base place d within)
+    slice_get-get_or base place d within ∙ ap (λ (x : Filed). Some x) (is d)
 
 -- the folder with its cursor at the end
 abbrev pub at_end : Folder → Folder

@@ -1,9 +1,9 @@
 -- What a purge leaves of a stored message has no more bytes than it had.
-use Rattle.std.proofs.Common.{◌≡◌, ℕ, ◌+◌, ◌-◌, ◌^◌, ◌≤◌, ◌&&◌, nat_lt, Bool, true, false, List, [], ◌∷◌, ◌++◌, length, map, take, drop, refl, sym, ap, subst, ◌∙◌, Option, Some, None, inl, inr, arith, length-append}
+use Rattle.std.proofs.Common.{◌≡◌, ℕ, ◌+◌, ◌-◌, ◌^◌, ◌≤◌, ◌&&◌, nat_lt, Bool, true, false, List, [], ◌∷◌, ◌++◌, length, map, drop, refl, sym, ap, subst, ◌∙◌, Option, Some, None, inl, inr, arith, length-append}
 use Rattle.std.specs.Prelude.{filter, find, is_some, unwrap_or}
 use Rattle.std.specs.List.{flat_map, prefix_len, suffix_len}
-use Rattle.std.proofs.lemmas.Bool.{and_from, and_parts, cases_Bool, cond-false, cond-true, lt-ltb, ltb-true}
-use Rattle.std.proofs.lemmas.List.{append-nil, length-drop, length-take, take_all}
+use Rattle.std.proofs.lemmas.Bool.{and_from, cases_Bool, cond-false, cond-true, lt-ltb, ltb-true}
+use Rattle.std.proofs.lemmas.List.{length-drop, length-take}
 use Rattle.echo_addr.specs.Entries.{is_blank}
 use Rattle.echo_addr.specs.ShortLines.{path_prefix, seen_prefix}
 use Rattle.echo_text.specs.Echo.{EchoText, ended, msgid_of}
@@ -17,11 +17,9 @@ use Rattle.echo_filed.specs.declared.stored.Version.TheVariants.{Second}
 use Rattle.echo_filed.proofs.Keys.{msgid_first, msgid_is_id, stub_of_stub}
 use Rattle.echo_filed.proofs.Sendings.{last_sent, stored_parts}
 use Rattle.echo_filed.proofs.StubTests.{stub_told}
-use Rattle.base_file.specs.BaseFile.{BaseOf, head_bytes, is_countable, magic, saved_bytes, stored_at}
-use Rattle.base_file.proofs.SavedAgain.{SavesAgain, saved_again}
-use Rattle.base_store.specs.Keys.{MayStandAlone, cursor_alone}
-use Rattle.base_folder_store.proofs.Single.{head_long}
-use Rattle.base_folder_store.proofs.Whole.{whole_loads}
+use Rattle.base_file.specs.Alone.{MayStandAlone, cursor_alone}
+use Rattle.base_file.specs.BaseFile.{stored_at}
+use Rattle.base_file.proofs.LoneMessages.{alone_again}
 
 -- an id is no longer than its line
 in_line : (line : List ℕ) → length (trimmed (after_word msgid_word line)) ≤ length line
@@ -154,46 +152,20 @@ unfolding stub_of
 less_of cursor m None is = subst (λ (o : Option (List ℕ)). IsLess (is_short Second cursor 0 m) m (stub_with m o)) (sym is) (without_id cursor m is)
 less_of cursor m (Some id) is = subst (λ (o : Option (List ℕ)). IsLess (is_short Second cursor 0 m) m (stub_with m o)) (sym is) (with_id (is_short Second cursor 0 m) m id is)
 
-front_of : (cursor : ℕ) (rest : List ℕ) → take 8 (head_bytes Second cursor 1 ++ rest) ≡ magic Second
-unfolding head_bytes
-front_of cursor rest = refl
-
--- what is saved of a message that stands alone
-again : (s : Stored) → IsStored Second s → MayStandAlone s → SavesAgain (message_in Second s ∷ []) (cursor_alone s) (head_bytes Second (cursor_alone s) 1 ++ stored_bytes Second s)
-again s size alone =
-    let bytes = head_bytes Second (cursor_alone s) 1 ++ stored_bytes Second s in
-    let m = message_in Second s in
-    let whole : BaseOf (m ∷ []) (cursor_alone s) bytes = subst (λ (l : List ℕ). BaseOf (m ∷ []) (cursor_alone s) l) (take_all (length bytes) bytes (omega arith)) (whole_loads s size alone).1 in
-    saved_again (m ∷ []) (cursor_alone s) bytes whole (front_of (cursor_alone s) (stored_bytes Second s))
-
 -- what a purge leaves of a message that stands alone
 pub record LeavesLess (s : Stored) : Type 0 where
-  pub few : is_countable (stub_of (message_in Second s) ∷ []) 1 ≡ true
-  pub less : length (drop 16 (saved_bytes (stub_of (message_in Second s) ∷ []) 1)) ≤ length (stored_bytes Second s)
-
-saved_one : (m : Filed) (cursor : ℕ) → drop 16 (saved_bytes (m ∷ []) cursor) ≡ stored_bytes Second (stored_at cursor 0 m)
-unfolding saved_bytes
-saved_one m cursor = let here = stored_bytes Second (stored_at cursor 0 m) in head_long cursor 1 (here ++ []) ∙ append-nil here
-
-countable_one : (m : Filed) (cursor : ℕ) → (is_countable (m ∷ []) cursor ≡ true → is_short_enough (stored_at cursor 0 m) ≡ true) × (is_short_enough (stored_at cursor 0 m) ≡ true → is_countable (m ∷ []) cursor ≡ true)
-unfolding is_countable
-countable_one m cursor =
-    let one = is_short_enough (stored_at cursor 0 m) in
-    (λ is. (and_parts one true (and_parts true (one && true) is).1).0, λ is. and_from true (one && true) refl (and_from one true is refl))
+  pub few : is_short_enough (stored_at 1 0 (stub_of (message_in Second s))) ≡ true
+  pub less : length (stored_bytes Second (stored_at 1 0 (stub_of (message_in Second s)))) ≤ length (stored_bytes Second s)
 
 pub leaves_less : (s : Stored) → IsStored Second s → MayStandAlone s → LeavesLess s
 unfolding stored_at
 leaves_less s size alone =
     let m = message_in Second s in
     let cursor = cursor_alone s in
-    let saved = again s size alone in
     let is : IsLess (is_short Second cursor 0 m) m (stub_of m) = less_of cursor m (msgid_of m.echo.kept) refl in
-    let was : stored_bytes Second (stored_at cursor 0 m) ≡ stored_bytes Second s = sym (saved_one m cursor) ∙ ap (λ (l : List ℕ). drop 16 l) saved.same ∙ head_long cursor 1 (stored_bytes Second s) in
+    let was : stored_as (is_short Second cursor 0 m) m ≡ s = alone_again s size alone in
+    let long = ap (λ (x : Stored). length (stored_bytes Second x)) was in
     record {
-      few = (countable_one (stub_of m) 1).1 (is.few ((countable_one m cursor).0 saved.countable));
-      less =
-          let now = ap (λ (l : List ℕ). length l) (saved_one (stub_of m) 1) in
-          let then = ap (λ (l : List ℕ). length l) was in
-          let less = is.less in
-          omega (arith, now, then, less);
+      few = is.few (ap is_short_enough was ∙ lt-ltb (length s.last) (2 ^ 32) size.last);
+      less = let less = is.less in omega (arith, less, long);
     }

@@ -8,6 +8,7 @@ use Rattle.base_log.specs.Moments.{IsBeforeOrAfter, KeepsOutside, StandsAlone}
 use Rattle.base_log.specs.Standing.{BaseBytes, StandsFor}
 use Rattle.base_log.proofs.Quiet.{base_quiet}
 use Rattle.base_file.specs.Base.{Base}
+use Rattle.echo_filed.specs.Filed.{Filed}
 use Rattle.base_store.specs.Store.{Commits, CommitsNothing, GoesOn, HasStoreCause, IsSameStore, KeepsBeside, LooksOn, MayCommit, LeavesCommitted, LeavesEither, StoreState}
 use Rattle.base_store.specs.declared.store_error.StoreError.{StoreError}
 use Rattle.base_store.specs.declared.store_error.StoreError.TheVariants as error
@@ -21,7 +22,7 @@ use Rattle.base_folder_store.proofs.Bases.{open_quiet}
 use Rattle.base_store.proofs.Causes.{same_error}
 
 -- a look at the disk is one at the store
-pub looks : (d e : DiskState) (keyed : ℕ → ℕ → List ℕ → ℕ) (f : Folder) (h k : Option Base) → IsUsable d f → ChangesNothing d e → LooksOn (state_of d keyed f h) (state_of e keyed f k)
+pub looks : (d e : DiskState) (keyed : ℕ → ℕ → List ℕ → ℕ) (f : Folder) (h k : Option Filed) → IsUsable d f → ChangesNothing d e → LooksOn (state_of d keyed f h) (state_of e keyed f k)
 looks d e keyed f h k usable quiet =
     let held : held_by e f ≡ held_by d f = ap (λ (b : BaseBytes). and_waiting b f.waiting) (base_quiet d e (path_of f) f.told quiet) in
     let told : committed_by e f ≡ committed_by d f = base_quiet d e (path_of f) f.end.told quiet in
@@ -35,18 +36,18 @@ looks d e keyed f h k usable quiet =
     }
 
 -- the same folder, by its path
-pub same_folder : (d e : DiskState) (keyed : ℕ → ℕ → List ℕ → ℕ) (f g : Folder) (h k : Option Base) → path_of g ≡ path_of f → IsSameStore (state_of d keyed f h) (state_of e keyed g k)
+pub same_folder : (d e : DiskState) (keyed : ℕ → ℕ → List ℕ → ℕ) (f g : Folder) (h k : Option Filed) → path_of g ≡ path_of f → IsSameStore (state_of d keyed f h) (state_of e keyed g k)
 same_folder d e keyed f g h k path = record {
   stands = λ base c. (subst (λ (p : List ℕ). StandsForBase keyed p base c) path, subst (λ (p : List ℕ). StandsForBase keyed p base c) (sym path));
   own = λ m. (subst (λ (p : List ℕ). IsIn p m) path, subst (λ (p : List ℕ). IsIn p m) (sym path));
   undoes = (λ x. x, λ x. x);
 }
 
-pub beside : (d e : DiskState) (keyed : ℕ → ℕ → List ℕ → ℕ) (f g : Folder) (h k : Option Base) → KeepsOutside (path_of f) d e → KeepsBeside (state_of d keyed f h) (state_of e keyed g k)
+pub beside : (d e : DiskState) (keyed : ℕ → ℕ → List ℕ → ℕ) (f g : Folder) (h k : Option Filed) → KeepsOutside (path_of f) d e → KeepsBeside (state_of d keyed f h) (state_of e keyed g k)
 beside d e keyed f g h k kept = record { seen = kept.seen; named = kept.named; flushed = kept.flushed; alone = kept.alone; honest = kept.honest }
 
 -- what was staged is not committed
-pub stages : (d e : DiskState) (keyed : ℕ → ℕ → List ℕ → ℕ) (f g : Folder) (h k : Option Base) → path_of g ≡ path_of f → StagesOnly (path_of f) (committed_by d f) d e → CommitsNothing (state_of d keyed f h) (state_of e keyed g k)
+pub stages : (d e : DiskState) (keyed : ℕ → ℕ → List ℕ → ℕ) (f g : Folder) (h k : Option Filed) → path_of g ≡ path_of f → StagesOnly (path_of f) (committed_by d f) d e → CommitsNothing (state_of d keyed f h) (state_of e keyed g k)
 stages d e keyed f g h k path run = record {
   any_moment = λ honest base is.
       weaker_run d e (StandsAlone (path_of f) d (committed_by d f)) (LeavesCommitted (state_of d keyed f h) base) (run.any_moment honest)
@@ -56,7 +57,7 @@ stages d e keyed f g h k path run = record {
 }
 
 -- the store goes on where the folder is still open, and what was committed is so still
-pub went_on : {T : Type 0} (d e : DiskState) (keyed : ℕ → ℕ → List ℕ → ℕ) (f g : Folder) (h k : Option Base) (r : Result T StoreError) → StaysOpen f g e r → Honestly e (OnOk r (committed_by e g ≡ committed_by d f))
+pub went_on : {T : Type 0} (d e : DiskState) (keyed : ℕ → ℕ → List ℕ → ℕ) (f g : Folder) (h k : Option Filed) (r : Result T StoreError) → StaysOpen f g e r → Honestly e (OnOk r (committed_by e g ≡ committed_by d f))
     → KeepsOutside (path_of f) d e → OnOk r (GoesOn (state_of d keyed f h) (state_of e keyed g k))
 went_on d e keyed f g h k (Ok done) stays same kept = record {
   ready = record { named = stays.named; opened = stays.opened };
@@ -71,7 +72,7 @@ usable_after e g (Ok done) named opened = record { named = named; opened = opene
 usable_after e g (Err failed) named opened = tt
 
 -- what was held is committed
-pub committed : {T : Type 0} (d e : DiskState) (keyed : ℕ → ℕ → List ℕ → ℕ) (f g : Folder) (h k : Option Base) (r : Result T StoreError) → StaysOpen f g e r → IsAcknowledged d e f g r → KeepsOutside (path_of f) d e
+pub committed : {T : Type 0} (d e : DiskState) (keyed : ℕ → ℕ → List ℕ → ℕ) (f g : Folder) (h k : Option Filed) (r : Result T StoreError) → StaysOpen f g e r → IsAcknowledged d e f g r → KeepsOutside (path_of f) d e
     → OnOk r (Commits (state_of d keyed f h) (state_of e keyed g k))
 committed d e keyed f g h k (Ok ok) stays done kept = record {
   ready = record { named = stays.named; opened = stays.opened };
@@ -87,7 +88,7 @@ either_stands : (keyed : ℕ → ℕ → List ℕ → ℕ) (path : List ℕ) (fi
 either_stands keyed path first next before now c was is (inl stands) = inl (record { bytes = before; stands = stands; holds = was })
 either_stands keyed path first next before now c was is (inr stands) = inr (record { bytes = now; stands = stands; holds = is })
 
-pub may_commit : (d e : DiskState) (keyed : ℕ → ℕ → List ℕ → ℕ) (f g : Folder) (h k : Option Base) → path_of g ≡ path_of f → CommitsOnly (path_of f) (committed_by d f) (held_by d f) d e
+pub may_commit : (d e : DiskState) (keyed : ℕ → ℕ → List ℕ → ℕ) (f g : Folder) (h k : Option Filed) → path_of g ≡ path_of f → CommitsOnly (path_of f) (committed_by d f) (held_by d f) d e
     → MayCommit (state_of d keyed f h) (state_of e keyed g k)
 may_commit d e keyed f g h k path run = record {
   any_moment = λ honest first next was is.

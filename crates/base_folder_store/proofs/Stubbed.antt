@@ -8,13 +8,14 @@ use Rattle.echo_filed.specs.Filed.{Filed, IsFiled, key_of}
 use Rattle.echo_filed.specs.Stubs.{is_stub, stub_of}
 use Rattle.echo_filed.proofs.Keys.{stub_keeps_key}
 use Rattle.base_log.specs.Standing.{BaseBytes}
+use Rattle.base_file.specs.Alone.{IsStoredAlone}
 use Rattle.base_file.specs.Base.{AreNew, Base, IsBase, is_known}
 use Rattle.base_file.proofs.StubBases.{stubs_keep}
 use Rattle.base_store.specs.Keys.{digest_at, digested, digested_key}
 use Rattle.base_store.proofs.Digests.{of_key}
 use Rattle.base_store.proofs.Told.{tells_each}
 use Rattle.base_store.specs.Store.{purged}
-use Rattle.base_folder_store.specs.Added.{IsStoredAlone, with_stored}
+use Rattle.base_folder_store.specs.Added.{with_stored}
 use Rattle.base_folder_store.specs.Held.{HoldsBase, digest_by}
 use Rattle.base_folder_store.specs.Left.{changed_in, first_left, left_if}
 use Rattle.base_folder_store.proofs.OneMore.{holds_more}

@@ -2,20 +2,12 @@
 use Rattle.std.specs.Prelude.{◌≡◌, ◌≢◌, ◌⊎◌, ℕ, ◌+◌, ◌<◌, ◌≤◌, ◌^◌, false, true, List, ◌++◌, length}
 use Rattle.disk_io.specs.Disk.{Files}
 use Rattle.echo_filed.specs.Filed.{Filed}
-use Rattle.echo_filed.specs.Stored.{IsStored, Stored, is_short_enough, message_in, stored_as, stored_bytes}
+use Rattle.echo_filed.specs.Stored.{is_short_enough, stored_as, stored_bytes}
 use Rattle.echo_filed.specs.declared.stored.Version.TheVariants.{Second}
 use Rattle.base_log.specs.Names.{keys_of, messages_of}
 use Rattle.base_log.specs.Standing.{BaseBytes, and_keys, and_messages}
-use Rattle.base_store.specs.Keys.{MayStandAlone, entry}
+use Rattle.base_store.specs.Keys.{entry}
 use Rattle.base_folder_store.specs.declared.folder.Folder.{Folder}
-
--- The bytes are this message, as a base file may have it alone.
-pub record IsStoredAlone (m : Filed) (bytes : List ℕ) : Type 0 where
-  pub s : Stored
-  pub size : IsStored Second s
-  pub alone : MayStandAlone s
-  pub is : message_in Second s ≡ m
-  pub same : bytes ≡ stored_bytes Second s
 
 -- The bytes of one message more, with its entry.
 abbrev pub with_stored : BaseBytes → List ℕ → ℕ → BaseBytes

@@ -1,11 +1,11 @@
 -- What reads of a base folder answer.
-use Rattle.std.specs.Prelude.{◌≡◌, ◌≤◌, ◌<◌, ℕ, Bool, true, List, [], ◌∷◌, length, slice_index_or, Result, Ok, Err, IsErrOf}
+use Rattle.std.specs.Prelude.{◌≡◌, ◌≤◌, ◌<◌, ℕ, Bool, true, List, length, slice_index_or, Result, Ok, Err, IsErrOf}
 use Rattle.disk_io.specs.Device.{Failed}
-use Rattle.base_file.specs.Base.{Base}
+use Rattle.base_file.specs.Alone.{MayStandAlone}
 use Rattle.echo_filed.specs.Filed.{Filed}
 use Rattle.echo_filed.specs.Stored.{IsStored, Stored, message_in, stored_bytes}
 use Rattle.echo_filed.specs.declared.stored.Version.TheVariants.{Second}
-use Rattle.base_store.specs.Keys.{MayStandAlone, digest_at}
+use Rattle.base_store.specs.Keys.{digest_at}
 use Rattle.base_store.specs.declared.store_error.StoreError.{StoreError}
 use Rattle.base_store.specs.declared.store_error.StoreError.TheVariants as error
 
@@ -19,10 +19,6 @@ Answers P (Err _) = Unit {0}
 pub record HasReadCause {T : Type 0} (before now : ℕ) (result : Result T StoreError) : Type 0 where
   pub later : before ≤ now
   pub failed : IsErrOf result error.Device → Failed before now
-
--- A base with just the message of this number.
-abbrev pub IsAloneOf : List Filed → ℕ → Base → Type 0
-IsAloneOf messages place alone = (d : Filed) → alone.messages ≡ slice_index_or messages place d ∷ []
 
 -- The bytes are those of the message of this number, as it is stored.
 pub record IsStoredOf (messages : List Filed) (place : ℕ) (bytes : List ℕ) : Type 0 where

@@ -1,7 +1,6 @@
 -- A base folder as a store of messages.
-use Rattle.std.specs.Prelude.{ℕ, List, Option, Some, None, slice_get}
+use Rattle.std.specs.Prelude.{ℕ, List, Option}
 use Rattle.disk_io.specs.Disk.{DiskState, Honestly, IsIn}
-use Rattle.base_file.specs.Base.{Base}
 use Rattle.echo_filed.specs.Filed.{Filed}
 use Rattle.base_store.specs.Index.{IsIndexOf}
 use Rattle.base_store.specs.declared.index.Index.{Index}
@@ -11,24 +10,19 @@ use Rattle.base_folder_store.specs.Held.{HoldsBase, StandsForBase}
 use Rattle.base_folder_store.specs.Opened.{IsNamed, IsOpen, committed_by, held_by, path_of}
 use Rattle.base_folder_store.specs.declared.folder.Folder.{Folder}
 
--- The message of a base that has it alone.
-abbrev pub only_message : Option Base → Option Filed
-only_message None = None
-only_message (Some alone) = slice_get alone.messages 0
-
 -- It has the paths of its files, and where the disk was honest these are as it knows them.
 pub record IsUsable (disk : DiskState) (folder : Folder) : Type 0 where
   pub named : IsNamed folder
   pub opened : Honestly disk (IsOpen disk folder)
 
 -- What an open base folder is as a store: a call that fails in the middle of a change is not taken back.
-abbrev pub state_of : DiskState → (ℕ → ℕ → List ℕ → ℕ) → Folder → Option Base → StoreState
-state_of disk keyed folder alone = record {
+abbrev pub state_of : DiskState → (ℕ → ℕ → List ℕ → ℕ) → Folder → Option Filed → StoreState
+state_of disk keyed folder message = record {
   disk = disk;
   is_ready = IsUsable disk folder;
   keeps = λ base. HoldsBase keyed (held_by disk folder) base;
   committed = λ base. HoldsBase keyed (committed_by disk folder) base;
-  at_hand = only_message alone;
+  at_hand = message;
   stands = λ base c. StandsForBase keyed (path_of folder) base c;
   is_own = λ m. IsIn (path_of folder) m;
   undoes = ⊥;

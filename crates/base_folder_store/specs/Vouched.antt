@@ -4,7 +4,8 @@ use Rattle.disk_io.specs.Disk.{DiskState, Honestly}
 use Rattle.echo_filed.specs.Stored.{IsStored, Stored, message_in}
 use Rattle.echo_filed.specs.declared.stored.Version.TheVariants.{Second}
 use Rattle.base_log.specs.Standing.{BaseBytes}
-use Rattle.base_store.specs.Keys.{HasBytesOf, MayStandAlone, digest_at, digested}
+use Rattle.base_file.specs.Alone.{MayStandAlone}
+use Rattle.base_store.specs.Keys.{HasBytesOf, digest_at, digested}
 use Rattle.base_folder_store.specs.Held.{digest_by}
 use Rattle.base_folder_store.specs.Opened.{IsLegible, IsWritten}
 use Rattle.base_folder_store.specs.declared.folder.Folder.{Folder}

@@ -8,7 +8,7 @@ ghost use Rattle.base_folder_store.specs.Owned.{IsUnclaimed, owner_of, with_mark
 ghost use Rattle.base_folder_store.specs.State.{IsIndexed, state_of, where_so};
 ghost use Rattle.base_store.specs.Store.{CommitsNothing, GoesOn, LooksOn};
 
-use crate::alone::{Alone, bytes_alone};
+use crate::alone::bytes_alone;
 use crate::folder::Folder;
 use crate::sought::Id;
 use base_log::FolderIdentity;
@@ -29,7 +29,7 @@ pub struct FolderStore<D: Disk, H: Digest> {
     folder: Folder,
     index: Index,
     // The current message.
-    alone: Option<Alone>,
+    message: Option<Filed>,
     digests: PhantomData<H>,
 }
 
@@ -51,7 +51,7 @@ impl<D: Disk, H: Digest> FolderStore<D, H> {
             disk,
             folder,
             index: Index::new(alloc),
-            alone: None,
+            message: None,
             digests: PhantomData,
         }
     }
@@ -114,7 +114,7 @@ impl<D: Disk, H: Digest> FolderStore<D, H> {
 }
 
 impl<D: Disk, H: Digest> Store for FolderStore<D, H> {
-    ghost state = { λ store. where_so (state_of (D.state store.disk) H.keyed store.folder store.alone) (IsIndexed (D.state store.disk) store.folder store.index) };
+    ghost state = { λ store. where_so (state_of (D.state store.disk) H.keyed store.folder store.message) (IsIndexed (D.state store.disk) store.folder store.index) };
 
     ghost failures = { λ store. D.failures store.disk };
 
@@ -148,14 +148,13 @@ impl<D: Disk, H: Digest> Store for FolderStore<D, H> {
         if place >= self.folder.count() {
             return Err(StoreError::Damaged);
         }
-        let alone = self.folder.read(self.alloc, &mut self.disk, place)?;
-        self.alone = Some(alone);
+        let message = self.folder.read(self.alloc, &mut self.disk, place)?;
+        self.message = Some(message);
         Ok(())
     }
 
     fn at_hand(&self) -> Option<&Filed> {
-        let alone = self.alone.as_ref()?;
-        alone.message(0)
+        self.message.as_ref()
     }
 
     fn file(&mut self, key: Key, message: Filed) -> Result<(), StoreError> {

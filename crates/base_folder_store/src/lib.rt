@@ -25,7 +25,7 @@ mod sought;
 mod vouching;
 mod waiting;
 
-pub use alone::{Alone, bytes_alone, read_alone};
+pub use alone::{bytes_alone, read_alone};
 pub use folder::Folder;
 pub use folder_store::FolderStore;
 pub use laws::one_message_more;

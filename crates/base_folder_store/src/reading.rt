@@ -1,5 +1,5 @@
 //! Messages and keys of an open base folder, read from its files and from what waits to be written.
-ghost use Rattle.std.specs.Prelude.{◌≡◌, ◌≤◌, ◌<◌, ◌+◌, ◌-◌, ◌*◌, ◌^◌, ◌/◌, ◌++◌, List, length, min, IfOk, IsErrOf, IfSome, IsSome, drop, take};
+ghost use Rattle.std.specs.Prelude.{◌≡◌, ◌≤◌, ◌<◌, ◌+◌, ◌-◌, ◌*◌, ◌^◌, ◌/◌, ◌++◌, List, length, min, IfOk, IsErrOf, IfSome, IsSome, Some, drop, slice_get, take};
 ghost use Rattle.disk_io.specs.Disk.{Honestly, bytes_in};
 ghost use Rattle.disk_io.specs.Runs.{ChangesNothing, HasCause};
 ghost use Rattle.echo_filed.specs.Filed.{Filed};
@@ -8,13 +8,14 @@ ghost use Rattle.echo_filed.specs.declared.stored.Version.TheVariants.{Second};
 ghost use Rattle.base_store.specs.Index.{IsIndexOf};
 ghost use Rattle.base_store.specs.Keys.{HasBytesOf, IsPieceOf, StandWhereTold, digest_at};
 ghost use Rattle.base_folder_store.specs.Added.{next_place};
-ghost use Rattle.base_folder_store.specs.Answers.{Answers, HasReadCause, IsAloneOf, IsStoredOf};
+ghost use Rattle.base_folder_store.specs.Answers.{Answers, HasReadCause, IsStoredOf};
 ghost use Rattle.base_folder_store.specs.Opened.{IsLegible, held_by};
 
-use crate::alone::{Alone, read_alone};
+use crate::alone::read_alone;
 use crate::folder::{ENTRY, Folder};
 use base_store::{Index, StoreError, digest_of, end_of, place_of};
 use disk_io::{Disk, DiskError, read_part};
+use echo_filed::Filed;
 use std::alloc::Global;
 
 // The bytes between two places of a file, of which the last ones wait to be written.
@@ -196,11 +197,11 @@ impl Folder {
         alloc: Global,
         disk: &mut D,
         place: usize,
-    ) -> Result<Alone, StoreError>
+    ) -> Result<Filed, StoreError>
         requires legible { Honestly (D.state disk.old) (IsLegible (D.state disk.old) self.now) }
         requires within { place < self.now.keys / 16 }
         ensures read { Honestly (D.state disk.new) ((base : List Filed) → StandWhereTold base (held_by (D.state disk.old) self.now).messages (held_by (D.state disk.old) self.now).keys
-            → place < length base → Answers (IsAloneOf base place) result) }
+            → place < length base → Answers (λ message. slice_get base place ≡ Some message) result) }
         ensures quiet { ChangesNothing (D.state disk.old) (D.state disk.new) }
         ensures cause { HasReadCause (D.failures disk.old) (D.failures disk.new) result }
         ensures many { IsErrOf result StoreError.TooMany → 2 ^ 64 ≤ next_place self.now }

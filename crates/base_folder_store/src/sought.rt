@@ -1,14 +1,13 @@
 //! Which message of a base folder is sought.
 ghost use Rattle.std.specs.Prelude.{◌≡◌, Bool, true, IfOk, IsErrOf, IsTrue};
-ghost use Rattle.std.specs.List.{list_any};
 ghost use Rattle.echo_filed.specs.Filed.{Filed, has_id, key_of, same_key};
-ghost use Rattle.base_folder_store.specs.Added.{IsStoredAlone};
+ghost use Rattle.base_file.specs.Alone.{IsStoredAlone};
 ghost use Rattle.base_folder_store.specs.Answers.{Answers};
 
-use crate::alone::{Alone, read_alone};
+use crate::alone::read_alone;
 use crate::front::{has_plain_id, has_plain_tag, text_in};
 use base_store::StoreError;
-use echo_filed::Key;
+use echo_filed::{Filed, Key};
 use std::alloc::{AllocError, Global};
 
 /// The property of a sought message.
@@ -20,8 +19,8 @@ pub trait Sought {
         ensures { IsTrue result → (m : Filed) → IsStoredAlone m bytes.now → test self.now m ≡ true };
 
     /// Whether the message is one.
-    fn is_in(&self, alone: &Alone) -> Result<bool, AllocError>
-        ensures { IfOk result (λ found. found ≡ list_any (test self.now) alone.now.messages) };
+    fn matches(&self, alloc: Global, message: &Filed) -> Result<bool, AllocError>
+        ensures { IfOk result (λ found. found ≡ test self.now message.now) };
 }
 
 impl Sought for Key {
@@ -37,8 +36,9 @@ impl Sought for Key {
         has_plain_tag(text, tag.as_slice()) && has_plain_id(text, msgid.as_slice())
     }
 
-    fn is_in(&self, alone: &Alone) -> Result<bool, AllocError> {
-        Ok(alone.knows(self))
+    fn matches(&self, alloc: Global, message: &Filed) -> Result<bool, AllocError> {
+        let key = Key::of_message(alloc, message)?;
+        Ok(key == *self)
     }
 }
 
@@ -58,8 +58,11 @@ impl Sought for Id<'_> {
         has_plain_id(text, self.msgid)
     }
 
-    fn is_in(&self, alone: &Alone) -> Result<bool, AllocError> {
-        alone.has_id(self.msgid)
+    fn matches(&self, _alloc: Global, message: &Filed) -> Result<bool, AllocError> {
+        match message.echo.msgid() {
+            Some(msgid) => Ok(self.msgid == msgid),
+            None => Ok(false),
+        }
     }
 }
 
@@ -72,6 +75,6 @@ pub fn is_stored<W: Sought>(alloc: Global, sought: &W, bytes: &[u8]) -> Result<b
     if sought.matches_by_header(bytes) {
         return Ok(true);
     }
-    let alone = read_alone(alloc, bytes)?;
-    Ok(sought.is_in(&alone)?)
+    let message = read_alone(alloc, bytes)?;
+    Ok(sought.matches(alloc, &message)?)
 }

@@ -1,8 +1,7 @@
 //! A folder that is read and never changed: its messages, each with the digest of its entry.
-ghost use Rattle.std.specs.Prelude.{◌≡◌, ◌<◌, ◌/◌, ◌↔◌, [], ◌∷◌, IfOk, IsErrOf, IsTrue, OnOk};
+ghost use Rattle.std.specs.Prelude.{◌≡◌, ◌<◌, ◌/◌, ◌↔◌, IfOk, IsErrOf, IsTrue, OnOk};
 ghost use Rattle.disk_io.specs.Disk.{Honestly};
 ghost use Rattle.disk_io.specs.Runs.{ChangesNothing};
-ghost use Rattle.echo_filed.specs.Filed.{Filed};
 ghost use Rattle.echo_filed.specs.Stored.{Stored, message_in};
 ghost use Rattle.echo_filed.specs.declared.stored.Version.TheVariants.{Second};
 ghost use Rattle.base_store.specs.Keys.{digested};
@@ -11,13 +10,13 @@ ghost use Rattle.base_folder_store.specs.Held.{digest_by};
 ghost use Rattle.base_folder_store.specs.Opened.{IsFresh, IsLegible, IsWritten, held_by};
 ghost use Rattle.base_folder_store.specs.Vouched.{HasDigest, IsThere, IsVouched};
 
-use crate::alone::{Alone, read_alone};
+use crate::alone::read_alone;
 use crate::folder::Folder;
 use crate::waiting::Waiting;
 use base_log::{Log, Names};
 use base_store::{Digest, StoreError, bytes_of_key};
 use disk_io::Disk;
-use echo_filed::Key;
+use echo_filed::{Filed, Key};
 use std::alloc::{AllocError, Global};
 
 impl Folder {
@@ -46,12 +45,12 @@ impl Folder {
         alloc: Global,
         disk: &mut D,
         place: usize,
-    ) -> Result<Alone, StoreError>
+    ) -> Result<Filed, StoreError>
         requires legible { Honestly (D.state disk.old) (IsLegible (D.state disk.old) self.now) }
         requires within { place < self.now.keys / 16 }
         requires written { IsWritten self.now }
         ensures message { Honestly (D.state disk.new) ((s : Stored) → IsThere (held_by (D.state disk.old) self.now) place s → HasDigest H.keyed (held_by (D.state disk.old) self.now) place s
-            → Answers (λ alone. alone.messages ≡ message_in Second s ∷ []) result) }
+            → Answers (λ message. message ≡ message_in Second s) result) }
         ensures vouched { Honestly (D.state disk.new) (OnOk result (IsVouched H.keyed (held_by (D.state disk.old) self.now) place)) }
         ensures quiet { ChangesNothing (D.state disk.old) (D.state disk.new) }
         ensures cause { HasReadCause (D.failures disk.old) (D.failures disk.new) result }
@@ -60,9 +59,9 @@ impl Folder {
         // Eight bytes count the messages, so `TooMany` never comes.
         let _counted = self.told.messages;
         let stored = self.stored(alloc, disk, None, place)?;
-        let alone = read_alone(alloc, &stored.bytes)?;
-        if self.has_digest::<H>(alloc, &alone, stored.digest)? {
-            Ok(alone)
+        let message = read_alone(alloc, &stored.bytes)?;
+        if self.has_digest::<H>(alloc, &message, stored.digest)? {
+            Ok(message)
         } else {
             Err(StoreError::Damaged)
         }
@@ -72,15 +71,11 @@ impl Folder {
     fn has_digest<H: Digest>(
         &self,
         alloc: Global,
-        alone: &Alone,
+        message: &Filed,
         digest: u64,
     ) -> Result<bool, AllocError>
-        ensures { (m : Filed) → alone.now.messages ≡ m ∷ []
-            → IfOk result (λ has. IsTrue has ↔ (digest ≡ digest_by H.keyed self.now.told.mark (digested m))) }
+        ensures { IfOk result (λ has. IsTrue has ↔ (digest ≡ digest_by H.keyed self.now.told.mark (digested message.now))) }
     {
-        let Some(message) = alone.message(0) else {
-            return Ok(false);
-        };
         let key = Key::of_message(alloc, message)?;
         let digested = bytes_of_key(alloc, &key)?;
         Ok(digest == self.digest::<H>(&digested))

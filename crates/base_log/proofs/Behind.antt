@@ -5,7 +5,7 @@ use Rattle.std.proofs.lemmas.List.{take_at, take-take, take-append-le}
 use Rattle.std.specs.Prelude.{IsSome}
 use Rattle.disk_io.specs.Disk.{DiskState, Files, bytes_in, IsIn}
 use Rattle.disk_io.specs.Steps.{IsWrittenAt, TornWrite, ChangesFile}
-use Rattle.disk_io.specs.Runs.{OneStepOn, LeavesOneStepOn, LeavesOnly, Elapses}
+use Rattle.disk_io.specs.Runs.{OneStepOn, LeavesOnly}
 use Rattle.disk_io.specs.Synced.{KeepsOthers}
 use Rattle.disk_io.proofs.Moments.{one_call, weaker_run}
 use Rattle.disk_io.proofs.Tearing.{TornWrite-none, ChangesFile-none}
@@ -16,6 +16,7 @@ use Rattle.base_log.specs.AtRest.{IsLogAt, IsStaged}
 use Rattle.base_log.specs.Moments.{StandsAlone}
 use Rattle.base_log.specs.declared.log.CommitRecord.{CommitRecord}
 use Rattle.base_log.specs.declared.log.End.{End}
+use Rattle.base_log.proofs.Calls.{Wrote, others_kept}
 use Rattle.base_log.proofs.Logs.{shut_log, shut_at}
 use Rattle.base_log.proofs.Paths.{log_not_messages, log_not_keys, messages_not_keys, keys_not_messages, messages_of-injective, keys_of-injective, messages_in, keys_in}
 use Rattle.base_log.proofs.Same.{front_long, tells_by}
@@ -124,24 +125,24 @@ module _ (d0 d : DiskState) (path : List ℕ) (end : End) (told : CommitRecord) 
         stands = messages_stand a c (staged.stands a from.1) a_is same torn.there (λ le is. front_torn now.messages told.messages n (a file) (c file) le is torn);
       }
 
-  pub messages_run : (n : ℕ) → Elapses d0 d → LeavesOneStepOn (ChangesFile d0 (messages_of path told.number) (TornWrite told.messages n)) d0 d → LeavesOnly d0 d (StandsAlone path d0 now)
-  messages_run n time crash =
+  pub messages_run : (n : ℕ) → Wrote d0 d (messages_of path told.number) told.messages n → LeavesOnly d0 d (StandsAlone path d0 now)
+  messages_run n call =
       let file = messages_of path told.number in
       let step = TornWrite told.messages n in
       weaker_run d0 d (OneStepOn (ChangesFile d0 file step) d0) (StandsAlone path d0 now)
-      (one_call d0 d (ChangesFile d0 file step) (ChangesFile-none d0 file step (TornWrite-none told.messages n)) time crash) (messages_torn n)
+      (one_call d0 d (ChangesFile d0 file step) (ChangesFile-none d0 file step (TornWrite-none told.messages n)) call (λ a c left step. step)) (messages_torn n)
 
-  module _ (bytes : List ℕ) (kept : KeepsOthers d0 d (messages_of path told.number))
+  module _ (bytes : List ℕ) (call : Wrote d0 d (messages_of path told.number) told.messages (length bytes))
       (written : IsWrittenAt (bytes_in (d0.seen (messages_of path told.number))) told.messages bytes (bytes_in (d.seen (messages_of path told.number)))) where
     pub messages_same : base_at d path end.told ≡ now
     messages_same =
-        let k_same = kept.seen (keys_of path end.told.number) (keys_not_messages path end.told.number told.number) in
+        let k_same = call.beside (keys_of path end.told.number) (keys_not_messages path end.told.number told.number) in
         let front_same : take end.told.messages (bytes_in (d.seen (messages_of path end.told.number))) ≡ now.messages =
         elim (cases_eq told.number end.told.number) [
           | inl is ↦
               subst (λ (k : ℕ). take end.told.messages (bytes_in (d.seen (messages_of path k))) ≡ take end.told.messages (bytes_in (d0.seen (messages_of path k)))) is
               (written_front (bytes_in (d0.seen (messages_of path told.number))) bytes (bytes_in (d.seen (messages_of path told.number))) told.messages end.told.messages (staged.messages_behind is) staged.messages_long written)
-          | inr ne ↦ ap (λ f. take end.told.messages (bytes_in f)) (kept.seen (messages_of path end.told.number) (λ e. ne (sym (messages_of-injective path end.told.number told.number e))))
+          | inr ne ↦ ap (λ f. take end.told.messages (bytes_in f)) (call.beside (messages_of path end.told.number) (λ e. ne (sym (messages_of-injective path end.told.number told.number e))))
         ] in
         λ i. record { messages = front_same i; keys = take end.told.keys (bytes_in (k_same i)); cursor = end.told.cursor; mark = end.told.mark }
 
@@ -150,24 +151,24 @@ module _ (d0 d : DiskState) (path : List ℕ) (end : End) (told : CommitRecord) 
 
     pub messages_added : base_at d path more_messages ≡ and_messages (base_at d0 path told) bytes
     messages_added =
-        let k_same = kept.seen (keys_of path told.number) (keys_not_messages path told.number told.number) in
+        let k_same = call.beside (keys_of path told.number) (keys_not_messages path told.number told.number) in
         let grown = written_grown (bytes_in (d0.seen (messages_of path told.number))) bytes (bytes_in (d.seen (messages_of path told.number))) told.messages staged.messages_long written in
         λ i. record { messages = grown i; keys = take told.keys (bytes_in (k_same i)); cursor = told.cursor; mark = told.mark }
 
-    pub messages_staged : IsSome (d.seen (messages_of path told.number)) → LeavesOneStepOn (ChangesFile d0 (messages_of path told.number) (TornWrite told.messages (length bytes))) d0 d → IsStaged d path end more_messages
-    messages_staged there crash =
-        let k_same = kept.seen (keys_of path told.number) (keys_not_messages path told.number told.number) in
+    pub messages_staged : IsSome (d.seen (messages_of path told.number)) → IsStaged d path end more_messages
+    messages_staged there =
+        let k_same = call.beside (keys_of path told.number) (keys_not_messages path told.number told.number) in
         record {
-          log = log_kept d0 d path (messages_of path told.number) end (log_not_messages path told.number) kept staged.log;
-          stands = λ c left. subst (λ (b : BaseBytes). StandsFor path b c) (sym messages_same) (messages_torn (length bytes) c (crash c left)).stands;
+          log = log_kept d0 d path (messages_of path told.number) end (log_not_messages path told.number) (others_kept d0 d (messages_of path told.number) told.messages (length bytes) call) staged.log;
+          stands = λ c left. subst (λ (b : BaseBytes). StandsFor path b c) (sym messages_same) (messages_torn (length bytes) c (call.crash c left)).stands;
           shown = subst (λ (b : BaseBytes). StandsFor path b d.seen) (sym messages_same)
-              (messages_stand d0.seen d.seen staged.shown refl kept.seen (λ was. there)
+              (messages_stand d0.seen d.seen staged.shown refl call.beside (λ was. there)
               (λ le is. written_front (bytes_in (d0.seen (messages_of path told.number))) bytes (bytes_in (d.seen (messages_of path told.number))) told.messages (length now.messages) le staged.messages_long written ∙ is));
           digit = staged.digit;
           messages_there = there;
           keys_there = subst (λ f. IsSome f) (sym k_same) staged.keys_there;
-          messages_alone = kept.alone (messages_of path told.number) staged.messages_alone;
-          keys_alone = kept.alone (keys_of path told.number) staged.keys_alone;
+          messages_alone = call.alone (messages_of path told.number) (λ h. h) staged.messages_alone;
+          keys_alone = call.alone (keys_of path told.number) (λ h. h) staged.keys_alone;
           messages_long = written_long (bytes_in (d0.seen (messages_of path told.number))) bytes (bytes_in (d.seen (messages_of path told.number))) told.messages staged.messages_long written;
           keys_long = subst (λ f. told.keys ≤ length (bytes_in f)) (sym k_same) staged.keys_long;
           messages_behind = λ is. let le = staged.messages_behind is in omega (arith, le);
@@ -226,24 +227,24 @@ module _ (d0 d : DiskState) (path : List ℕ) (end : End) (told : CommitRecord) 
         stands = keys_stand a c (staged.stands a from.1) a_is same torn.there (λ le is. front_torn now.keys told.keys n (a file) (c file) le is torn);
       }
 
-  pub keys_run : (n : ℕ) → Elapses d0 d → LeavesOneStepOn (ChangesFile d0 (keys_of path told.number) (TornWrite told.keys n)) d0 d → LeavesOnly d0 d (StandsAlone path d0 now)
-  keys_run n time crash =
+  pub keys_run : (n : ℕ) → Wrote d0 d (keys_of path told.number) told.keys n → LeavesOnly d0 d (StandsAlone path d0 now)
+  keys_run n call =
       let file = keys_of path told.number in
       let step = TornWrite told.keys n in
       weaker_run d0 d (OneStepOn (ChangesFile d0 file step) d0) (StandsAlone path d0 now)
-      (one_call d0 d (ChangesFile d0 file step) (ChangesFile-none d0 file step (TornWrite-none told.keys n)) time crash) (keys_torn n)
+      (one_call d0 d (ChangesFile d0 file step) (ChangesFile-none d0 file step (TornWrite-none told.keys n)) call (λ a c left step. step)) (keys_torn n)
 
-  module _ (bytes : List ℕ) (kept : KeepsOthers d0 d (keys_of path told.number))
+  module _ (bytes : List ℕ) (call : Wrote d0 d (keys_of path told.number) told.keys (length bytes))
       (written : IsWrittenAt (bytes_in (d0.seen (keys_of path told.number))) told.keys bytes (bytes_in (d.seen (keys_of path told.number)))) where
     pub keys_same : base_at d path end.told ≡ now
     keys_same =
-        let m_same = kept.seen (messages_of path end.told.number) (messages_not_keys path end.told.number told.number) in
+        let m_same = call.beside (messages_of path end.told.number) (messages_not_keys path end.told.number told.number) in
         let front_same : take end.told.keys (bytes_in (d.seen (keys_of path end.told.number))) ≡ now.keys =
         elim (cases_eq told.number end.told.number) [
           | inl is ↦
               subst (λ (k : ℕ). take end.told.keys (bytes_in (d.seen (keys_of path k))) ≡ take end.told.keys (bytes_in (d0.seen (keys_of path k)))) is
               (written_front (bytes_in (d0.seen (keys_of path told.number))) bytes (bytes_in (d.seen (keys_of path told.number))) told.keys end.told.keys (staged.keys_behind is) staged.keys_long written)
-          | inr ne ↦ ap (λ f. take end.told.keys (bytes_in f)) (kept.seen (keys_of path end.told.number) (λ e. ne (sym (keys_of-injective path end.told.number told.number e))))
+          | inr ne ↦ ap (λ f. take end.told.keys (bytes_in f)) (call.beside (keys_of path end.told.number) (λ e. ne (sym (keys_of-injective path end.told.number told.number e))))
         ] in
         λ i. record { keys = front_same i; messages = take end.told.messages (bytes_in (m_same i)); cursor = end.told.cursor; mark = end.told.mark }
 
@@ -252,24 +253,24 @@ module _ (d0 d : DiskState) (path : List ℕ) (end : End) (told : CommitRecord) 
 
     pub keys_added : base_at d path more_keys ≡ and_keys (base_at d0 path told) bytes
     keys_added =
-        let m_same = kept.seen (messages_of path told.number) (messages_not_keys path told.number told.number) in
+        let m_same = call.beside (messages_of path told.number) (messages_not_keys path told.number told.number) in
         let grown = written_grown (bytes_in (d0.seen (keys_of path told.number))) bytes (bytes_in (d.seen (keys_of path told.number))) told.keys staged.keys_long written in
         λ i. record { keys = grown i; messages = take told.messages (bytes_in (m_same i)); cursor = told.cursor; mark = told.mark }
 
-    pub keys_staged : IsSome (d.seen (keys_of path told.number)) → LeavesOneStepOn (ChangesFile d0 (keys_of path told.number) (TornWrite told.keys (length bytes))) d0 d → IsStaged d path end more_keys
-    keys_staged there crash =
-        let m_same = kept.seen (messages_of path told.number) (messages_not_keys path told.number told.number) in
+    pub keys_staged : IsSome (d.seen (keys_of path told.number)) → IsStaged d path end more_keys
+    keys_staged there =
+        let m_same = call.beside (messages_of path told.number) (messages_not_keys path told.number told.number) in
         record {
-          log = log_kept d0 d path (keys_of path told.number) end (log_not_keys path told.number) kept staged.log;
-          stands = λ c left. subst (λ (b : BaseBytes). StandsFor path b c) (sym keys_same) (keys_torn (length bytes) c (crash c left)).stands;
+          log = log_kept d0 d path (keys_of path told.number) end (log_not_keys path told.number) (others_kept d0 d (keys_of path told.number) told.keys (length bytes) call) staged.log;
+          stands = λ c left. subst (λ (b : BaseBytes). StandsFor path b c) (sym keys_same) (keys_torn (length bytes) c (call.crash c left)).stands;
           shown = subst (λ (b : BaseBytes). StandsFor path b d.seen) (sym keys_same)
-              (keys_stand d0.seen d.seen staged.shown refl kept.seen (λ was. there)
+              (keys_stand d0.seen d.seen staged.shown refl call.beside (λ was. there)
               (λ le is. written_front (bytes_in (d0.seen (keys_of path told.number))) bytes (bytes_in (d.seen (keys_of path told.number))) told.keys (length now.keys) le staged.keys_long written ∙ is));
           digit = staged.digit;
           keys_there = there;
           messages_there = subst (λ f. IsSome f) (sym m_same) staged.messages_there;
-          keys_alone = kept.alone (keys_of path told.number) staged.keys_alone;
-          messages_alone = kept.alone (messages_of path told.number) staged.messages_alone;
+          keys_alone = call.alone (keys_of path told.number) (λ h. h) staged.keys_alone;
+          messages_alone = call.alone (messages_of path told.number) (λ h. h) staged.messages_alone;
           keys_long = written_long (bytes_in (d0.seen (keys_of path told.number))) bytes (bytes_in (d.seen (keys_of path told.number))) told.keys staged.keys_long written;
           messages_long = subst (λ f. told.messages ≤ length (bytes_in f)) (sym m_same) staged.messages_long;
           keys_behind = λ is. let le = staged.keys_behind is in omega (arith, le);

@@ -2,7 +2,7 @@
 use Rattle.std.proofs.Common.{◌≡◌, ◌≢◌, ◌≤◌, inl, inr, ⊎_elim, ℕ, List, [], ◌∷◌, length, Option, refl, sym, ◌∙◌, ap, subst, arith}
 use Rattle.disk_io.specs.Disk.{DiskState, Files, bytes_in, IsIn}
 use Rattle.disk_io.specs.Steps.{TornMaking, TornWrite, ChangesFile}
-use Rattle.disk_io.specs.Runs.{OneStepOn, LeavesOneStepOn, LeavesOnly, Elapses, ChangesNothing}
+use Rattle.disk_io.specs.Runs.{OneStepOn, LeavesOnly, ChangesNothing}
 use Rattle.disk_io.specs.Synced.{IsOnDisk}
 use Rattle.disk_io.proofs.Moments.{no_call, then_nothing, then_run, then_call, left_now, weaker_run}
 use Rattle.base_log.specs.Names.{log_of, messages_of, keys_of}
@@ -10,6 +10,7 @@ use Rattle.base_log.specs.Log.{IsLog, IsShutAt}
 use Rattle.base_log.specs.Standing.{BaseBytes, IsEnded, IsFrontOf, IsNew, StandsFor}
 use Rattle.base_log.specs.Moments.{StandsAlone, SameOutside, KeepsOutside}
 use Rattle.base_log.specs.Opening.{AreFlushed, AreNamed, StandsOrWasLeft}
+use Rattle.base_log.proofs.Calls.{Made}
 use Rattle.base_log.proofs.Same.{tells_by}
 use Rattle.base_log.proofs.Gates.{outside_log}
 use Rattle.base_log.proofs.Paths.{log_in, messages_in, keys_in, messages_not_log, keys_not_log}
@@ -117,13 +118,13 @@ module _ (d0 d1 : DiskState) (path : List ℕ) (base : BaseBytes) (quiet : Chang
       then_run d0 d1 d (StandsOrWasLeft path d0 base) NewAlone (was_left d0 d1 path base quiet) run
       (λ c was. inl (record { outside = was.outside; stands = no_record path base d0.seen c stands (new_log path d0.seen new) (new_log path c was.is) (inr was.is) }))
 
-  module _ (d2 : DiskState) (time : Elapses d1 d2) (crash : LeavesOneStepOn (ChangesFile d1 (log_of path) TornMaking) d1 d2) where
+  module _ (d2 : DiskState) (call : Made d1 d2 (log_of path)) where
     log_named : d1.is_named (log_of path)
     log_named = quiet.named (log_of path) (λ h. h) (named (log_of path) (log_in path))
 
     made : LeavesOnly d1 d2 NewAlone
     made =
-        then_call d1 d1 d2 NewAlone (ChangesFile d1 (log_of path) TornMaking) new_first time crash
+        then_call d1 d1 d2 NewAlone (ChangesFile d1 (log_of path) TornMaking) new_first call
         (λ a c was step. new_changed a c was (λ m ne. step.beside m ne (inl log_named)) (making_short (a (log_of path)) (c (log_of path)) (step.within log_named) was.is.log))
 
     pub made_run : LeavesOnly d0 d2 (StandsOrWasLeft path d0 base)
@@ -154,10 +155,9 @@ module _ (d0 : DiskState) (path : List ℕ) (on : IsOnDisk d0 (log_of path)) whe
   pub log_alone_first : LeavesOnly d0 d0 LogAlone
   log_alone_first = no_call d0 LogAlone (λ c left. record { log = d0.on_disk (log_of path) on.named on.flushed c left; outside = λ m out named flushed. d0.on_disk m named flushed c left })
 
-  pub log_alone_made : (d e : DiskState) (file : List ℕ) → IsIn path file → log_of path ≢ file → d.is_named file → LeavesOnly d0 d LogAlone → Elapses d e
-      → LeavesOneStepOn (ChangesFile d file TornMaking) d e → LeavesOnly d0 e LogAlone
-  log_alone_made d e file inside ne named run time crash =
-      then_call d0 d e LogAlone (ChangesFile d file TornMaking) run time crash
+  pub log_alone_made : (d e : DiskState) (file : List ℕ) → IsIn path file → log_of path ≢ file → d.is_named file → LeavesOnly d0 d LogAlone → Made d e file → LeavesOnly d0 e LogAlone
+  log_alone_made d e file inside ne named run call =
+      then_call d0 d e LogAlone (ChangesFile d file TornMaking) run call
       (λ a c was changed. record {
         log = changed.beside (log_of path) ne (inl named) ∙ was.log;
         outside = λ m out is flushed. changed.beside m (λ e. out (subst (λ (l : List ℕ). IsIn path l) (sym e) inside)) (inl named) ∙ was.outside m out is flushed;

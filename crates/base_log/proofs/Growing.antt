@@ -2,9 +2,8 @@
 use Rattle.std.proofs.Common.{◌≡◌, ◌≤◌, ℕ, List, length}
 use Rattle.std.specs.Prelude.{IsSome}
 use Rattle.disk_io.specs.Disk.{DiskState, IsIn, bytes_in}
-use Rattle.disk_io.specs.Runs.{Elapses, LeavesOneStepOn, LeavesOnly}
-use Rattle.disk_io.specs.Steps.{ChangesFile, IsWrittenAt, TornWrite}
-use Rattle.disk_io.specs.Synced.{KeepsOthers}
+use Rattle.disk_io.specs.Runs.{LeavesOnly}
+use Rattle.disk_io.specs.Steps.{IsWrittenAt}
 use Rattle.base_log.specs.AtRest.{HoldsNext, IsStaged}
 use Rattle.base_log.specs.Growing.{and_bytes, counted, file_of, path_in, with_more}
 use Rattle.base_log.specs.Moments.{StandsAlone}
@@ -16,6 +15,7 @@ use Rattle.base_log.specs.declared.names.Names.{Names}
 use Rattle.base_log.specs.declared.staging.GrowingFile.{GrowingFile}
 use Rattle.base_log.specs.declared.staging.GrowingFile.TheVariants as file
 use Rattle.base_log.proofs.Behind.{keys_added, keys_run, keys_same, keys_staged, messages_added, messages_run, messages_same, messages_staged}
+use Rattle.base_log.proofs.Calls.{Wrote}
 use Rattle.base_log.proofs.Paths.{keys_in, messages_in}
 
 pub file_named : (names : Names) (number : ℕ) (f : GrowingFile) → AreNames names number → path_in names f ≡ file_of (folder_of names) number f
@@ -38,21 +38,21 @@ pub file_long : (d : DiskState) (path : List ℕ) (end : End) (told : CommitReco
 file_long d path end told file.Messages staged = staged.messages_long
 file_long d path end told file.Keys staged = staged.keys_long
 
-pub grown_run : (d0 d : DiskState) (path : List ℕ) (end : End) (told : CommitRecord) (f : GrowingFile) → IsStaged d0 path end told → (n : ℕ) → Elapses d0 d
-    → LeavesOneStepOn (ChangesFile d0 (file_of path told.number f) (TornWrite (counted told f) n)) d0 d → LeavesOnly d0 d (StandsAlone path d0 (base_at d0 path end.told))
-grown_run d0 d path end told file.Messages staged n time crash = messages_run d0 d path end told staged n time crash
-grown_run d0 d path end told file.Keys staged n time crash = keys_run d0 d path end told staged n time crash
+pub grown_run : (d0 d : DiskState) (path : List ℕ) (end : End) (told : CommitRecord) (f : GrowingFile) → IsStaged d0 path end told → (n : ℕ)
+    → Wrote d0 d (file_of path told.number f) (counted told f) n → LeavesOnly d0 d (StandsAlone path d0 (base_at d0 path end.told))
+grown_run d0 d path end told file.Messages staged n call = messages_run d0 d path end told staged n call
+grown_run d0 d path end told file.Keys staged n call = keys_run d0 d path end told staged n call
 
-pub grown_next : (d0 d : DiskState) (path : List ℕ) (end : End) (told : CommitRecord) (f : GrowingFile) → IsStaged d0 path end told → (bytes : List ℕ) → KeepsOthers d0 d (file_of path told.number f)
+pub grown_next : (d0 d : DiskState) (path : List ℕ) (end : End) (told : CommitRecord) (f : GrowingFile) → IsStaged d0 path end told → (bytes : List ℕ) → Wrote d0 d (file_of path told.number f) (counted told f) (length bytes)
     → IsWrittenAt (bytes_in (d0.seen (file_of path told.number f))) (counted told f) bytes (bytes_in (d.seen (file_of path told.number f)))
     → HoldsNext d path end.told (base_at d0 path end.told) (and_bytes (base_at d0 path told) f bytes) (with_more told f (length bytes))
-grown_next d0 d path end told file.Messages staged bytes kept written =
-    record { added = messages_added d0 d path end told staged bytes kept written; same = messages_same d0 d path end told staged bytes kept written }
-grown_next d0 d path end told file.Keys staged bytes kept written =
-    record { added = keys_added d0 d path end told staged bytes kept written; same = keys_same d0 d path end told staged bytes kept written }
+grown_next d0 d path end told file.Messages staged bytes call written =
+    record { added = messages_added d0 d path end told staged bytes call written; same = messages_same d0 d path end told staged bytes call written }
+grown_next d0 d path end told file.Keys staged bytes call written =
+    record { added = keys_added d0 d path end told staged bytes call written; same = keys_same d0 d path end told staged bytes call written }
 
-pub grown_staged : (d0 d : DiskState) (path : List ℕ) (end : End) (told : CommitRecord) (f : GrowingFile) → IsStaged d0 path end told → (bytes : List ℕ) → KeepsOthers d0 d (file_of path told.number f)
+pub grown_staged : (d0 d : DiskState) (path : List ℕ) (end : End) (told : CommitRecord) (f : GrowingFile) → IsStaged d0 path end told → (bytes : List ℕ) → Wrote d0 d (file_of path told.number f) (counted told f) (length bytes)
     → IsWrittenAt (bytes_in (d0.seen (file_of path told.number f))) (counted told f) bytes (bytes_in (d.seen (file_of path told.number f))) → IsSome (d.seen (file_of path told.number f))
-    → LeavesOneStepOn (ChangesFile d0 (file_of path told.number f) (TornWrite (counted told f) (length bytes))) d0 d → IsStaged d path end (with_more told f (length bytes))
-grown_staged d0 d path end told file.Messages staged bytes kept written there crash = messages_staged d0 d path end told staged bytes kept written there crash
-grown_staged d0 d path end told file.Keys staged bytes kept written there crash = keys_staged d0 d path end told staged bytes kept written there crash
+    → IsStaged d path end (with_more told f (length bytes))
+grown_staged d0 d path end told file.Messages staged bytes call written there = messages_staged d0 d path end told staged bytes call written there
+grown_staged d0 d path end told file.Keys staged bytes call written there = keys_staged d0 d path end told staged bytes call written there

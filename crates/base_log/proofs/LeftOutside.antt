@@ -1,7 +1,7 @@
 -- What a crash leaves outside a folder while its files change.
 use Rattle.std.proofs.Common.{◌≢◌, ℕ, List, Option, inr, refl, sym, ◌∙◌, subst}
 use Rattle.disk_io.specs.Disk.{DiskState, IsIn}
-use Rattle.disk_io.specs.Runs.{ChangesNothing, Elapses, LeavesOneStepOn, LeavesOnly, OneStepOn}
+use Rattle.disk_io.specs.Runs.{ChangesAt, ChangesNothing, LeavesOnly, OneStepOn}
 use Rattle.disk_io.specs.Steps.{ChangesFile}
 use Rattle.disk_io.proofs.Moments.{left_now, no_call, one_call, then_run, weaker_run}
 use Rattle.base_log.specs.Moments.{LeavesOutside, SameNamedOutside}
@@ -22,10 +22,8 @@ module _ (path file : List ℕ) (d e : DiskState) (step : Option (List ℕ) → 
       weaker_run d e (OneStepOn (ChangesFile d file step) d) (OneStepOn (SameNamedOutside path d) d) run
       (λ c from. (from.0, from.1, λ m out named. from.2.beside m (other m out) (inr named)))
 
-  pub left_call : Elapses d e → LeavesOneStepOn (ChangesFile d file step) d e → LeavesOutside path d e
-  left_call time crash =
-      one_call d e (SameNamedOutside path d) (λ c m out named. refl) time
-      (λ c left. let from = crash c left in (from.0, from.1, λ m out named. from.2.beside m (other m out) (inr named)))
+  pub left_call : {changed unnamed shared : List ℕ → Type 0} → ChangesAt changed unnamed shared (ChangesFile d file step) d e → LeavesOutside path d e
+  left_call call = one_call d e (SameNamedOutside path d) (λ c m out named. refl) call (λ a c left changed m out named. changed.beside m (other m out) (inr named))
 
 -- one run after another
 pub left_twice : (path : List ℕ) (d e f : DiskState) → ((m : List ℕ) → (IsIn path m → ⊥) → d.is_named m → e.is_named m) → LeavesOutside path d e → LeavesOutside path e f → LeavesOutside path d f

@@ -1,4 +1,5 @@
 pub mod Behind
+pub mod Calls
 pub mod Empty
 pub mod Gates
 pub mod Growing

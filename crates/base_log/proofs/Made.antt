@@ -1,60 +1,55 @@
 -- A file of a base folder is made.
 use Rattle.std.proofs.Common.{◌≡◌, ◌≢◌, ℕ, List, sym, ◌∙◌}
 use Rattle.disk_io.specs.Disk.{DiskState}
-use Rattle.disk_io.specs.Runs.{Elapses, LeavesOneStepOn, LeavesOnly}
-use Rattle.disk_io.specs.Steps.{ChangesFile, TornMaking}
+use Rattle.disk_io.specs.Runs.{LeavesOnly}
+use Rattle.disk_io.specs.Steps.{TornMaking}
 use Rattle.disk_io.specs.Synced.{IsOnDisk}
 use Rattle.base_log.specs.Names.{keys_of, log_of, messages_of}
 use Rattle.base_log.specs.AtRest.{IsAtRest}
 use Rattle.base_log.specs.Moments.{KeepsOutside}
-use Rattle.base_log.specs.Opening.{AreNamed, KeepsButOne}
+use Rattle.base_log.specs.Opening.{AreNamed}
 use Rattle.base_log.specs.declared.log.End.{End}
+use Rattle.base_log.proofs.Calls.{Made, but_one_call}
 use Rattle.base_log.proofs.Empty.{LogAlone, log_alone_first, log_alone_made}
 use Rattle.base_log.proofs.Gates.{outside_twice}
 use Rattle.base_log.proofs.Paths.{keys_beside, keys_in, keys_not_messages, keys_of-injective, log_not_keys, log_not_messages, messages_beside, messages_in, messages_not_keys, messages_of-injective}
 use Rattle.base_log.proofs.Removed.{outside_but_one}
 use Rattle.base_log.proofs.Renewed.{FilesAlone, alone_changed, alone_first}
 
--- the file is made, and the others are as they were
-pub record Made (d e : DiskState) (file : List ℕ) : Type 0 where
-  pub kept : KeepsButOne d e file
-  pub crash : LeavesOneStepOn (ChangesFile d file TornMaking) d e
-  pub time : Elapses d e
-
 -- the two files of a number are made
 pub outside_both : (path : List ℕ) (number : ℕ) (d0 d1 d2 : DiskState) → Made d0 d1 (messages_of path number) → Made d1 d2 (keys_of path number) → KeepsOutside path d0 d2
 outside_both path number d0 d1 d2 one two =
-    outside_twice path d0 d1 d2 (outside_but_one path d0 d1 (messages_of path number) (messages_in path number) one.kept)
-    (outside_but_one path d1 d2 (keys_of path number) (keys_in path number) two.kept)
+    outside_twice path d0 d1 d2 (outside_but_one path d0 d1 (messages_of path number) (messages_in path number) (but_one_call d0 d1 (messages_of path number) one))
+    (outside_but_one path d1 d2 (keys_of path number) (keys_in path number) (but_one_call d1 d2 (keys_of path number) two))
 
 -- those of another number are as they were
 module _ (path : List ℕ) (n number : ℕ) (other : number ≢ n) (d0 d1 d2 : DiskState) (one : Made d0 d1 (messages_of path number)) (two : Made d1 d2 (keys_of path number)) where
   pub messages_seen : d2.seen (messages_of path n) ≡ d0.seen (messages_of path n)
-  messages_seen = two.kept.seen (messages_of path n) (messages_not_keys path n number) ∙ one.kept.seen (messages_of path n) (λ is. other (sym (messages_of-injective path n number is)))
+  messages_seen = two.beside (messages_of path n) (messages_not_keys path n number) ∙ one.beside (messages_of path n) (λ is. other (sym (messages_of-injective path n number is)))
 
   pub keys_seen : d2.seen (keys_of path n) ≡ d0.seen (keys_of path n)
-  keys_seen = two.kept.seen (keys_of path n) (λ is. other (sym (keys_of-injective path n number is))) ∙ one.kept.seen (keys_of path n) (keys_not_messages path n number)
+  keys_seen = two.beside (keys_of path n) (λ is. other (sym (keys_of-injective path n number is))) ∙ one.beside (keys_of path n) (keys_not_messages path n number)
 
 -- a crash meanwhile leaves the files that count
 module _ (d0 : DiskState) (path : List ℕ) (end : End) (rest : IsAtRest d0 path end) (number : ℕ) (other : number ≢ end.told.number) (d1 : DiskState) (one : Made d0 d1 (messages_of path number)) where
   pub messages_run : LeavesOnly d0 d1 (FilesAlone d0 path end rest)
   messages_run =
       alone_changed d0 path end rest TornMaking d0 d1 (messages_of path number) (messages_beside path end.told.number number other) (rest.log.named (messages_of path number) (messages_in path number)) (alone_first d0 path end rest)
-      one.time one.crash
+      one
 
   pub keys_run : (d2 : DiskState) → Made d1 d2 (keys_of path number) → LeavesOnly d0 d2 (FilesAlone d0 path end rest)
   keys_run d2 two =
-      let named = one.kept.named (keys_of path number) (keys_not_messages path number number) (rest.log.named (keys_of path number) (keys_in path number)) in
-      alone_changed d0 path end rest TornMaking d1 d2 (keys_of path number) (keys_beside path end.told.number number other) named messages_run two.time two.crash
+      let named = one.named (keys_of path number) (keys_not_messages path number number) (rest.log.named (keys_of path number) (keys_in path number)) in
+      alone_changed d0 path end rest TornMaking d1 d2 (keys_of path number) (keys_beside path end.told.number number other) named messages_run two
 
 -- the same where the log alone counts
 module _ (d0 : DiskState) (path : List ℕ) (on : IsOnDisk d0 (log_of path)) (named : AreNamed path d0) (number : ℕ) (d1 : DiskState) (one : Made d0 d1 (messages_of path number)) where
   pub log_first : LeavesOnly d0 d1 (LogAlone d0 path on)
   log_first =
       log_alone_made d0 path on d0 d1 (messages_of path number) (messages_in path number) (log_not_messages path number) (named (messages_of path number) (messages_in path number)) (log_alone_first d0 path on)
-      one.time one.crash
+      one
 
   pub log_both : (d2 : DiskState) → Made d1 d2 (keys_of path number) → LeavesOnly d0 d2 (LogAlone d0 path on)
   log_both d2 two =
-      let stays = one.kept.named (keys_of path number) (keys_not_messages path number number) (named (keys_of path number) (keys_in path number)) in
-      log_alone_made d0 path on d1 d2 (keys_of path number) (keys_in path number) (log_not_keys path number) stays log_first two.time two.crash
+      let stays = one.named (keys_of path number) (keys_not_messages path number number) (named (keys_of path number) (keys_in path number)) in
+      log_alone_made d0 path on d1 d2 (keys_of path number) (keys_in path number) (log_not_keys path number) stays log_first two

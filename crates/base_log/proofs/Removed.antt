@@ -2,7 +2,7 @@
 use Rattle.std.proofs.Common.{◌≡◌, ◌≢◌, ◌≤◌, ℕ, List, Option, Some, None, length, refl, sym, ◌∙◌, ap, subst}
 use Rattle.std.specs.Prelude.{IsSome}
 use Rattle.disk_io.specs.Disk.{DiskState, bytes_in, IsIn}
-use Rattle.disk_io.specs.Runs.{ChangesNothing, Elapses, LeavesOneStepOn, LeavesOnly}
+use Rattle.disk_io.specs.Runs.{ChangesAt, ChangesNothing, LeavesOnly, ThisPath}
 use Rattle.disk_io.specs.Steps.{ChangesFile, TornRemoval}
 use Rattle.disk_io.specs.Synced.{IsOnDisk}
 use Rattle.base_log.specs.Names.{IsBeside, log_of, messages_of, keys_of}
@@ -93,9 +93,9 @@ module _ (d0 : DiskState) (path : List ℕ) (end : End) (rest : IsAtRest d0 path
   pub looked_run : (d1 : DiskState) → ChangesNothing d0 d1 → LeavesOnly d0 d1 (StandsAlone path d0 (base_at d0 path end.told))
   looked_run d1 quiet = alone_run d0 path end rest d1 (then_nothing d0 d0 d1 (FilesAlone d0 path end rest) (alone_first d0 path end rest) quiet)
 
-  pub removed_run : (d1 d2 : DiskState) (file : List ℕ) → IsBeside path end.told.number file → ChangesNothing d0 d1 → Elapses d1 d2 → LeavesOneStepOn (ChangesFile d1 file TornRemoval) d1 d2
-      → LeavesOnly d0 d2 (StandsAlone path d0 (base_at d0 path end.told))
-  removed_run d1 d2 file beside quiet time crash =
+  pub removed_run : (d1 d2 : DiskState) (file : List ℕ) → IsBeside path end.told.number file → ChangesNothing d0 d1
+      → ChangesAt (ThisPath file) (ThisPath file) (ThisPath file) (ChangesFile d1 file TornRemoval) d1 d2 → LeavesOnly d0 d2 (StandsAlone path d0 (base_at d0 path end.told))
+  removed_run d1 d2 file beside quiet call =
       alone_run d0 path end rest d2
       (alone_changed d0 path end rest TornRemoval d1 d2 file beside (quiet.named file (λ h. h) (rest.log.named file beside.inside))
-      (then_nothing d0 d0 d1 (FilesAlone d0 path end rest) (alone_first d0 path end rest) quiet) time crash)
+      (then_nothing d0 d0 d1 (FilesAlone d0 path end rest) (alone_first d0 path end rest) quiet) call)

@@ -2,7 +2,7 @@
 use Rattle.std.proofs.Common.{◌≡◌, inl, ℕ, List, Option, take, sym, ◌∙◌, subst}
 use Rattle.disk_io.specs.Disk.{DiskState, Files, bytes_in, IsIn}
 use Rattle.disk_io.specs.Steps.{ChangesFile}
-use Rattle.disk_io.specs.Runs.{LeavesOneStepOn, LeavesOnly, Elapses}
+use Rattle.disk_io.specs.Runs.{ChangesAt, LeavesOnly}
 use Rattle.disk_io.proofs.Moments.{no_call, then_call, weaker_run}
 use Rattle.base_log.specs.Names.{IsBeside, log_of, messages_of, keys_of}
 use Rattle.base_log.specs.Standing.{base_at}
@@ -28,10 +28,10 @@ module _ (d0 : DiskState) (path : List ℕ) (end : End) (rest : IsAtRest d0 path
   })
 
   -- another file changes
-  pub alone_changed : (step : Option (List ℕ) → Option (List ℕ) → Type 0) (d e : DiskState) (file : List ℕ) → IsBeside path end.told.number file → d.is_named file → LeavesOnly d0 d FilesAlone → Elapses d e
-      → LeavesOneStepOn (ChangesFile d file step) d e → LeavesOnly d0 e FilesAlone
-  alone_changed step d e file beside named run time crash =
-      then_call d0 d e FilesAlone (ChangesFile d file step) run time crash
+  pub alone_changed : {changed unnamed shared : List ℕ → Type 0} (step : Option (List ℕ) → Option (List ℕ) → Type 0) (d e : DiskState) (file : List ℕ) → IsBeside path end.told.number file → d.is_named file
+      → LeavesOnly d0 d FilesAlone → ChangesAt changed unnamed shared (ChangesFile d file step) d e → LeavesOnly d0 e FilesAlone
+  alone_changed step d e file beside named run call =
+      then_call d0 d e FilesAlone (ChangesFile d file step) run call
       (λ a c was changed. record {
         log = changed.beside (log_of path) beside.not_log (inl named) ∙ was.log;
         messages = changed.beside (messages_of path end.told.number) beside.not_messages (inl named) ∙ was.messages;

@@ -10,7 +10,8 @@ use Rattle.std.specs.List.{AllByRecursion, flat_map}
 use Rattle.echo_filed.specs.Filed.{Filed}
 use Rattle.echo_filed.specs.Stored.{Stored, IsStored, message_in, stored_bytes}
 use Rattle.echo_filed.specs.declared.stored.Version.TheVariants.{Second}
-use Rattle.base_store.specs.Keys.{FolderStandsFor, HasBytesOf, MayStandAlone, StandsAt, StandWhereTold, digested, entry, keys_from, place_at, place_behind}
+use Rattle.base_file.specs.Alone.{MayStandAlone}
+use Rattle.base_store.specs.Keys.{FolderStandsFor, HasBytesOf, StandsAt, StandWhereTold, digested, entry, keys_from, place_at, place_behind}
 
 -- the bytes of messages, one after another
 abbrev pub bytes_of : List Stored → List ℕ

@@ -1,15 +1,15 @@
 -- The keys of a base folder: for each message its place, and a digest of its key.
-use Rattle.std.specs.Prelude.{◌≡◌, ℕ, ◌+◌, ◌*◌, ◌/◌, ◌<◌, ◌≤◌, ◌^◌, nat_lt, false, List, [], ◌∷◌, ◌++◌, length, map, take, drop, if◌then◌else◌, Option, Some, None, slice_index_or}
+use Rattle.std.specs.Prelude.{◌≡◌, ℕ, ◌+◌, ◌*◌, ◌/◌, ◌<◌, ◌≤◌, ◌^◌, nat_lt, List, [], ◌∷◌, ◌++◌, length, map, take, drop, if◌then◌else◌, Option, Some, None, slice_index_or}
 use Rattle.std.specs.Int.{w64, from_le_bytes, to_le_bytes}
 use Rattle.std.specs.List.{AllByRecursion, flat_map}
 use Rattle.echo_text.specs.Echo.{ended, msgid_of}
 use Rattle.echo_filed.specs.declared.key.Key.{Key}
 use Rattle.echo_filed.specs.declared.key.Key.TheVariants.{ByContent, ById}
 use Rattle.echo_filed.specs.Filed.{Filed}
-use Rattle.echo_filed.specs.Stored.{Stored, IsStored, has_tag, message_in, stored_bytes}
+use Rattle.echo_filed.specs.Stored.{Stored, IsStored, message_in, stored_bytes}
 use Rattle.echo_filed.specs.declared.stored.Version.TheVariants.{Second}
 use Rattle.base_file.specs.Base.{IsBase}
-use Rattle.base_file.specs.BaseFile.{is_damaged}
+use Rattle.base_file.specs.Alone.{MayStandAlone}
 
 -- the digested bytes: the id, which is the same in every area, or else the parts of the whole key
 abbrev pub digested_with : Filed → Option (List ℕ) → List ℕ
@@ -32,14 +32,6 @@ entry place digest = to_le_bytes w64 place ++ to_le_bytes w64 digest
 abbrev pub keys_from : (List ℕ → ℕ) → ℕ → List Stored → List ℕ
 keys_from digest place [] = []
 keys_from digest place (s ∷ later) = entry place (digest (digested (message_in Second s))) ++ keys_from digest (place + length (stored_bytes Second s)) later
-
--- the cursor of a base file with this message alone: it was scanned if it has tag and id instead of the text
-abbrev pub cursor_alone : Stored → ℕ
-cursor_alone s = if has_tag Second s.kind then 1 else 0
-
--- a base file may have it alone
-abbrev pub MayStandAlone : Stored → Type 0
-MayStandAlone s = is_damaged Second (cursor_alone s) [] s ≡ false
 
 -- The two files of a folder with these messages, which are stored as in a base file. The digest is any function of eight bytes.
 pub record FolderStandsFor (digest : List ℕ → ℕ) (base : List Filed) (cursor : ℕ) (messages keys : List ℕ) : Type 0 where

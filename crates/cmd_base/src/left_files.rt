@@ -11,7 +11,7 @@ use std::fs::{DirEntry, ReadDir};
 use std::io::ErrorKind;
 use std::{fs, io, str};
 
-/// What was reported of a folder, and how often it could not be read.
+/// The report about a folder, and how often it could not be read.
 #[derive(Drop)]
 pub struct LeftFiles<'r> {
     rt: &'r HostRuntime,

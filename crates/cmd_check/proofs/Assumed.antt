@@ -24,7 +24,7 @@ pub not_so : (b : Bool) → b ≡ false → b ≡ true → ⊥
 not_so true is h = cc
 not_so false is h = cc
 
--- what stands behind nothing
+-- the items after nothing
 pub behind_none : {X : Type 0} (none all more : List X) → none ≡ [] → all ≡ none ++ more → all ≡ more
 behind_none none all more nothing whole = whole ∙ ap (λ n. n ++ more) nothing
 
@@ -100,7 +100,7 @@ others_of (b ∷ bs) texts (l ∷ ls) (x ∷ all) are both =
     let (others, same, rest) = others_of bs texts ls all are.1 both.1 in
     (others, ap (λ f. f ∷ all) (both.0.1 ∙ sym are.0.1) ∙ ap (λ t. l ∷ t) same, rest)
 
--- what was printed of the files with those of the assumed systems
+-- the lines for the files with those of the assumed systems
 pub was_assumed : (nodelist : Option (List ℕ)) (more : Bool) (tag t : List ℕ) (inputs texts : List (List ℕ)) (links : List LinkFile) (assumed : List Address) (lines : List ℕ) (status : Status)
     → AreLinkFiles inputs links → t ≡ upper tag → AreAssumed links t assumed texts → IsCheckedWith nodelist more tag (inputs ++ texts) assumed lines status
     → IsCheckedAssuming nodelist more tag inputs assumed lines status

@@ -1,4 +1,4 @@
--- What was found by the bytes of link files, as what is found on these files.
+-- A run found by the bytes of link files is a run found on these files.
 use Rattle.std.proofs.Common.{◌≡◌, ℕ, List, [], ◌∷◌, Option, refl, sym, ap, ◌∙◌}
 use Rattle.echo_links.specs.Links.{LinkFile, upper}
 use Rattle.echo_links.specs.LinkLines.{file_of}
@@ -28,7 +28,7 @@ of_no : (v : Verdict) (First Of : NetFault → Type 0) → IfNo v First → IfNo
 of_no (Yes systems links) First Of is more = tt
 of_no (No fault) First Of is more = more is
 
--- what was found, with what the verdict says
+-- the found run, with the verdict
 pub was_explained : (tag t : List ℕ) (inputs : List (List ℕ)) (files : List LinkFile) (verdict : Verdict) (found : Option Shown) →
     AreLinkFiles inputs files → t ≡ upper tag → IsCheckVerdict files (upper tag) verdict → IsFoundFirst (files_of inputs) t verdict found →
     IsExplained files (upper tag) verdict found

@@ -17,7 +17,7 @@ use Rattle.cmd_check.specs.PicturingWhy.{IsPicturedWhy}
 use Rattle.cmd_check.proofs.Checks.{good_is_yes, of_same, yes_is_good}
 use Rattle.cmd_check.proofs.Explaining.{given_files, was_explained}
 
--- what was judged, drawn and found of link files that were read
+-- the verdict, the picture and the run of link files that were read
 pub record IsDrawnWhy (inputs : List (List ℕ)) (files : List LinkFile) (t : List ℕ) (verdict : Verdict) (drawing : Drawing) (found : Option Shown) : Type 0 where
   pub judged : IsCheckVerdict files t verdict
   pub drawn : IsDrawing files t verdict drawing

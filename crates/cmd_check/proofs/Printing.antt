@@ -1,4 +1,4 @@
--- What is answered where a part of a command prints its lines.
+-- The answer after a part of a command prints its lines.
 use Rattle.std.proofs.Common.{ℕ, List, Result, Ok, Err, inl, inr}
 use Rattle.cmd_status.specs.Devices.{Output}
 use Rattle.cmd_status.specs.declared.fault.Fault.{Fault}

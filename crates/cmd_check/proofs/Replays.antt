@@ -18,7 +18,7 @@ use Rattle.model_run.proofs.HarmSteps.{run-files as run_files}
 pub run_length : (files : List LinkFile) (events : List RunEvent) → length (run_of files events).systems ≡ length files
 run_length files events = sym (length-map (run_of files events).systems (λ (s : System). s.file)) ∙ ap length (run_files files events)
 
--- the lines of what was replayed
+-- the lines of a replay
 pub was_replayed : (script : List ℕ) (inputs : List (List ℕ)) (events : List Event) (files : List LinkFile) (world : WorldState) (systems : ℕ)
     (lines : List ℕ) (status : Status) → ScriptOf script (Ok events) → AreLinkFiles inputs files → systems ≡ length files
     → IsWorldOf world (run_of files (map run_event events)) → AreWorldLines systems world lines → status ≡ Good → IsReplayed script inputs lines status

@@ -8,11 +8,11 @@ use Rattle.std.specs.List.Sorted.{IsStrictlySortedBy}
 use Rattle.echo_links.specs.Links.{LinkFile}
 use Rattle.echo_net.specs.Faults.{IsCarried}
 
--- The order of tags: by the first byte that differs; the beginning of a tag comes before the tag.
+-- The order of tags: by the first byte that differs. A tag's beginning precedes the tag.
 abbrev pub tag_order : List ℕ → List ℕ → Ordering
 tag_order = slice_cmp nat_cmp
 
--- Just the tags of which some file has an area, ascending, each once.
+-- Exactly the tags of areas that some file has, ascending, each once.
 pub record AreAllTags (files : List LinkFile) (tags : List (List ℕ)) : Type 0 where
   pub ascending : IsStrictlySortedBy tag_order tags
   pub members : (tag : List ℕ) → Contains tags tag ↔ IsCarried files tag

@@ -1,4 +1,4 @@
--- Systems that are judged without a file of theirs: each as if it listed just those who list it.
+-- Systems without a link file that are judged as if they listed exactly those who list them.
 use Rattle.std.specs.Prelude.{◌≡◌, ◌↔◌, ℕ, Contains, List, [], ◌∷◌, ◌++◌, codes, filter, map, Result}
 use Rattle.std.specs.List.{flat_map}
 use Rattle.std.specs.List.Sorted.{IsStrictlySortedBy}
@@ -16,7 +16,7 @@ use Rattle.cmd_status.specs.Inputs.{AreLinkFiles}
 abbrev pub listing : List LinkFile → List ℕ → Address → List Address
 listing files tag a = map (λ file. file.system) (filter (λ file. is_link file tag a) files)
 
--- A link, behind those before it.
+-- A link, after those before it.
 abbrev pub link_word : Address → List ℕ
 link_word link = codes " " ++ address_text link
 
@@ -25,7 +25,7 @@ abbrev pub assumed_text : List ℕ → Address → List Address → List ℕ
 assumed_text tag a links =
     codes "SYSTEM " ++ (address_text a ++ (codes "\nAREA " ++ (tag ++ (flat_map link_word links ++ codes "\n"))))
 
--- The link file of an assumed system: its links are just those who list it, ascending, each once.
+-- The link file of an assumed system: its links are exactly those who list it, ascending, each once.
 pub record IsAssumed (files : List LinkFile) (tag : List ℕ) (a : Address) (text : List ℕ) : Type 0 where
   pub links : List Address
   pub ascending : IsStrictlySortedBy address_order links
@@ -38,24 +38,24 @@ AreEachAssumed files tag [] [] = Unit {0}
 AreEachAssumed files tag (a ∷ assumed) (text ∷ texts) = IsAssumed files tag a text × AreEachAssumed files tag assumed texts
 AreEachAssumed files tag _ _ = ⊥
 
--- The link files of the assumed systems; none where no file has the area.
+-- The link files of the assumed systems, or none if no file has the area.
 pub record AreAssumed (files : List LinkFile) (tag : List ℕ) (assumed : List Address) (texts : List (List ℕ)) : Type 0 where
   pub carried : IsCarried files tag → AreEachAssumed files tag assumed texts
   pub nowhere : (¬ IsCarried files tag) → texts ≡ []
 
--- One for each of the systems was put behind other files.
+-- One for each of the systems was appended to other files.
 pub record AddsEach (files : List LinkFile) (tag : List ℕ) (assumed : List Address) (old new : List (List ℕ)) : Type 0 where
   pub texts : List (List ℕ)
   pub are : AreEachAssumed files tag assumed texts
   pub whole : new ≡ old ++ texts
 
--- Those of the assumed systems were.
+-- Those of the assumed systems were appended.
 pub record AddsAssumed (files : List LinkFile) (tag : List ℕ) (assumed : List Address) (old new : List (List ℕ)) : Type 0 where
   pub texts : List (List ℕ)
   pub are : AreAssumed files tag assumed texts
   pub whole : new ≡ old ++ texts
 
--- The inputs are link files, and those of the assumed systems were put behind them.
+-- The inputs are link files, and those of the assumed systems were appended.
 pub record Assumes (tag : List ℕ) (assumed : List Address) (old new : List (List ℕ)) : Type 0 where
   pub files : List LinkFile
   pub are_files : AreLinkFiles old files
@@ -65,10 +65,10 @@ pub record Assumes (tag : List ℕ) (assumed : List Address) (old new : List (Li
 abbrev pub assumed_line : Address → List ℕ
 assumed_line a = codes "assumed " ++ (address_text a ++ codes "\n")
 
--- The same behind what begins a note in another format.
+-- The same after the beginning of a note in another format.
 abbrev pub assumed_note : List ℕ → Address → List ℕ
 assumed_note begin a = begin ++ assumed_line a
 
--- The right result if these lines are to be printed.
+-- The right result of printing these lines.
 abbrev pub PrintsAssumed : List ℕ → List Address → Output → Output → Result (Unit {0}) Fault → Type 0
 PrintsAssumed begin assumed old new answer = Answers (λ lines done. lines ≡ flat_map (assumed_note begin) assumed) (λ fault. ⊥) old new answer

@@ -23,8 +23,8 @@ abbrev pub verdict_status : Verdict → Status
 verdict_status (Yes systems links) = Good
 verdict_status (No fault) = Differs
 
--- The verdict on an area: yes exactly where it is tidy, with its numbers of carriers and of linked pairs; a no
--- names the first thing that is wrong.
+-- The verdict on an area: yes exactly if it is tidy, with its numbers of carriers and of linked pairs. A no names the
+-- first fault.
 pub record IsCheckVerdict (files : List LinkFile) (tag : List ℕ) (verdict : Verdict) : Type 0 where
   pub tidy : IsYes verdict ↔ Tidy files tag
   pub counted : IfYes verdict (λ systems links. (systems ≡ carrier_count files tag) × (links ≡ linked_pairs files tag))
@@ -34,7 +34,8 @@ pub record IsCheckVerdict (files : List LinkFile) (tag : List ℕ) (verdict : Ve
 abbrev pub RunsAreOrderly : List LinkFile → List ℕ → Type 0
 RunsAreOrderly files tag = (events : List RunEvent) → Orderly (run_of files events) tag
 
--- The link files and the nodelist have no fault; these are the lines of the verdict on the area of the tag in upper case. The status is 0 exactly where the area is tidy, and then every run is orderly.
+-- The link files and the nodelist have no fault. These are the lines of the verdict on the area of the tag in upper
+-- case. The status is 0 exactly if the area is tidy, and then every run is orderly.
 pub record IsChecked (nodelist : Option (List ℕ)) (more : Bool) (tag : List ℕ) (inputs : List (List ℕ)) (lines : List ℕ) (status : Status) : Type 0 where
   pub files : List LinkFile
   pub are_files : AreLinkFiles inputs files
@@ -47,7 +48,7 @@ pub record IsChecked (nodelist : Option (List ℕ)) (more : Bool) (tag : List �
   pub tidy : (status ≡ Good) ↔ Tidy files (upper tag)
   pub orderly : status ≡ Good → RunsAreOrderly files (upper tag)
 
--- the right result if an area is to be checked
+-- the right result of checking an area
 abbrev pub CheckAnswers : Option (List ℕ) → Bool → List ℕ → List (List ℕ) → Option Fault → Output → Output → Result Status Fault → Type 0
 CheckAnswers nodelist more tag inputs stopped old new answer =
     Answers (λ lines status. IsChecked nodelist more tag inputs lines status × (stopped ≡ None)) (IsFirstFaultGiven nodelist inputs stopped) old new answer

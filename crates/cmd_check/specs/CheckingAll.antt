@@ -16,12 +16,13 @@ use Rattle.cmd_check.specs.AreaTags.{AreAllTags}
 use Rattle.cmd_check.specs.Checking.{IsCheckVerdict, RunsAreOrderly}
 use Rattle.cmd_check.specs.Further.{IsVerdictShown, areas_line}
 
--- How many verdicts are a no, of one.
+-- How many of one verdict are a no.
 abbrev pub no_count : Verdict → ℕ
 no_count (Yes systems links) = 0
 no_count (No fault) = 1
 
--- The lines of `check` on an area of these files, and how many verdicts are a no; where none is, every run is orderly in it.
+-- The lines of `check` on an area of these files, and how many verdicts are a no. If none is, every run is orderly in
+-- it.
 pub record IsAreaChecked (files : List LinkFile) (list : Option (List Line)) (more : Bool) (tag : List ℕ) (noes : ℕ) (lines : List ℕ) : Type 0 where
   pub verdict : Verdict
   pub is_verdict : IsCheckVerdict files tag verdict
@@ -45,11 +46,13 @@ abbrev pub AreAreasChecked : List LinkFile → Option (List Line) → Bool → L
 AreAreasChecked files list more [] noes lines = (noes ≡ 0) × (lines ≡ [])
 AreAreasChecked files list more (tag ∷ tags) noes lines = AreJoined (IsAreaChecked files list more tag) (AreAreasChecked files list more tags) noes lines
 
--- 1 where a verdict is a no.
+-- 1 if a verdict is a no.
 abbrev pub verdicts_status : ℕ → Status
 verdicts_status noes = if noes == 0 then Good else Differs
 
--- The link files and the nodelist have no fault; these are the lines of the verdict on each area that a file has, ascending by tag, and their count where it is asked for. The status is 0 exactly where each of these areas is tidy, and then every run is orderly in each.
+-- The link files and the nodelist have no fault. These are the lines of the verdict on each area that a file has,
+-- ascending by tag, and their count if it is asked for. The status is 0 exactly if each of these areas is tidy. Then
+-- every run is orderly in each.
 pub record IsAllChecked (nodelist : Option (List ℕ)) (more : Bool) (inputs : List (List ℕ)) (lines : List ℕ) (status : Status) : Type 0 where
   pub files : List LinkFile
   pub are_files : AreLinkFiles inputs files
@@ -65,7 +68,7 @@ pub record IsAllChecked (nodelist : Option (List ℕ)) (more : Bool) (inputs : L
   pub tidy : (status ≡ Good) ↔ ((tag : List ℕ) → IsCarried files tag → Tidy files tag)
   pub orderly : status ≡ Good → (tag : List ℕ) → IsCarried files tag → RunsAreOrderly files tag
 
--- the right result if all areas are to be checked
+-- the right result of checking all areas
 abbrev pub CheckAllAnswers : Option (List ℕ) → Bool → List (List ℕ) → Option Fault → Output → Output → Result Status Fault → Type 0
 CheckAllAnswers nodelist more inputs stopped old new answer =
     Answers (λ lines status. IsAllChecked nodelist more inputs lines status × (stopped ≡ None)) (IsFirstFaultGiven nodelist inputs stopped) old new answer

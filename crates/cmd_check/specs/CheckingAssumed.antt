@@ -12,13 +12,14 @@ use Rattle.cmd_status.specs.Inputs.{AreLinkFiles, IsFirstFaultGiven, IsLinkFault
 use Rattle.cmd_check.specs.Assuming.{AreAssumed, assumed_line}
 use Rattle.cmd_check.specs.Checking.{IsChecked, RunsAreOrderly}
 
--- The lines of `check` on these files, and behind them a line for each assumed system.
+-- The lines of `check` on these files, and then a line for each assumed system.
 pub record IsCheckedWith (nodelist : Option (List ℕ)) (more : Bool) (tag : List ℕ) (inputs : List (List ℕ)) (assumed : List Address) (lines : List ℕ) (status : Status) : Type 0 where
   pub front : List ℕ
   pub checked : IsChecked nodelist more tag inputs front status
   pub whole : lines ≡ front ++ flat_map assumed_line assumed
 
--- The same, where the files are those that are given, and behind them those of the assumed systems: the status is 0 exactly where the area is tidy with these, and then every run is orderly in which each assumed system has that file.
+-- The same for the given files, followed by those of the assumed systems. The status is 0 exactly if the area is tidy
+-- with these. Then every run is orderly in which each assumed system has that file.
 pub record IsCheckedAssuming (nodelist : Option (List ℕ)) (more : Bool) (tag : List ℕ) (inputs : List (List ℕ)) (assumed : List Address) (lines : List ℕ) (status : Status) : Type 0 where
   pub files : List LinkFile
   pub are_files : AreLinkFiles inputs files
@@ -35,7 +36,7 @@ pub record IsPromisedAssuming (files : List LinkFile) (tag : List ℕ) (assumed 
   pub tidy : Tidy (files ++ others) tag
   pub orderly : RunsAreOrderly (files ++ others) tag
 
--- Further link files were read, behind others.
+-- Further link files were read, after others.
 pub record ReadsMore (texts : List (List ℕ)) (old new : List LinkFile) : Type 0 where
   pub files : List LinkFile
   pub are : AreLinkFiles texts files
@@ -49,12 +50,12 @@ pub record IsAssumedFault (tag : List ℕ) (inputs : List (List ℕ)) (assumed :
   pub are_assumed : AreAssumed files (upper tag) assumed texts
   pub fault_is : IsLinkFault texts fault
 
--- The right result if an area is to be checked, with some systems assumed.
+-- The right result of checking an area with some assumed systems.
 abbrev pub CheckAssumingAnswers : Option (List ℕ) → Bool → List ℕ → List (List ℕ) → List Address → Option Fault → Output → Output → Result Status Fault → Type 0
 CheckAssumingAnswers nodelist more tag inputs assumed stopped old new answer =
     Answers (λ lines status. IsCheckedAssuming nodelist more tag inputs assumed lines status × (stopped ≡ None))
     (λ fault. IsFirstFaultGiven nodelist inputs stopped fault ⊎ IsAssumedFault tag inputs assumed fault) old new answer
 
--- The right result if the lines of `check` and of assumed systems are to be printed.
+-- The right result of printing the lines of `check` and of assumed systems.
 abbrev pub PrintsChecked : Option (List ℕ) → Bool → List ℕ → List (List ℕ) → List Address → Output → Output → Result Status Fault → Type 0
 PrintsChecked nodelist more tag inputs assumed old new answer = Answers (IsCheckedWith nodelist more tag inputs assumed) (λ fault. ⊥) old new answer

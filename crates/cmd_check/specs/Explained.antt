@@ -1,4 +1,4 @@
--- The run that is found if an area is to be shown going wrong.
+-- The run that shows the harm of an area.
 use Rattle.std.specs.Prelude.{ℕ, List, Option, IfSome}
 use Rattle.echo_links.specs.Links.{LinkFile}
 use Rattle.echo_net.specs.declared.verdict.Verdict.{Verdict}
@@ -7,7 +7,8 @@ use Rattle.model_why.specs.declared.shown.Shown.{Shown}
 use Rattle.model_why.specs.Exact.{AlwaysHarms, LeadsNowhere}
 use Rattle.model_why.specs.Found.{FindsHarm, FindsSome, IsShown}
 
--- It is a run on these files that has its harm. Where the fault of a no always does harm, one is found that breaks the promise; where it is a link to an address that no file has, one of any kind.
+-- It is a run on these files that has its harm. If the fault of a no always does harm, a run is found that breaks the
+-- promise. If it is a link to an address that no file has, a run of any kind is found.
 pub record IsExplained (files : List LinkFile) (tag : List ℕ) (verdict : Verdict) (found : Option Shown) : Type 0 where
   pub shown : IfSome found (IsShown files tag)
   pub exact : IfNo verdict (λ fault. AlwaysHarms fault → FindsHarm found)

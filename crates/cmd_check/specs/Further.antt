@@ -1,4 +1,4 @@
--- What `check` prints of the verdict on an area, and with `--more` of the faults that it does not name.
+-- The lines of `check` for the verdict on an area, and with `--more` for the faults that the verdict does not name.
 use Rattle.std.specs.Prelude.{◌≡◌, ℕ, ◌-◌, Bool, true, false, List, [], ◌++◌, codes, decimal, Option}
 use Rattle.std.specs.List.{flat_map}
 use Rattle.echo_links.specs.Links.{LinkFile}
@@ -19,7 +19,7 @@ FurtherShown files tag false verdict lines = lines ≡ []
 FurtherShown files tag true verdict lines =
     (further : List NetFault) × AreFurther files tag verdict further × (lines ≡ flat_map also_line further)
 
--- The lines of a verdict as without further faults, and those of these faults behind its first.
+-- The lines of a verdict without further faults, with those of these faults after the first line.
 pub record IsMoreShown (files : List LinkFile) (tag : List ℕ) (list : Option (List Line)) (verdict : Verdict) (lines : List ℕ) : Type 0 where
   pub also : List ℕ
   pub absent : List ℕ
@@ -32,7 +32,8 @@ abbrev pub IsVerdictShown : List LinkFile → List ℕ → Option (List Line) �
 IsVerdictShown files tag list false verdict lines = CheckShown files tag list verdict lines
 IsVerdictShown files tag list true verdict lines = IsMoreShown files tag list verdict lines
 
--- The last line: how many areas there are, and how many of them have a yes and a no; none if it is not asked for.
+-- The last line: how many areas there are, and how many of them have a yes and a no. It is empty if it is not asked
+-- for.
 abbrev pub areas_line : Bool → ℕ → ℕ → List ℕ
 areas_line false areas noes = []
 areas_line true areas noes =

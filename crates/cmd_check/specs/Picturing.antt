@@ -15,8 +15,8 @@ use Rattle.cmd_status.specs.Ended.{Answers}
 use Rattle.cmd_status.specs.Inputs.{AreLinkFiles, IsFirstFaultGiven}
 use Rattle.cmd_print.specs.Pictured.{picture_lines}
 
--- The link files have no fault. These lines draw the area of the tag in upper case, with the parts that the verdict names marked. The
--- status is that of `check`.
+-- The link files have no fault. These lines draw the area of the tag in upper case, with the parts of the verdict
+-- marked. The status is that of `check`.
 pub record IsPictured (tag : List ℕ) (inputs : List (List ℕ)) (lines : List ℕ) (status : Status) : Type 0 where
   pub files : List LinkFile
   pub are_files : AreLinkFiles inputs files
@@ -28,12 +28,12 @@ pub record IsPictured (tag : List ℕ) (inputs : List (List ℕ)) (lines : List 
   pub status_is : status ≡ verdict_status verdict
   pub tidy : (status ≡ Good) ↔ Tidy files (upper tag)
 
--- the right result if an area that is drawn is to be printed
+-- the right result of printing a drawn area
 abbrev pub PrintsPicture : List ℕ → Verdict → Drawing → List Crossing → Output → Output → Result Status Fault → Type 0
 PrintsPicture tag verdict drawing crossings old new answer =
     Answers (λ lines status. (lines ≡ picture_lines tag verdict drawing crossings) × (status ≡ verdict_status verdict)) (λ fault. ⊥) old new answer
 
--- the right result if an area is to be drawn
+-- the right result of drawing an area
 abbrev pub PictureAnswers : List ℕ → List (List ℕ) → Option Fault → Output → Output → Result Status Fault → Type 0
 PictureAnswers tag inputs stopped old new answer =
     Answers (λ lines status. IsPictured tag inputs lines status × (stopped ≡ None)) (IsFirstFaultGiven None inputs stopped) old new answer

@@ -19,7 +19,9 @@ use Rattle.cmd_print.specs.Pictured.{picture_lines}
 use Rattle.cmd_check.specs.Explained.{IsExplained, IsFoundFirst}
 use Rattle.cmd_check.specs.Checking.{IsCheckVerdict, verdict_status}
 
--- The link files have no fault; these lines draw the area of the tag in upper case, with what the verdict on it names marked. Where a run is shown that goes wrong, the links by which its message comes to the system that the harm names are labelled. The status is that of `check`.
+-- The link files have no fault. These lines draw the area of the tag in upper case, with the parts of the verdict
+-- marked. If a run is found that does harm, the links are labelled by which its message reaches the system of the
+-- harm. The status is that of `check`.
 pub record IsPicturedWhy (tag : List ℕ) (inputs : List (List ℕ)) (lines : List ℕ) (status : Status) : Type 0 where
   pub files : List LinkFile
   pub are_files : AreLinkFiles inputs files
@@ -33,12 +35,12 @@ pub record IsPicturedWhy (tag : List ℕ) (inputs : List (List ℕ)) (lines : Li
   pub status_is : status ≡ verdict_status verdict
   pub tidy : (status ≡ Good) ↔ Tidy files (upper tag)
 
--- the links that are labelled are those of a run that was found
+-- the labelled links are those of a found run
 abbrev pub AreCrossings : List (List ℕ) → List ℕ → Verdict → List Crossing → Type 0
 AreCrossings inputs tag verdict crossings =
     (found : Option Shown) × IsFoundFirst (files_of inputs) tag verdict found × (crossings ≡ found_crossings (files_of inputs) tag found)
 
--- the right result if an area is to be drawn going wrong
+-- the right result of drawing an area with its harm
 abbrev pub PictureWhyAnswers : List ℕ → List (List ℕ) → Option Fault → Output → Output → Result Status Fault → Type 0
 PictureWhyAnswers tag inputs stopped old new answer =
     Answers (λ lines status. IsPicturedWhy tag inputs lines status × (stopped ≡ None)) (IsFirstFaultGiven None inputs stopped) old new answer

@@ -14,9 +14,9 @@ use Rattle.cmd_check.specs.Explained.{IsExplained}
 use Rattle.cmd_check.specs.Whys.{AreWhyLines}
 use Rattle.cmd_check.specs.Checking.{IsCheckVerdict, verdict_status}
 
--- The link files have no fault. These lines are the verdict on the area of the tag in upper case. With a no, a run on these files that has
--- the harm may follow; it breaks the promise if the fault always does. Each system in the run has its address and the path of its file. The
--- status is that of `check`.
+-- The link files have no fault. These lines are the verdict on the area of the tag in upper case. After a no there
+-- may be a run on these files that has the harm. It breaks the promise if the fault always does. Each system in the
+-- run has its address and the path of its file. The status is that of `check`.
 pub record IsReasoned (tag : List ℕ) (inputs paths : List (List ℕ)) (lines : List ℕ) (status : Status) : Type 0 where
   pub files : List LinkFile
   pub are_files : AreLinkFiles inputs files
@@ -28,12 +28,12 @@ pub record IsReasoned (tag : List ℕ) (inputs paths : List (List ℕ)) (lines :
   pub status_is : status ≡ verdict_status verdict
   pub tidy : (status ≡ Good) ↔ Tidy files (upper tag)
 
--- The right result if a verdict and a found run are to be printed.
+-- The right result of printing a verdict and a found run.
 abbrev pub PrintsWhy : List LinkFile → List (List ℕ) → List ℕ → Verdict → Option Shown → Output → Output → Result Status Fault → Type 0
 PrintsWhy files paths tag verdict found old new answer =
     Answers (λ lines status. AreWhyLines files paths tag verdict found lines × (status ≡ verdict_status verdict)) (λ fault. ⊥) old new answer
 
--- The right result if an area is to be shown going wrong.
+-- The right result of showing the harm of an area.
 abbrev pub WhyAnswers : List ℕ → List (List ℕ) → List (List ℕ) → Option Fault → Output → Output → Result Status Fault → Type 0
 WhyAnswers tag inputs paths stopped old new answer =
     Answers (λ lines status. IsReasoned tag inputs paths lines status × (stopped ≡ None)) (IsFirstFaultGiven None inputs stopped) old new answer

@@ -7,7 +7,7 @@ use Rattle.echo_links.specs.Links.{Area, LinkFile}
 use Rattle.model_run.specs.Run.{Run}
 use Rattle.model_run.specs.World.{filed_at, is_settled, undelivered, waiting_at}
 
--- The line of an area: its address, its tag and its two numbers; the tag is printed unchanged.
+-- The line of an area: its address, its tag and its two numbers. The tag is printed unchanged.
 abbrev pub area_counts_line : Address → List ℕ → ℕ → ℕ → List ℕ
 area_counts_line a tag filed waiting =
     codes "system " ++ (address_text a ++ (codes " " ++ (tag ++ (codes " filed " ++ (decimal filed ++ (codes " waiting " ++ (decimal waiting ++ codes "\n")))))))
@@ -16,7 +16,7 @@ area_counts_line a tag filed waiting =
 abbrev pub area_state_line : Run → ℕ → Address → Area → List ℕ
 area_state_line run i a area = area_counts_line a area.tag (filed_at run i area.tag) (waiting_at run i area.tag)
 
--- The lines of the areas of systems, in order, of which the first has this index.
+-- The lines of the areas of systems, in order. The first system has this index.
 abbrev pub systems_from : Run → ℕ → List LinkFile → List ℕ
 systems_from run i [] = []
 systems_from run i (file ∷ later) = flat_map (area_state_line run i file.system) file.areas ++ systems_from run (i + 1) later

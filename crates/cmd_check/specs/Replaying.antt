@@ -16,7 +16,7 @@ use Rattle.cmd_status.specs.Ended.{Answers}
 use Rattle.cmd_status.specs.Inputs.{AreLinkFiles, IsLinkFault}
 use Rattle.cmd_check.specs.Replayed.{replay_lines}
 
--- The script has no fault and neither have the link files. These are the lines for the run of its events on them.
+-- Neither the script nor a link file has a fault. These are the lines for the run of its events on them.
 pub record IsReplayed (script : List ℕ) (inputs : List (List ℕ)) (lines : List ℕ) (status : Status) : Type 0 where
   pub events : List Event
   pub are_events : ScriptOf script (Ok events)
@@ -41,12 +41,12 @@ abbrev pub AreWorldLines : ℕ → WorldState → List ℕ → Type 0
 AreWorldLines systems world lines =
     (run : Run) → IsWorldOf world run → length run.systems ≡ systems → lines ≡ replay_lines (map (λ (s : System). s.file) run.systems) run
 
--- The right result if a net is to be printed.
+-- The right result of printing a net.
 abbrev pub PrintsWorld : ℕ → WorldState → Output → Output → Result Status Fault → Type 0
 PrintsWorld systems world old new answer =
     Answers (λ lines status. AreWorldLines systems world lines × (status ≡ Good)) (λ fault. ⊥) old new answer
 
--- The right result if a script is to be replayed.
+-- The right result of replaying a script.
 abbrev pub ReplayAnswers : List ℕ → List (List ℕ) → Option Fault → Output → Output → Result Status Fault → Type 0
 ReplayAnswers script inputs stopped old new answer =
     Answers (λ lines status. IsReplayed script inputs lines status × (stopped ≡ None)) (IsFirstFaultReplayed script inputs stopped) old new answer

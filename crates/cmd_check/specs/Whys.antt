@@ -59,21 +59,21 @@ pub record AreNamed (verdict : Verdict) (found : Option Shown) (systems : List �
   pub ascending : IsStrictlySortedBy nat_cmp systems
   pub members : (system : ℕ) → Contains systems system ↔ Contains (named_in verdict found) system
 
--- The path of a file, after the address; empty for a file without a path.
+-- The path of a file, after the address. It is empty for a file without a path.
 abbrev pub path_text : Option (List ℕ) → List ℕ
 path_text None = []
 path_text (Some path) = codes " " ++ printed_word path
 
--- The line that says which system has a number, and in which file, as a note.
+-- The line for the system of a number, with its file, as a note.
 abbrev pub named_line : ℕ → Address → Option (List ℕ) → List ℕ
 named_line system address path = codes "; " ++ (decimal system ++ (codes " is " ++ (address_text address ++ (path_text path ++ codes "\n"))))
 
--- The same of a file; empty for a number without a file.
+-- The same for a file. It is empty for a number without a file.
 abbrev pub who_of : ℕ → Option LinkFile → Option (List ℕ) → List ℕ
 who_of system None path = []
 who_of system (Some file) path = named_line system file.system path
 
--- The same by the link files and their paths.
+-- The same from the link files and their paths.
 abbrev pub who_line : List LinkFile → List (List ℕ) → ℕ → List ℕ
 who_line files paths system = who_of system (slice_get files system) (slice_get paths system)
 

@@ -1,4 +1,4 @@
-//! Systems that are judged without a file of theirs: each gets the text of a link file with just those who list it.
+//! Systems without a link file: each gets the text of a link file with exactly those who list it.
 ghost use Rattle.std.specs.Prelude.{◌≡◌, ◌++◌, ◌⊎◌, ◌↔◌, Contains, IfErr, IfOk, OnOk};
 ghost use Rattle.std.specs.List.{flat_map, list_any};
 ghost use Rattle.std.specs.List.Sorted.{IsStrictlySortedBy};
@@ -17,9 +17,9 @@ use echo_links::LinkFile;
 use std::alloc::{AllocError, Global};
 use std::io::Write;
 
-/// Adds to link files those of the assumed systems in the area of the tag, its letters made upper case. They are
-/// texts as an operator writes them: the system, and the area with just those of the given files that list it. Where
-/// no given file has the area, nothing is added. The first fault of the given files is answered.
+/// Adds to link files those of the assumed systems in the area of the tag, its letters made upper case. Their texts
+/// are as an operator writes them: the system, and the area with exactly those of the given files that list it. If no
+/// given file has the area, nothing is added. The first fault of the given files is returned.
 pub fn assume<'a>(
     alloc: Global,
     tag: &[u8],
@@ -35,7 +35,7 @@ pub fn assume<'a>(
     Ok(())
 }
 
-/// Adds the link file of each assumed system, where some file has the area.
+/// Adds the link file of each assumed system, if some file has the area.
 pub(crate) fn push_assumed(
     alloc: Global,
     texts: &mut Vec<Items<u8>>,

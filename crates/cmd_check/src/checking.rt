@@ -20,7 +20,7 @@ use echo_net::Verdict;
 use echo_nodelist::Nodelist;
 use std::alloc::{AllocError, Global};
 
-/// What `check` prints besides its verdicts.
+/// What `check` prints in addition to its verdicts.
 #[derive(Clone, Copy)]
 pub struct Besides<'n> {
     /// Which systems of the area this nodelist lacks.
@@ -29,10 +29,10 @@ pub struct Besides<'n> {
     pub more: bool,
 }
 
-/// `check [--nodelist LIST] [--more] TAG LINKS...`: prints whether the area of the tag, its letters made upper case, is
-/// in order on the net of these link files, and with `--more` each further fault. Then it prints which of its systems
-/// the nodelist lacks. Of a faulty file nothing is printed. The first fault is returned, that of the nodelist before
-/// those of link files. `stopped` is why no further file was read, and comes last.
+/// `check [--nodelist LIST] [--more] TAG LINKS...`: prints whether the area of the tag, its letters made upper case,
+/// is in order on the net of these link files. With `--more` it prints each further fault. Then it prints which of
+/// its systems the nodelist lacks. For a faulty file nothing is printed. The first fault is returned, that of the
+/// nodelist before those of link files. `stopped` is why no further file was read, and comes last.
 pub fn check<'a, W: Sink>(
     alloc: Global,
     besides: Besides<'_>,
@@ -87,8 +87,8 @@ fn check_read<'a, W: Sink>(
     Ok(status_of(&verdict))
 }
 
-/// Adds the lines of the verdict, of further faults if they are asked for, and of the systems that the nodelist does
-/// not hold.
+/// Adds the lines of the verdict, of further faults if they are asked for, and of the systems that the nodelist
+/// lacks.
 pub(crate) fn push_check(
     alloc: Global,
     lines: &mut Vec<u8>,
@@ -106,7 +106,7 @@ pub(crate) fn push_check(
     push_absences(alloc, lines, list, links, tag)
 }
 
-/// The status of a verdict: 0 where it is yes, else 1.
+/// The status of a verdict: 0 for a yes, else 1.
 pub fn status_of(verdict: &Verdict) -> Status
     ensures { result ≡ verdict_status verdict.now }
 {

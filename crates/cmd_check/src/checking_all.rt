@@ -21,10 +21,10 @@ use echo_net::Verdict;
 use echo_nodelist::Nodelist;
 use std::alloc::{AllocError, Global};
 
-/// `check --all [--nodelist LIST] [--more] LINKS...`: prints of each area that a file has what `check` prints, ascending
-/// by tag, and with `--more` how many areas have a yes. The status is 1 where one verdict is a no. Of a faulty file
-/// nothing is printed; the first fault is answered, that of the nodelist before those of link files. `stopped` is why no
-/// further file was read, and comes last.
+/// `check --all [--nodelist LIST] [--more] LINKS...`: prints for each area that a file has what `check` prints,
+/// ascending by tag, and with `--more` how many areas have a yes. The status is 1 if one verdict is a no. For a
+/// faulty file nothing is printed. The first fault is returned, that of the nodelist before those of link files.
+/// `stopped` is why no further file was read, and comes last.
 pub fn check_all<'a, W: Sink>(
     alloc: Global,
     besides: Besides<'_>,
@@ -75,7 +75,7 @@ fn check_areas_read<'a, W: Sink>(
     Ok(status_of_verdicts(noes))
 }
 
-// Adds the lines of each of these areas, and answers how many verdicts are a no.
+// Adds the lines of each of these areas. Returns how many verdicts are a no.
 fn push_areas(
     alloc: Global,
     lines: &mut Vec<u8>,
@@ -96,7 +96,7 @@ fn push_areas(
     Ok(noes)
 }
 
-// Adds the lines of the area, and answers 1 if its verdict is a no. Two of the files have the address `shared`.
+// Adds the lines of the area. Returns 1 if its verdict is a no. Two of the files have the address `shared`.
 fn push_area(
     alloc: Global,
     lines: &mut Vec<u8>,

@@ -16,9 +16,9 @@ use echo_links::LinkFile;
 use echo_nodelist::Nodelist;
 use std::alloc::Global;
 
-/// `check --assume ADDRESS.. [--nodelist LIST] [--more] TAG LINKS...`: prints what `check` prints of the given files with
-/// those of the assumed systems behind them, and then a line for each of these systems. An assumed system is
-/// judged as if it had the area and listed just those who list it.
+/// `check --assume ADDRESS.. [--nodelist LIST] [--more] TAG LINKS...`: prints what `check` prints for the given files
+/// followed by those of the assumed systems. Then it prints a line for each of these systems. An assumed system is
+/// judged as if it had the area and listed exactly those who list it.
 pub fn check_assuming<'a, W: Sink>(
     alloc: Global,
     besides: Besides<'_>,
@@ -83,7 +83,7 @@ fn check_assuming_read<'a, W: Sink>(
     print_checked(alloc, list, more, tag, links.as_slice(), assumed, out)
 }
 
-// Reads further link files, behind those that were read.
+// Reads further link files, and appends them to those that were read.
 fn read_more<'a>(
     alloc: Global,
     links: &mut Vec<LinkFile>,

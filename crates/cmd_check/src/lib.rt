@@ -1,17 +1,17 @@
-//! The commands of `echonet` that judge an area of a net or try one out, as functions over bytes in and a sink out, for
-//! standard output. Each returns its status or a fault, and writes no file.
+//! The commands of `echonet` that judge an area of a net or try one out, as functions over bytes in and a sink out,
+//! for standard output. Each returns its status or a fault, and writes no file.
 //!
-//! The contract for the program: a command that ends well wrote just its lines, and a 0 of `check` holds for every run
-//! on these link files. A command refuses an input just if that has the fault. Standard output failed just if the
-//! result says so.
+//! The contract for the program: a command that ends well wrote only its lines, and a 0 of `check` holds for every
+//! run on these link files. A command refuses an input exactly if that has the fault. Standard output failed exactly
+//! if the result says so.
 //!
 //! The crate `cmd_print` has the lines of a verdict or a drawing, and `cmd_status` how a command ends.
 //!
 //! Begin with `checking` (`check`: is an area in order). `further_text` has the lines of `check --more`. `area_tags`
-//! (which areas there are) and `checking_all` are for `check --all`. `assuming` and `checking_assumed` are for `check --assume`, with systems that sent no file.
-//! `picturing` (`picture`) draws an area as a graph. `reasoning`, `why_text` and `who_text` (`why`) print a run that
-//! goes wrong, and who is who in it. `picturing_why` (`picture --why`) draws such a run. `replaying` and `replay_text`
-//! (`replay`) print what becomes of a net.
+//! (which areas there are) and `checking_all` are for `check --all`. `assuming` and `checking_assumed` are for `check
+//! --assume`, with systems that sent no file. `picturing` (`picture`) draws an area as a graph. `reasoning`,
+//! `why_text` and `who_text` (`why`) print a run that does harm, and name the systems in it. `picturing_why`
+//! (`picture --why`) draws such a run. `replaying` and `replay_text` (`replay`) print the results of a script.
 #![tactic(auto)]
 
 mod area_tags;

@@ -14,10 +14,10 @@ use echo_links::LinkFile;
 use echo_net::{Crossing, Drawing, Verdict};
 use std::alloc::Global;
 
-/// `picture TAG LINKS...`: prints the systems and links of the area of the tag, its letters made upper case, as a graph
-/// in the language DOT of Graphviz. The faults that `check` finds are marked. The status is that of `check`. Of a
-/// faulty file nothing is printed; the first fault is returned. `stopped` is why no further file was read, and comes
-/// last.
+/// `picture TAG LINKS...`: prints the systems and links of the area of the tag, its letters made upper case, as a
+/// graph in the language DOT of Graphviz. The faults that `check` finds are marked. The status is that of `check`.
+/// For a faulty file nothing is printed. The first fault is returned. `stopped` is why no further file was read, and
+/// comes last.
 pub fn picture<'a, W: Sink>(
     alloc: Global,
     tag: &[u8],

@@ -17,7 +17,7 @@ use std::hash::RandomState;
 
 /// `picture --why TAG LINKS...`: prints the graph that `picture` prints, with the run that `why` finds shown on it. A
 /// link by which the message reaches the system of the harm is labelled with the numbers of the events that send it.
-/// The posting is the first of these. The status is that of `check`. Of a faulty file nothing is printed; the first
+/// The posting is the first of these. The status is that of `check`. For a faulty file nothing is printed. The first
 /// fault is returned. `stopped` is why no further file was read, and comes last. Look-ups go by the hasher.
 pub fn picture_why<'a, W: Sink>(
     alloc: Global,
@@ -55,7 +55,7 @@ fn picture_why_read<'a, W: Sink>(
     print_picture(alloc, tag, &verdict, &drawing, &crossings, out)
 }
 
-// The links by which the message of the run that `why` finds comes to the system that the harm names.
+// The links by which the message of the run of `why` reaches the system of the harm.
 fn crossings_found(
     alloc: Global,
     tag: &[u8],

@@ -16,12 +16,14 @@ use model_why::{Shown, explain};
 use std::alloc::Global;
 use std::hash::RandomState;
 
-/// `why TAG LINKS...`: prints the verdict of `check` on the area of the tag, its letters made upper case, as a note. If
-/// that is no and a run is found, it prints the events of a run on these link files that goes wrong, as a script for
-/// `replay`, and the harm. Before the events a note for each system in them has its address and the path of its file; a
-/// file after the last path has none. By V3, V5, V7 and V8 a run is found that breaks the promise, and by V4 one of any
-/// kind if no file has the address. The status is that of `check`. Of a faulty file nothing is printed; the first fault
-/// is returned. `stopped` is why no further file was read, and comes last. Look-ups go by the hasher.
+/// `why TAG LINKS...`: prints the verdict of `check` on the area of the tag, its letters made upper case, as a note.
+/// If that is no and a run is found, it prints the harm and the events of a run on these link files that does harm.
+/// They are a script for `replay`. Before the events a note for each system in them has its address and the path of
+/// its file. A file after the last path has none.
+///
+/// By V3, V5, V7 and V8 a run is found that breaks the promise. By V4 it is one of any kind if no file has the
+/// address. The status is that of `check`. For a faulty file nothing is printed. The first fault is returned.
+/// `stopped` is why no further file was read, and comes last. Look-ups go by the hasher.
 pub fn why<'a, W: Sink>(
     alloc: Global,
     tag: &[u8],

@@ -13,8 +13,8 @@ use model_replay::World;
 use std::alloc::AllocError;
 use std::io::Write;
 
-/// Adds the lines of a net of so many systems: of each area of each, how many messages are filed and wait
-/// there; how many packets were made and not delivered; and whether the net has settled.
+/// Adds the lines of a net of so many systems: for each area of each, how many messages are filed and wait there; how
+/// many packets were made and not delivered; and whether the net has settled.
 pub(crate) fn push_world(
     lines: &mut Vec<u8>,
     systems: usize,

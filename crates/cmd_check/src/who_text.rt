@@ -1,4 +1,4 @@
-//! The lines that say which systems a run names by numbers.
+//! The lines for the systems that a run names by numbers.
 ghost use Rattle.std.specs.Prelude.{◌≡◌, ◌++◌, ◌∷◌, IfOk, OnOk, codes, option_copied};
 ghost use Rattle.std.specs.List.{flat_map};
 ghost use Rattle.echo_charset.specs.Words.{printed_word};
@@ -117,7 +117,7 @@ fn push_who(
     Ok(())
 }
 
-// Adds the path behind an address.
+// Adds the path after an address.
 fn push_path(lines: &mut Vec<u8>, path: Option<&Items<u8>>) -> Result<(), AllocError>
     ensures { OnOk result (lines.new.items ≡ lines.old.items ++ path_text (option_copied path.entry)) }
 {

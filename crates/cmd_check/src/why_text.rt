@@ -1,4 +1,4 @@
-//! The lines of a run that goes wrong, which is a script.
+//! The lines of a run that does harm. They are a script.
 ghost use Rattle.std.specs.Prelude.{◌≡◌, ◌++◌, codes, OnOk, option_copied};
 ghost use Rattle.std.specs.List.{flat_map};
 ghost use Rattle.echo_addr.specs.Address.{address_text};
@@ -18,8 +18,8 @@ use model_why::{Harm, Shown};
 use std::alloc::{AllocError, Global};
 use std::io::Write;
 
-/// Adds the verdict on the area with this tag, as a note. If that is no, it adds who is who in the run that was found,
-/// its events and its harm.
+/// Adds the verdict on the area with this tag, as a note. If that is no, it adds the notes on the systems in the
+/// found run, its events and its harm.
 pub(crate) fn push_why(
     alloc: Global,
     lines: &mut Vec<u8>,
@@ -126,7 +126,7 @@ fn push_again(
     written(writeln!(lines, " {times} times"))
 }
 
-// Adds the line of a system, of which these words say what it has to do with the message.
+// Adds the line of a system. These words say what happens to it with the message.
 fn push_of_system(
     lines: &mut Vec<u8>,
     address: Address,

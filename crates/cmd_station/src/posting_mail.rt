@@ -89,7 +89,7 @@ fn mail_given<'a>(
     })
 }
 
-// The message that the mail answers, if something of it is wanted and the base has it.
+// The message that the mail answers, if a part of it is needed and the base has it.
 fn answered_message<'a>(
     rt: &HostRuntime,
     words: &PostMailWords<'a>,

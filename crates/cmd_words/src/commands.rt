@@ -87,11 +87,11 @@ const ALL_LINKS: Word = Word("LINKS", Form::ManyUnless("links-from"), NET);
 const LINKS_FROM: Word = Word(
     "links-from",
     Form::Option("FILE"),
-    "The link files stand in this file, or - for standard input: one a line, or each ended by 00",
+    "The link files are listed in this file, or - for standard input: one a line, or each ended by 00",
 );
 
 const ASSUME: &str =
-    "Judges this system without a file of its own: it links with just those who list it; more than once";
+    "Judges this system without a file of its own: it links with exactly those who list it. May be repeated";
 
 const LINKS: Word = Word("LINKS", Form::One, "The link file of the system");
 
@@ -110,7 +110,7 @@ const SERIAL: Word = Word(
 const AT: Word = Word(
     "at",
     Form::Needed("STAMP"),
-    "The moment, as YYYY-MM-DDThh:mm:ss, or now (UTC), or local (in the system's time zone)",
+    "The time, as YYYY-MM-DDThh:mm:ss, or now (UTC), or local (in the system's time zone)",
 );
 
 /// The commands for packets, nodelists and nets.
@@ -125,7 +125,7 @@ pub(crate) const LOOKING: &[Entry] = &[
                 Form::Flag,
                 "The packet is written in hexadecimal digits",
             ),
-            Word("text", Form::Flag, "Prints the lines of each text, too"),
+            Word("text", Form::Flag, "Also prints the lines of each text"),
             Word(
                 "PACKET",
                 Form::One,
@@ -144,7 +144,7 @@ pub(crate) const LOOKING: &[Entry] = &[
             Word(
                 "find",
                 Form::Option("ADDRESS"),
-                "Prints the first line with this address alone",
+                "Prints only the first line with this address",
             ),
             Word("FILE", Form::One, "The nodelist"),
         ],
@@ -157,7 +157,7 @@ pub(crate) const LOOKING: &[Entry] = &[
             Word(
                 "areas",
                 Form::Flag,
-                "Prints how many links each area has, too",
+                "Also prints how many links each area has",
             ),
             LINKS_FROM,
             Word("LINKS", Form::ManyUnless("links-from"), "The link files"),
@@ -171,17 +171,17 @@ pub(crate) const LOOKING: &[Entry] = &[
             Word(
                 "nodelist",
                 Form::Option("LIST"),
-                "Prints which systems of the area this nodelist does not hold",
+                "Prints which systems of the area this nodelist lacks",
             ),
             Word(
                 "more",
                 Form::Flag,
-                "Prints the other faults of the area, too, and with --all how many areas are in order",
+                "Also prints the other faults of the area, and with --all how many areas are in order",
             ),
             Word(
                 "all",
                 Form::Flag,
-                "Each area that a file has, in place of TAG",
+                "Each area that a file has, instead of TAG",
             ),
             Word("assume", Form::RepeatedUnless("ADDRESS", "all"), ASSUME),
             LINKS_FROM,
@@ -230,12 +230,12 @@ pub(crate) const CHANGING: &[Entry] = &[
             Word(
                 "mail",
                 Form::Flag,
-                "Standard input is a mail message, and the words stand for what it lacks",
+                "Standard input is a mail message, and the other options give what it lacks",
             ),
             Word(
                 "charset",
                 Form::OptionWith("C", "mail", &[]),
-                "The charset in which the mail is posted, CP437 without this word",
+                "The charset in which the mail is posted, CP437 without this option",
             ),
             Word("area", Form::NeededUnless("TAG", &["mail"]), AREA),
             Word(
@@ -308,7 +308,7 @@ pub(crate) const CHANGING: &[Entry] = &[
             Word(
                 "packets-from",
                 Form::Option("FILE"),
-                "The packet files stand in this file, or - for standard input: one a line, or each ended by 00",
+                "The packet files are listed in this file, or - for standard input: one a line, or each ended by 00",
             ),
             Word(
                 "text-limit",
@@ -359,7 +359,7 @@ pub(crate) const READING: &[Entry] = &[
             Word(
                 "area",
                 Form::Option("TAG"),
-                "Prints the messages of this area alone, in letters of either case",
+                "Prints only the messages of this area, in letters of either case",
             ),
             Word(
                 "from",
@@ -377,7 +377,7 @@ pub(crate) const READING: &[Entry] = &[
             Word(
                 "area",
                 Form::Option("TAG"),
-                "Prints the messages of this area alone, in letters of either case",
+                "Prints only the messages of this area, in letters of either case",
             ),
             Word(
                 "from",
@@ -387,7 +387,7 @@ pub(crate) const READING: &[Entry] = &[
             Word(
                 "mbox",
                 Form::FlagUnless("json"),
-                "Prints a mailbox, as it does without this word, too",
+                "Prints a mailbox, as without this option",
             ),
             Word(
                 "json",
@@ -397,7 +397,7 @@ pub(crate) const READING: &[Entry] = &[
             Word(
                 "purged",
                 Form::Flag,
-                "Prints what is left of purged messages, too",
+                "Also prints what is left of purged messages",
             ),
             Word(
                 "msg",
@@ -407,7 +407,7 @@ pub(crate) const READING: &[Entry] = &[
             Word(
                 "jam",
                 Form::OptionWith("PATH", "area", &["mbox", "json", "purged", "msg"]),
-                "Adds each message to this JAM base, PATH.jhr and so on, which is made where there is none",
+                "Adds each message to this JAM base, PATH.jhr and so on, which is made if there is none",
             ),
             Word("BASE", Form::One, "The base of the system"),
         ],
@@ -443,7 +443,7 @@ pub(crate) const READING: &[Entry] = &[
             Word(
                 "TO",
                 Form::One,
-                "The base that is made: a folder that is there and empty, or a file that is not there",
+                "The base that is made: an empty folder, or a file that does not exist yet",
             ),
         ],
     ),

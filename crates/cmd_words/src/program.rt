@@ -39,7 +39,7 @@ fn explain_word<'a>(alloc: Global) -> Arg<'a> {
         .long("explain")
         .action(ArgAction::SetTrue)
         .global(true)
-        .help("Prints why a command stopped in words, too, as on a terminal")
+        .help("Also prints in words why a command stopped, as on a terminal")
 }
 
 /// The parser of the command line.

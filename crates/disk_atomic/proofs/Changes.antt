@@ -1,8 +1,8 @@
 -- How runs that change some files go on.
 use Rattle.std.proofs.Common.{◌≡◌, inl, ◌∙◌, List, ℕ, Option, Some, refl, sym, subst}
 use Rattle.disk_io.specs.Disk.{DiskState, Files}
-use Rattle.disk_io.specs.Steps.{ChangesFile, SameBeside}
-use Rattle.disk_io.specs.Runs.{ChangesNothing, Elapses, KeepsAlone, KeepsFlushed, KeepsNamed, LeavesOnly, LeavesOneStepOn, OneStepOn}
+use Rattle.disk_io.specs.Steps.{ChangesFile}
+use Rattle.disk_io.specs.Runs.{ChangesAt, ChangesNothing, LeavesOnly, NoPath, OneStepOn, ThisPath}
 use Rattle.disk_io.proofs.Moments.{left_now, no_call, one_call, then_run, weaker_run}
 use Rattle.disk_atomic.specs.Changes.{ChangesOnly, DifferAt, HasOnDisk}
 
@@ -45,20 +45,28 @@ module _ (paths : List ℕ → Type 0) where
   }
 
   -- a call at one path, which is on the disk
-  pub only_call : (old new : DiskState) (x : List ℕ) (step : Option (List ℕ) → Option (List ℕ) → Type 0) → paths x → old.is_named x
-      → SameBeside x old.seen new.seen → LeavesOneStepOn (ChangesFile old x step) old new → KeepsNamed paths old new → KeepsFlushed paths old new → KeepsAlone paths old new
-      → Elapses old new → ChangesOnly paths old new
-  only_call old new x step is on staging crash named flushed alone time =
+  pub only_call : {unnamed shared : List ℕ → Type 0} (old new : DiskState) (x : List ℕ) (step : Option (List ℕ) → Option (List ℕ) → Type 0) → paths x → old.is_named x
+      → ((m : List ℕ) → unnamed m → paths m) → ((m : List ℕ) → shared m → paths m) → ChangesAt (ThisPath x) unnamed shared (ChangesFile old x step) old new → ChangesOnly paths old new
+  only_call old new x step is on unnamed shared call =
       let not : (m : List ℕ) → (paths m → ⊥) → m ≡ x → ⊥ = λ m other e. other (subst paths (sym e) is) in
       record {
-        seen = λ m other. staging m (not m other);
-        named = named;
-        flushed = flushed;
-        alone = alone;
-        honest = time.honest;
-        any_moment = one_call old new (DifferAt paths) (λ c m other. refl) time (λ c left.
-            let from = crash c left in (from.0, from.1, λ m other. from.2.beside m (not m other) (inl on)));
+        seen = λ m other. call.beside m (not m other);
+        named = λ m other. call.named m (λ at. other (unnamed m at));
+        flushed = λ m other. call.flushed m (not m other);
+        alone = λ m other. call.alone m (λ at. other (shared m at));
+        honest = call.time.honest;
+        any_moment = one_call old new (DifferAt paths) (λ c m other. refl) call (λ a c left changed m other. changed.beside m (not m other) (inl on));
       }
+
+  -- it makes a file there, or removes it
+  pub only_path : (old new : DiskState) (x : List ℕ) (step : Option (List ℕ) → Option (List ℕ) → Type 0) → paths x → old.is_named x
+      → ChangesAt (ThisPath x) (ThisPath x) (ThisPath x) (ChangesFile old x step) old new → ChangesOnly paths old new
+  only_path old new x step is on = only_call old new x step is on (λ m e. subst paths (sym e) is) (λ m e. subst paths (sym e) is)
+
+  -- it writes to the file there
+  pub only_bytes : (old new : DiskState) (x : List ℕ) (step : Option (List ℕ) → Option (List ℕ) → Type 0) → paths x → old.is_named x
+      → ChangesAt (ThisPath x) NoPath NoPath (ChangesFile old x step) old new → ChangesOnly paths old new
+  only_bytes old new x step is on = only_call old new x step is on (λ m none. absurd none) (λ m none. absurd none)
 
   pub then_only : (d0 d1 d2 : DiskState) → ChangesOnly paths d0 d1 → ChangesOnly paths d1 d2 → ChangesOnly paths d0 d2
   then_only d0 d1 d2 first second =

@@ -6,7 +6,7 @@ use Rattle.std.proofs.lemmas.Bool.{cases_lt}
 use Rattle.std.proofs.lemmas.List.Elements.{AllWithin-none}
 use Rattle.disk_io.specs.Disk.{DiskState, Files}
 use Rattle.disk_io.specs.Steps.{ChangesFile, TornRemoval}
-use Rattle.disk_io.specs.Runs.{ChangesNothing, Elapses, LeavesOneStepOn, LeavesOnly, OneStepOn}
+use Rattle.disk_io.specs.Runs.{ChangesAt, ChangesNothing, LeavesOnly, OneStepOn, ThisPath}
 use Rattle.disk_io.proofs.Moments.{one_call, then_run, weaker_run}
 use Rattle.disk_atomic.specs.Changes.{ChangesOnly, DifferAt}
 use Rattle.disk_atomic.specs.Naming.{HasMoved, Names}
@@ -160,17 +160,13 @@ none_finished cursor found d0 d1 quiet =
     (λ c left. (c, left, record { others = λ m out. refl; ends = AllWithin-none (EndsAs cursor c c) found 0; same = λ k z low high. (refl, refl) }))
 
 -- where it was not, the removal is
-pub removed_finishes : (cursor : ℕ) (l : Left) → cursor ≤ l.before → l.staging.now ≢ l.path.now → (old new : DiskState) → old.is_named l.staging.now → Elapses old new
-    → LeavesOneStepOn (ChangesFile old l.staging.now TornRemoval) old new → LeavesOnly old new (OneStepOn (Finishes cursor l) old)
-removed_finishes cursor l le other old new named time crash =
-    one_call old new (Finishes cursor l) (λ c. record { others = λ m out. refl; ends = ends_same cursor c c l refl refl }) time
-    (λ c left.
-    let from = crash c left in
-    let path : c l.path.now ≡ from.0 l.path.now = from.2.beside l.path.now (λ e. other (sym e)) (inl named) in (
-      from.0,
-      from.1,
-      record {
-        others = λ m out. from.2.beside m (λ e. out (inl e)) (inl named);
-        ends = record { committed = λ lt. absurd (omega arith); untouched = λ is. path; either = inl path };
-      },
-    ))
+pub removed_finishes : (cursor : ℕ) (l : Left) → cursor ≤ l.before → l.staging.now ≢ l.path.now → (old new : DiskState) → old.is_named l.staging.now
+    → ChangesAt (ThisPath l.staging.now) (ThisPath l.staging.now) (ThisPath l.staging.now) (ChangesFile old l.staging.now TornRemoval) old new → LeavesOnly old new (OneStepOn (Finishes cursor l) old)
+removed_finishes cursor l le other old new named call =
+    one_call old new (Finishes cursor l) (λ c. record { others = λ m out. refl; ends = ends_same cursor c c l refl refl }) call
+    (λ a c left removes.
+    let path : c l.path.now ≡ a l.path.now = removes.beside l.path.now (λ e. other (sym e)) (inl named) in
+    record {
+      others = λ m out. removes.beside m (λ e. out (inl e)) (inl named);
+      ends = record { committed = λ lt. absurd (omega arith); untouched = λ is. path; either = inl path };
+    })

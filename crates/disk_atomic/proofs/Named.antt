@@ -1,51 +1,47 @@
 -- What a crash leaves while a packet gets its path, by a second path and the removal of the first.
 use Rattle.std.proofs.Common.{◌≡◌, ◌≢◌, ◌⊎◌, inl, inr, ⊎_elim, ◌∙◌, ℕ, List, refl, sym}
 use Rattle.disk_io.specs.Disk.{DiskState}
-use Rattle.disk_io.specs.Steps.{ChangesFile, SameBeside, TornNaming, TornRemoval}
-use Rattle.disk_io.specs.Runs.{ChangesNothing, Elapses, KeepsAlone, KeepsFlushed, KeepsNamed, LeavesOneStepOn, LeavesOnly, OneStepOn}
+use Rattle.disk_io.specs.Steps.{ChangesFile, TornNaming, TornRemoval}
+use Rattle.disk_io.specs.Runs.{ChangesAt, ChangesNothing, EitherPath, LeavesOnly, OneStepOn, ThisPath}
 use Rattle.disk_io.proofs.Moments.{one_call, then_nothing}
 use Rattle.disk_io.proofs.Tearing.{ChangesFile-none}
 use Rattle.disk_atomic.specs.Naming.{Gives, Names}
 use Rattle.disk_atomic.proofs.Changes.{only_call, only_nothing, then_only, then_steps}
 
+abbrev Links : List ℕ → List ℕ → DiskState → DiskState → Type 0
+Links path staging old new = ChangesAt (ThisPath path) (ThisPath path) (EitherPath staging path) (ChangesFile old path (TornNaming (old.seen staging))) old new
+
 module _ (path staging : List ℕ) (other : staging ≢ path) where
   -- the second path
-  pub linked_run : (old new : DiskState) → old.is_named staging → old.is_flushed staging → old.is_named path → Elapses old new
-      → LeavesOneStepOn (ChangesFile old path (TornNaming (old.seen staging))) old new → LeavesOnly old new (OneStepOn (Names path staging) old)
-  linked_run old new named flushed free time crash =
-      one_call old new (Names path staging) (λ c. record { others = λ m out. refl; stands = inr refl; either = inl refl }) time
-      (λ c left.
-      let from = crash c left in
-      let there : from.0 staging ≡ old.seen staging = old.on_disk staging named flushed from.0 from.1 in (
-        from.0,
-        from.1,
-        record {
-          others = λ m out. from.2.beside m (λ e. out (inr e)) (inl free);
-          stands = inr (from.2.beside staging other (inl free));
-          either = ⊎_elim (λ same. inl same) (λ new. inr (new ∙ sym there)) (from.2.within free);
-        },
-      ))
+  pub linked_run : (old new : DiskState) → old.is_named staging → old.is_flushed staging → old.is_named path → Links path staging old new → LeavesOnly old new (OneStepOn (Names path staging) old)
+  linked_run old new named flushed free call =
+      one_call old new (Names path staging) (λ c. record { others = λ m out. refl; stands = inr refl; either = inl refl }) call
+      (λ a c left links.
+      let there : a staging ≡ old.seen staging = old.on_disk staging named flushed a left in
+      record {
+        others = λ m out. links.beside m (λ e. out (inr e)) (inl free);
+        stands = inr (links.beside staging other (inl free));
+        either = ⊎_elim (λ same. inl same) (λ new. inr (new ∙ sym there)) (links.within free);
+      })
 
   -- it is on the disk, and the first goes
   pub moved_run : (d0 d1 d2 : DiskState) → LeavesOnly d0 d1 (OneStepOn (Names path staging) d0) → d0.is_named staging → d0.is_flushed staging → d1.is_named staging
-      → d1.is_named path → d1.is_flushed path → d1.seen path ≡ d0.seen staging → Elapses d1 d2 → LeavesOneStepOn (ChangesFile d1 staging TornRemoval) d1 d2 → LeavesOnly d0 d2 (OneStepOn (Names path staging) d0)
-  moved_run d0 d1 d2 run named flushed still path_named path_flushed is time crash =
+      → d1.is_named path → d1.is_flushed path → d1.seen path ≡ d0.seen staging → ChangesAt (ThisPath staging) (ThisPath staging) (ThisPath staging) (ChangesFile d1 staging TornRemoval) d1 d2
+      → LeavesOnly d0 d2 (OneStepOn (Names path staging) d0)
+  moved_run d0 d1 d2 run named flushed still path_named path_flushed is call =
       let R = Names path staging in
       let step = ChangesFile d1 staging TornRemoval in
-      then_steps d0 d1 d2 R step R run (one_call d1 d2 step (ChangesFile-none d1 staging TornRemoval (λ f. inl refl)) time crash) (λ a b r. r)
+      then_steps d0 d1 d2 R step R run (one_call d1 d2 step (ChangesFile-none d1 staging TornRemoval (λ f. inl refl)) call (λ a c left s. s)) (λ a b r. r)
       (λ a b c at left r q.
       let same : c path ≡ a staging = q.beside path (λ e. other (sym e)) (inl still) ∙ d1.on_disk path path_named path_flushed b left ∙ is ∙ sym (d0.on_disk staging named flushed a at) in
       record { others = λ m out. q.beside m (λ e. out (inl e)) (inl still) ∙ r.others m out; stands = inl same; either = inr same })
 
 -- a link is such a call
-pub link_gives : (path staging : List ℕ) → staging ≢ path → (old new : DiskState) → old.is_named staging → old.is_flushed staging → old.is_named path → SameBeside path old.seen new.seen
-    → LeavesOneStepOn (ChangesFile old path (TornNaming (old.seen staging))) old new → KeepsNamed (λ m. m ≡ path) old new → KeepsFlushed (λ m. m ≡ path) old new
-    → KeepsAlone (λ m. (m ≡ staging) ⊎ (m ≡ path)) old new → Elapses old new → Gives old new path staging
-link_gives path staging other old new named flushed free same crash keeps_named keeps_flushed alone time = record {
-  any_moment = linked_run path staging other old new named flushed free time crash;
-  changes = only_call (λ m. (m ≡ staging) ⊎ (m ≡ path)) old new path (TornNaming (old.seen staging)) (inr refl) free same crash
-      (λ m out. keeps_named m (λ e. out (inr e))) (λ m out. keeps_flushed m (λ e. out (inr e))) alone time;
-  stays = record { seen = same staging other; named = keeps_named staging other; flushed = keeps_flushed staging other };
+pub link_gives : (path staging : List ℕ) → staging ≢ path → (old new : DiskState) → old.is_named staging → old.is_flushed staging → old.is_named path → Links path staging old new → Gives old new path staging
+link_gives path staging other old new named flushed free call = record {
+  any_moment = linked_run path staging other old new named flushed free call;
+  changes = only_call (EitherPath staging path) old new path (TornNaming (old.seen staging)) (inr refl) free (λ m e. inr e) (λ m e. e) call;
+  stays = record { seen = call.beside staging other; named = call.named staging other; flushed = call.flushed staging other };
 }
 
 -- the same with calls behind it that change nothing

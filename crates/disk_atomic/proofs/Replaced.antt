@@ -1,16 +1,16 @@
 -- What a crash leaves while a file is replaced by way of a path beside it.
-use Rattle.std.proofs.Common.{◌≡◌, ◌≢◌, ◌⊎◌, inl, inr, ⊎_elim, ◌∙◌, ℕ, List, refl, sym}
+use Rattle.std.proofs.Common.{◌≡◌, ◌≢◌, inl, inr, ⊎_elim, ◌∙◌, ℕ, List, refl, sym}
 use Rattle.disk_io.specs.Disk.{DiskState, Files}
 use Rattle.disk_io.specs.Steps.{RenamesFile}
-use Rattle.disk_io.specs.Runs.{Elapses, LeavesOneStepOn, LeavesOnly, OneStepOn}
+use Rattle.disk_io.specs.Runs.{ChangesAt, EitherPath, LeavesOnly, OneStepOn}
 use Rattle.disk_io.proofs.Moments.{one_call}
 use Rattle.disk_atomic.specs.Changes.{ChangesOnly, DifferAt, HasOnDisk}
 use Rattle.disk_atomic.specs.Replacing.{Replaces}
 use Rattle.disk_atomic.proofs.Changes.{then_steps, weaker_steps}
 
 module _ (path staging bytes : List ℕ) where
-  abbrev Both : List ℕ → Type 0
-  Both m = (m ≡ staging) ⊎ (m ≡ path)
+  abbrev Renames : DiskState → DiskState → Type 0
+  Renames old new = ChangesAt (EitherPath staging path) (EitherPath staging path) (EitherPath staging path) (RenamesFile old staging path) old new
 
   module _ (other : staging ≢ path) where
     -- files that differ beside the path alone
@@ -24,25 +24,27 @@ module _ (path staging bytes : List ℕ) where
       either = ⊎_elim (λ was. inl (was ∙ r path (λ e. other (sym e)))) (λ new. inr new) q.either;
     }
 
-  module _ (old new : DiskState) (is : HasOnDisk old staging bytes) (named : old.is_named path) (time : Elapses old new) (crash : LeavesOneStepOn (RenamesFile old staging path) old new) where
+  module _ (old new : DiskState) (is : HasOnDisk old staging bytes) (named : old.is_named path) (call : Renames old new) where
     -- the renaming
     pub renamed_run : LeavesOnly old new (OneStepOn (Replaces path staging bytes) old)
-    renamed_run = one_call old new (Replaces path staging bytes) (λ c. record { others = λ m out. refl; either = inl refl }) time (λ c left.
-        let from = crash c left in (
-          from.0,
-          from.1,
-          record {
-            others = λ m out. from.2.beside m (λ e. out (inl e)) (λ e. out (inr e)) (inl (is.named, named));
-            either = ⊎_elim (λ same. inl same.1) (λ moved. inr (moved.1 ∙ is.seen)) (from.2.both is.named named);
-          },
-        ))
+    renamed_run = one_call old new (Replaces path staging bytes) (λ c. record { others = λ m out. refl; either = inl refl }) call (λ a c left renames. record {
+      others = λ m out. renames.beside m (λ e. out (inl e)) (λ e. out (inr e)) (inl (is.named, named));
+      either = ⊎_elim (λ same. inl same.1) (λ moved. inr (moved.1 ∙ is.seen)) (renames.both is.named named);
+    })
 
-    pub renamed_differ : LeavesOnly old new (OneStepOn (DifferAt Both) old)
-    renamed_differ = weaker_steps old new (Replaces path staging bytes) (DifferAt Both) renamed_run (λ a c r. r.others)
+    pub renamed_only : ChangesOnly (EitherPath staging path) old new
+    renamed_only = record {
+      seen = call.beside;
+      named = call.named;
+      flushed = call.flushed;
+      alone = call.alone;
+      honest = call.time.honest;
+      any_moment = weaker_steps old new (Replaces path staging bytes) (DifferAt (EitherPath staging path)) renamed_run (λ a c r. r.others);
+    }
 
   -- the run up to the renaming, and that
-  pub replaced_run : (d0 d1 d2 : DiskState) → staging ≢ path → ChangesOnly (λ m. m ≡ staging) d0 d1 → HasOnDisk d1 staging bytes → d1.is_named path → Elapses d1 d2
-      → LeavesOneStepOn (RenamesFile d1 staging path) d1 d2 → LeavesOnly d0 d2 (OneStepOn (Replaces path staging bytes) d0)
-  replaced_run d0 d1 d2 other run is named time crash =
+  pub replaced_run : (d0 d1 d2 : DiskState) → staging ≢ path → ChangesOnly (λ m. m ≡ staging) d0 d1 → HasOnDisk d1 staging bytes → d1.is_named path → Renames d1 d2
+      → LeavesOnly d0 d2 (OneStepOn (Replaces path staging bytes) d0)
+  replaced_run d0 d1 d2 other run is named call =
       let R = Replaces path staging bytes in
-      then_steps d0 d1 d2 (DifferAt (λ m. m ≡ staging)) R R run.any_moment (renamed_run d1 d2 is named time crash) (not_yet other) (λ a b c at left r q. then_replaced other a b c r q)
+      then_steps d0 d1 d2 (DifferAt (λ m. m ≡ staging)) R R run.any_moment (renamed_run d1 d2 is named call) (not_yet other) (λ a b c at left r q. then_replaced other a b c r q)

@@ -1,7 +1,7 @@
 -- How a run of calls goes on, and what a crash may leave at each moment of it.
-use Rattle.std.proofs.Common.{◌≤◌, ◌∙◌, inl, inr, ⊎_elim, arith}
+use Rattle.std.proofs.Common.{◌≤◌, ℕ, List, ◌∙◌, inl, inr, ⊎_elim, arith}
 use Rattle.disk_io.specs.Disk.{DiskState, Files}
-use Rattle.disk_io.specs.Runs.{Elapses, LeavesOnly, OneStepOn, LeavesOneStepOn, ChangesNothing}
+use Rattle.disk_io.specs.Runs.{LeavesOnly, OneStepOn, ChangesAt, ChangesNothing}
 
 -- what a crash may leave at the end of a run has what it might leave at any moment of it
 pub left_now : (old new : DiskState) (P : Files → Type 0) → LeavesOnly old new P → (c : Files) → new.may_leave c → P c
@@ -30,16 +30,16 @@ pub then_nothing : (old mid new : DiskState) (P : Files → Type 0) → LeavesOn
 then_nothing old mid new P run quiet = then_run old mid new P mid.may_leave run quiet.run (left_now old mid P run)
 
 -- one call that changes something
-pub then_call : (old mid new : DiskState) (P : Files → Type 0) (step : Files → Files → Type 0) → LeavesOnly old mid P → Elapses mid new → LeavesOneStepOn step mid new
-    → ((a c : Files) → P a → step a c → P c) → LeavesOnly old new P
-then_call old mid new P step run time steps keeps =
+pub then_call : {changed unnamed shared : List ℕ → Type 0} (old mid new : DiskState) (P : Files → Type 0) (step : Files → Files → Type 0) → LeavesOnly old mid P
+    → ChangesAt changed unnamed shared step mid new → ((a c : Files) → P a → step a c → P c) → LeavesOnly old new P
+then_call old mid new P step run call keeps =
     let one : old.moment ≤ mid.moment = run.later in
-    let two : mid.moment ≤ new.moment = time.later in
-    let now : (c : Files) → new.may_leave c → P c = λ c left. let from = steps c left in keeps from.0 c (left_now old mid P run from.0 from.1) from.2 in
+    let two : mid.moment ≤ new.moment = call.time.later in
+    let now : (c : Files) → new.may_leave c → P c = λ c left. let from = call.crash c left in keeps from.0 c (left_now old mid P run from.0 from.1) from.2 in
     record {
       later = omega arith;
-      each = λ c left. ⊎_elim (run.each c) (now c) (time.nothing_else old.moment c one left);
-      before = λ t c le left. ⊎_elim (run.before t c le) (λ l. inr (now c l)) (time.nothing_else t c (omega arith) left);
+      each = λ c left. ⊎_elim (run.each c) (now c) (call.time.nothing_else old.moment c one left);
+      before = λ t c le left. ⊎_elim (run.before t c le) (λ l. inr (now c l)) (call.time.nothing_else t c (omega arith) left);
     }
 
 pub weaker_run : (old new : DiskState) (P Q : Files → Type 0) → LeavesOnly old new P → ((c : Files) → P c → Q c) → LeavesOnly old new Q
@@ -50,14 +50,16 @@ weaker_run old new P Q run gives = record {
 }
 
 -- the first call of a run, where the step may also not have happened
-pub one_call : (old new : DiskState) (step : Files → Files → Type 0) → ((c : Files) → step c c) → Elapses old new → LeavesOneStepOn step old new → LeavesOnly old new (OneStepOn step old)
-one_call old new step none time steps =
-    let two : old.moment ≤ new.moment = time.later in
+pub one_call : {changed unnamed shared : List ℕ → Type 0} {made : Files → Files → Type 0} (old new : DiskState) (step : Files → Files → Type 0) → ((c : Files) → step c c)
+    → ChangesAt changed unnamed shared made old new → ((a c : Files) → old.may_leave a → made a c → step a c) → LeavesOnly old new (OneStepOn step old)
+one_call old new step none call gives =
+    let two : old.moment ≤ new.moment = call.time.later in
     let was : (c : Files) → old.may_leave c → OneStepOn step old c = λ c left. (c, left, none c) in
+    let now : (c : Files) → new.may_leave c → OneStepOn step old c = λ c left. let from = call.crash c left in (from.0, from.1, gives from.0 c from.1 from.2) in
     record {
       later = two;
-      each = λ c left. ⊎_elim (λ before. was c (old.only_now c before)) (steps c) (time.nothing_else old.moment c (omega arith) left);
-      before = λ t c le left. ⊎_elim (λ before. inl before) (λ now. inr (steps c now)) (time.nothing_else t c le left);
+      each = λ c left. ⊎_elim (λ before. was c (old.only_now c before)) (now c) (call.time.nothing_else old.moment c (omega arith) left);
+      before = λ t c le left. ⊎_elim (λ before. inl before) (λ is. inr (now c is)) (call.time.nothing_else t c le left);
     }
 
 -- two runs that change nothing

@@ -1,8 +1,8 @@
 -- A step that a crash cut off before it began.
-use Rattle.std.proofs.Common.{ℕ, List, length, Option, refl, arith}
-use Rattle.std.proofs.lemmas.List.{take_all, take_min}
+use Rattle.std.proofs.Common.{ℕ, List, Option, refl, arith}
+use Rattle.std.proofs.lemmas.List.{take_min}
 use Rattle.disk_io.specs.Disk.{DiskState, Files, bytes_in}
-use Rattle.disk_io.specs.Steps.{TornWrite, TornCut, ChangesFile}
+use Rattle.disk_io.specs.Steps.{TornWrite, ChangesFile}
 
 pub TornWrite-none : (at count : ℕ) (file : Option (List ℕ)) → TornWrite at count file file
 TornWrite-none at count file = record {
@@ -11,13 +11,6 @@ TornWrite-none at count file = record {
   behind = refl;
   no_shorter = omega arith;
   no_longer = omega arith;
-}
-
-pub TornCut-none : (len : ℕ) (file : Option (List ℕ)) → TornCut len file file
-TornCut-none len file = record {
-  there = λ is. is;
-  no_shorter = omega arith;
-  front = take_all (length (bytes_in file)) (bytes_in file) (omega arith);
 }
 
 pub ChangesFile-none : (old : DiskState) (path : List ℕ) (step : Option (List ℕ) → Option (List ℕ) → Type 0) → ((file : Option (List ℕ)) → step file file) → (c : Files) → ChangesFile old path step c c

@@ -32,6 +32,25 @@ pub record Elapses (old new : DiskState) : Type 0 where
   pub keeps : (t : ℕ) (c : Files) → t ≤ old.moment → old.left_since t c → new.left_since t c
   pub honest : new.is_honest → old.is_honest
 
+-- no path, this path, or one of these two
+abbrev pub NoPath : List ℕ → Type 0
+NoPath m = ⊥
+
+abbrev pub ThisPath : List ℕ → List ℕ → Type 0
+ThisPath path m = m ≡ path
+
+abbrev pub EitherPath : List ℕ → List ℕ → List ℕ → Type 0
+EitherPath from to m = (m ≡ from) ⊎ (m ≡ to)
+
+-- One call: all but `changed` keep their files and stay flushed, all but `unnamed` stay named, all but `shared` alone.
+pub record ChangesAt (changed unnamed shared : List ℕ → Type 0) (step : Files → Files → Type 0) (old new : DiskState) : Type 0 where
+  pub beside : (m : List ℕ) → (changed m → ⊥) → new.seen m ≡ old.seen m
+  pub flushed : KeepsFlushed changed old new
+  pub named : KeepsNamed unnamed old new
+  pub alone : KeepsAlone shared old new
+  pub crash : LeavesOneStepOn step old new
+  pub time : Elapses old new
+
 -- A crash at any time of a run leaves files that have P.
 pub record LeavesOnly (old new : DiskState) (P : Files → Type 0) : Type 0 where
   pub later : old.moment ≤ new.moment

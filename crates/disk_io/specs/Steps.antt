@@ -15,12 +15,6 @@ pub record TornWrite (at count : ℕ) (old new : Option (List ℕ)) : Type 0 whe
   pub no_shorter : length (bytes_in old) ≤ length (bytes_in new)
   pub no_longer : length (bytes_in new) ≤ max (length (bytes_in old)) (at + count)
 
--- A cut that a crash cuts short: some length between the old one and the new one.
-pub record TornCut (len : ℕ) (old new : Option (List ℕ)) : Type 0 where
-  pub there : IsSome old → IsSome new
-  pub no_shorter : min len (length (bytes_in old)) ≤ length (bytes_in new)
-  pub front : take (length (bytes_in new)) (bytes_in old) ≡ bytes_in new
-
 -- a file made instead of another: a crash leaves the old one, none, or the new one, which is empty
 abbrev pub TornMaking : Option (List ℕ) → Option (List ℕ) → Type 0
 TornMaking old new = (new ≡ old) ⊎ ((new ≡ None) ⊎ (new ≡ Some []))

@@ -1,8 +1,8 @@
 //! The promise of a disk to its users.
-ghost use Rattle.std.specs.Prelude.{◌≡◌, ◌≢◌, ◌≤◌, ◌<◌, ◌⊎◌, ◌↔◌, ℕ, List, [], length, take, drop, true, false, IsTrue, IfOk, OnOk, IsSome, Some, None};
+ghost use Rattle.std.specs.Prelude.{◌≡◌, ◌≢◌, ◌≤◌, ◌<◌, ◌↔◌, ℕ, List, [], length, take, drop, true, false, IsTrue, IfOk, OnOk, IsSome, Some, None};
 ghost use Rattle.disk_io.specs.Disk.{DiskState, Honestly, bytes_in, IsFolder, IsIn};
-ghost use Rattle.disk_io.specs.Steps.{IsWrittenAt, TornWrite, TornCut, TornMaking, TornRemoval, TornNaming, SameBeside, ChangesFile, RenamesFile};
-ghost use Rattle.disk_io.specs.Runs.{LeavesOneStepOn, KeepsNamed, KeepsFlushed, KeepsAlone, Elapses, ChangesNothing, HasCause};
+ghost use Rattle.disk_io.specs.Steps.{IsWrittenAt, TornWrite, TornMaking, TornRemoval, TornNaming, ChangesFile, RenamesFile};
+ghost use Rattle.disk_io.specs.Runs.{NoPath, ThisPath, EitherPath, ChangesAt, ChangesNothing, HasCause};
 
 use crate::disk_error::DiskError;
 
@@ -53,39 +53,14 @@ pub trait Disk {
         requires alone { Honestly (state self.old) ((state self.old).is_alone path.now) }
         ensures there { IsSome ((state self.new).seen path.now) }
         ensures written { OnOk result (IsWrittenAt (bytes_in ((state self.old).seen path.now)) at bytes.now (bytes_in ((state self.new).seen path.now))) }
-        ensures beside { SameBeside path.now (state self.old).seen (state self.new).seen }
-        ensures crash { LeavesOneStepOn (ChangesFile (state self.old) path.now (TornWrite at (length bytes.now))) (state self.old) (state self.new) }
-        ensures named { KeepsNamed (λ m. ⊥) (state self.old) (state self.new) }
-        ensures flushed { KeepsFlushed (λ m. m ≡ path.now) (state self.old) (state self.new) }
-        ensures alone { KeepsAlone (λ m. ⊥) (state self.old) (state self.new) }
-        ensures time { Elapses (state self.old) (state self.new) }
-        ensures cause { HasCause (failures self.old) (failures self.new) result };
-
-    /// Cuts the file to a length.
-    fn cut(&mut self, path: &[u8], len: usize) -> Result<(), DiskError>
-        requires there { Honestly (state self.old) (IsSome ((state self.old).seen path.now)) }
-        requires within { Honestly (state self.old) (len ≤ length (bytes_in ((state self.old).seen path.now))) }
-        requires alone { Honestly (state self.old) ((state self.old).is_alone path.now) }
-        ensures there { IsSome ((state self.new).seen path.now) }
-        ensures short { OnOk result (bytes_in ((state self.new).seen path.now) ≡ take len (bytes_in ((state self.old).seen path.now))) }
-        ensures beside { SameBeside path.now (state self.old).seen (state self.new).seen }
-        ensures crash { LeavesOneStepOn (ChangesFile (state self.old) path.now (TornCut len)) (state self.old) (state self.new) }
-        ensures named { KeepsNamed (λ m. ⊥) (state self.old) (state self.new) }
-        ensures flushed { KeepsFlushed (λ m. m ≡ path.now) (state self.old) (state self.new) }
-        ensures alone { KeepsAlone (λ m. ⊥) (state self.old) (state self.new) }
-        ensures time { Elapses (state self.old) (state self.new) }
+        ensures changes { ChangesAt (ThisPath path.now) NoPath NoPath (ChangesFile (state self.old) path.now (TornWrite at (length bytes.now))) (state self.old) (state self.new) }
         ensures cause { HasCause (failures self.old) (failures self.new) result };
 
     /// Makes an empty new file instead of the present one. Other paths keep their files.
     fn create(&mut self, path: &[u8]) -> Result<(), DiskError>
         ensures made { OnOk result ((state self.new).seen path.now ≡ Some []) }
         ensures own { OnOk result ((state self.new).is_alone path.now) }
-        ensures beside { SameBeside path.now (state self.old).seen (state self.new).seen }
-        ensures crash { LeavesOneStepOn (ChangesFile (state self.old) path.now TornMaking) (state self.old) (state self.new) }
-        ensures named { KeepsNamed (λ m. m ≡ path.now) (state self.old) (state self.new) }
-        ensures flushed { KeepsFlushed (λ m. m ≡ path.now) (state self.old) (state self.new) }
-        ensures alone { KeepsAlone (λ m. m ≡ path.now) (state self.old) (state self.new) }
-        ensures time { Elapses (state self.old) (state self.new) }
+        ensures changes { ChangesAt (ThisPath path.now) (ThisPath path.now) (ThisPath path.now) (ChangesFile (state self.old) path.now TornMaking) (state self.old) (state self.new) }
         ensures cause { HasCause (failures self.old) (failures self.new) result };
 
     /// Gives a file another path, in the place of the file that had it. The file's bytes have to be on the disk.
@@ -96,12 +71,7 @@ pub trait Disk {
         ensures moved { OnOk result ((state self.new).seen to.now ≡ (state self.old).seen from.now) }
         ensures gone { OnOk result ((state self.new).seen from.now ≡ None) }
         ensures kept { OnOk result ((state self.new).is_flushed to.now) }
-        ensures beside { (m : List ℕ) → m ≢ from.now → m ≢ to.now → (state self.new).seen m ≡ (state self.old).seen m }
-        ensures crash { LeavesOneStepOn (RenamesFile (state self.old) from.now to.now) (state self.old) (state self.new) }
-        ensures named { KeepsNamed (λ m. (m ≡ from.now) ⊎ (m ≡ to.now)) (state self.old) (state self.new) }
-        ensures flushed { KeepsFlushed (λ m. (m ≡ from.now) ⊎ (m ≡ to.now)) (state self.old) (state self.new) }
-        ensures alone { KeepsAlone (λ m. (m ≡ from.now) ⊎ (m ≡ to.now)) (state self.old) (state self.new) }
-        ensures time { Elapses (state self.old) (state self.new) }
+        ensures changes { ChangesAt (EitherPath from.now to.now) (EitherPath from.now to.now) (EitherPath from.now to.now) (RenamesFile (state self.old) from.now to.now) (state self.old) (state self.new) }
         ensures cause { HasCause (failures self.old) (failures self.new) result };
 
     /// Gives a file a second path, or answers `false` where that path has a file already. The
@@ -113,24 +83,14 @@ pub trait Disk {
         ensures free { Honestly (state self.new) (IfOk result (λ linked. IsTrue linked ↔ ((state self.old).seen to.now ≡ None))) }
         ensures taken { IfOk result (λ linked. linked ≡ false → (state self.new).seen to.now ≡ (state self.old).seen to.now) }
         ensures kept { IfOk result (λ linked. linked ≡ true → (state self.new).is_flushed to.now) }
-        ensures beside { SameBeside to.now (state self.old).seen (state self.new).seen }
-        ensures crash { LeavesOneStepOn (ChangesFile (state self.old) to.now (TornNaming ((state self.old).seen from.now))) (state self.old) (state self.new) }
-        ensures named { KeepsNamed (λ m. m ≡ to.now) (state self.old) (state self.new) }
-        ensures flushed { KeepsFlushed (λ m. m ≡ to.now) (state self.old) (state self.new) }
-        ensures alone { KeepsAlone (λ m. (m ≡ from.now) ⊎ (m ≡ to.now)) (state self.old) (state self.new) }
-        ensures time { Elapses (state self.old) (state self.new) }
+        ensures changes { ChangesAt (ThisPath to.now) (ThisPath to.now) (EitherPath from.now to.now) (ChangesFile (state self.old) to.now (TornNaming ((state self.old).seen from.now))) (state self.old) (state self.new) }
         ensures cause { HasCause (failures self.old) (failures self.new) result };
 
     /// Removes a file.
     fn remove(&mut self, path: &[u8]) -> Result<(), DiskError>
         requires { Honestly (state self.old) (IsSome ((state self.old).seen path.now)) }
         ensures gone { OnOk result ((state self.new).seen path.now ≡ None) }
-        ensures beside { SameBeside path.now (state self.old).seen (state self.new).seen }
-        ensures crash { LeavesOneStepOn (ChangesFile (state self.old) path.now TornRemoval) (state self.old) (state self.new) }
-        ensures named { KeepsNamed (λ m. m ≡ path.now) (state self.old) (state self.new) }
-        ensures flushed { KeepsFlushed (λ m. m ≡ path.now) (state self.old) (state self.new) }
-        ensures alone { KeepsAlone (λ m. m ≡ path.now) (state self.old) (state self.new) }
-        ensures time { Elapses (state self.old) (state self.new) }
+        ensures changes { ChangesAt (ThisPath path.now) (ThisPath path.now) (ThisPath path.now) (ChangesFile (state self.old) path.now TornRemoval) (state self.old) (state self.new) }
         ensures cause { HasCause (failures self.old) (failures self.new) result };
 
     /// After it the bytes of the file are on the disk; its name may not be.

@@ -5,8 +5,8 @@ use Rattle.std.specs.Borrow.{Bor}
 use Rattle.std.proofs.lemmas.Bool.{false_from_ne_true}
 use Rattle.std.proofs.lemmas.Slice.Eq.{bytes_eq-Decides}
 use Rattle.disk_io.specs.Disk.{DiskState, Files, bytes_in}
-use Rattle.disk_io.specs.Steps.{SameBeside, ChangesFile}
-use Rattle.disk_io.specs.Runs.{LeavesOneStepOn, KeepsNamed, KeepsFlushed, KeepsAlone, Elapses, ChangesNothing}
+use Rattle.disk_io.specs.Steps.{ChangesFile}
+use Rattle.disk_io.specs.Runs.{LeavesOneStepOn, ThisPath, ChangesAt, ChangesNothing}
 use Rattle.disk_io.specs.declared.disk_error.DiskError.{DiskError}
 use Rattle.disk_memory.specs.Memory.{AreTogether, left_where, MayLeave, IsNamed, IsFlushed, IsAlone, now_alone, disk_after}
 use Rattle.disk_memory.specs.Shown.{Shown, shown, file_behind}
@@ -85,23 +85,18 @@ step_crash s x p R keeps seen kept c left = (
 
 -- ---- all that a call at one path owes
 
-pub record Effect (p : List ℕ) (R : Option (List ℕ) → Option (List ℕ) → Type 0) (but_named but_flushed but_alone : List ℕ → Type 0) (old new : DiskState) : Type 0 where
-  pub beside : SameBeside p old.seen new.seen
-  pub crash : LeavesOneStepOn (ChangesFile old p R) old new
-  pub named : KeepsNamed but_named old new
-  pub flushed : KeepsFlushed but_flushed old new
-  pub alone : KeepsAlone but_alone old new
-  pub time : Elapses old new
+abbrev pub Effect : List ℕ → (Option (List ℕ) → Option (List ℕ) → Type 0) → (List ℕ → Type 0) → (List ℕ → Type 0) → DiskState → DiskState → Type 0
+Effect p R unnamed shared old new = ChangesAt (ThisPath p) unnamed shared (ChangesFile old p R) old new
 
 -- where it failed
-pub no_effect : (s : List Step) (p : List ℕ) (R : Option (List ℕ) → Option (List ℕ) → Type 0) (named flushed alone : List ℕ → Type 0) → ((f : Option (List ℕ)) → R f f)
-    → Effect p R named flushed alone (disk_after s) (disk_after s)
-no_effect s p R named flushed alone none = record {
+pub no_effect : (s : List Step) (p : List ℕ) (R : Option (List ℕ) → Option (List ℕ) → Type 0) (unnamed shared : List ℕ → Type 0) → ((f : Option (List ℕ)) → R f f)
+    → Effect p R unnamed shared (disk_after s) (disk_after s)
+no_effect s p R unnamed shared none = record {
   beside = λ m other. refl;
-  crash = λ c left. (c, left, record { beside = λ m other is. refl; within = λ is. none (c p) });
-  named = λ m but is. is;
   flushed = λ m but is. is;
+  named = λ m but is. is;
   alone = λ m but is. is;
+  crash = λ c left. (c, left, record { beside = λ m other is. refl; within = λ is. none (c p) });
   time = same_elapses (disk_after s);
 }
 

@@ -1,13 +1,12 @@
 -- A path with no file, once its folder is synced.
 use Rattle.std.proofs.Common.{◌≡◌, ℕ, List, [], ◌∷◌, refl, sym, ◌∙◌, ap, subst}
-use Rattle.std.specs.Prelude.{Bool, true, false, cond, ◌&&◌, ◌||◌, bytes_eq, reverse, Option, Some, None, Result, MatchResult, OnOk}
+use Rattle.std.specs.Prelude.{Bool, true, false, cond, ◌&&◌, ◌||◌, bytes_eq, reverse, Option, None, Result, MatchResult, OnOk}
 use Rattle.disk_io.specs.Disk.{IsIn}
 use Rattle.disk_io.specs.declared.disk_error.DiskError.{DiskError}
 use Rattle.disk_memory.specs.Calls.{AddsFolderSync, Bytes}
 use Rattle.disk_memory.specs.Memory.{IsFlushed}
 use Rattle.disk_memory.specs.Paths.{is_in}
 use Rattle.disk_memory.specs.Shown.{Shown, shown}
-use Rattle.disk_memory.specs.declared.step.Making.{Making}
 use Rattle.disk_memory.specs.declared.step.Step.{Step}
 use Rattle.disk_memory.specs.declared.step.Step.TheVariants.{Changed, Made, Removed, Renamed, Linked, Synced, FolderSynced, Crashed}
 use Rattle.disk_memory.proofs.Effects.{by_ok}

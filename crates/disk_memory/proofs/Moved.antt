@@ -3,7 +3,7 @@ use Rattle.std.proofs.Common.{◌≡◌, ◌≢◌, ◌⊎◌, ℕ, List, ◌∷
 use Rattle.std.specs.Prelude.{Bool, true, false, cond, reverse, Option, Some, None, Result, MatchResult, OnOk}
 use Rattle.disk_io.specs.Disk.{DiskState}
 use Rattle.disk_io.specs.Steps.{RenamesFile}
-use Rattle.disk_io.specs.Runs.{LeavesOneStepOn, KeepsNamed, KeepsFlushed, KeepsAlone, Elapses}
+use Rattle.disk_io.specs.Runs.{LeavesOneStepOn, EitherPath, ChangesAt}
 use Rattle.disk_io.specs.declared.disk_error.DiskError.{DiskError}
 use Rattle.disk_memory.specs.Calls.{AddsRenaming, Bytes}
 use Rattle.disk_memory.specs.Memory.{left_where, IsFlushed, seen_at, disk_after}
@@ -14,17 +14,12 @@ use Rattle.disk_memory.proofs.Steps.{reversed, one_elapses, same_elapses}
 use Rattle.disk_memory.proofs.Effects.{here, elsewhere, cond_true, cond_false, cond_both, same_at, flushed_same, by_result, by_ok}
 
 -- all that a renaming owes
-pub record Renaming (from to : List ℕ) (old new : DiskState) : Type 0 where
-  pub beside : (m : List ℕ) → m ≢ from → m ≢ to → new.seen m ≡ old.seen m
-  pub crash : LeavesOneStepOn (RenamesFile old from to) old new
-  pub named : KeepsNamed (λ m. (m ≡ from) ⊎ (m ≡ to)) old new
-  pub flushed : KeepsFlushed (λ m. (m ≡ from) ⊎ (m ≡ to)) old new
-  pub alone : KeepsAlone (λ m. (m ≡ from) ⊎ (m ≡ to)) old new
-  pub time : Elapses old new
+abbrev pub Renaming : List ℕ → List ℕ → DiskState → DiskState → Type 0
+Renaming from to old new = ChangesAt (EitherPath from to) (EitherPath from to) (EitherPath from to) (RenamesFile old from to) old new
 
 no_renaming : (s : List Step) (from to : List ℕ) → Renaming from to (disk_after s) (disk_after s)
 no_renaming s from to = record {
-  beside = λ m a b. refl;
+  beside = λ m but. refl;
   crash = λ c left. (c, left, record { beside = λ m a b is. refl; target = λ is. inl refl; both = λ a b. inl (refl, refl) });
   named = λ m but is. is;
   flushed = λ m but is. is;
@@ -84,7 +79,7 @@ module _ (s : List Step) (at target bytes : Bytes) (came : Bool) (from to : List
 
   renamed_effect : (shown s from).seen ≡ file → Renaming from to (disk_after s) (disk_after (Renamed at target bytes came ∷ s))
   renamed_effect seen = record {
-    beside = λ m a b. ap (λ (z : Shown). z.seen) (renamed_there m a b);
+    beside = λ m but. ap (λ (z : Shown). z.seen) (renamed_there m (λ a. but (inl a)) (λ b. but (inr b)));
     crash = renamed_crash seen;
     named = λ m but named. ap (λ (z : Shown). z.named) (renamed_there m (λ a. but (inl a)) (λ b. but (inr b))) ∙ named;
     flushed = λ m but flushed. flushed_same s (Renamed at target bytes came) m (same_at (shown (Renamed at target bytes came ∷ s) m) (shown s m) (renamed_there m (λ a. but (inl a)) (λ b. but (inr b)))) flushed;

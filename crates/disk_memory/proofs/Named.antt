@@ -2,6 +2,7 @@
 use Rattle.std.proofs.Common.{◌≡◌, ◌≢◌, ℕ, List, [], ◌∷◌, refl, sym, ◌∙◌, ap, subst, inl, inr}
 use Rattle.std.specs.Prelude.{Bool, true, false, cond, reverse, Option, Some, None, Result, Ok, Err, MatchResult, OnOk}
 use Rattle.disk_io.specs.Steps.{TornMaking, TornRemoval}
+use Rattle.disk_io.specs.Runs.{ThisPath}
 use Rattle.disk_io.specs.declared.disk_error.DiskError.{DiskError}
 use Rattle.disk_memory.specs.Calls.{AddsMaking, AddsRemoval, Bytes}
 use Rattle.disk_memory.specs.Memory.{IsAlone, seen_at, disk_after}
@@ -37,7 +38,7 @@ module _ (s : List Step) (at : Bytes) (came : Making) (p : List ℕ) (is : at.it
     same = λ m other. same_at (shown (Made at came ∷ s) m) (shown s m) (made_there m other);
   }
 
-  made_effect : Effect p TornMaking (λ m. m ≡ p) (λ m. m ≡ p) (λ m. m ≡ p) (disk_after s) (disk_after (Made at came ∷ s))
+  made_effect : Effect p TornMaking (ThisPath p) (ThisPath p) (disk_after s) (disk_after (Made at came ∷ s))
   made_effect = record {
     beside = λ m other. (made_keeps.same m other).seen;
     crash = step_crash s (Made at came) p TornMaking made_keeps
@@ -50,13 +51,13 @@ module _ (s : List Step) (at : Bytes) (came : Making) (p : List ℕ) (is : at.it
   }
 
 module _ (result : Result (Unit {0}) DiskError) (old new : List Step) (p : List ℕ) (adds : MatchResult result (λ _. AddsMaking p old new) (λ _. new ≡ old)) where
-  pub making_effect : Effect p TornMaking (λ m. m ≡ p) (λ m. m ≡ p) (λ m. m ≡ p) (disk_after (reverse old)) (disk_after (reverse new))
+  pub making_effect : Effect p TornMaking (ThisPath p) (ThisPath p) (disk_after (reverse old)) (disk_after (reverse new))
   making_effect =
       let s = reverse old in
-      by_result result old new (AddsMaking p old new) (λ (l : List Step). Effect p TornMaking (λ m. m ≡ p) (λ m. m ≡ p) (λ m. m ≡ p) (disk_after s) (disk_after l)) adds
-      (λ a. subst (λ (l : List Step). Effect p TornMaking (λ m. m ≡ p) (λ m. m ≡ p) (λ m. m ≡ p) (disk_after s) (disk_after l)) (sym (reversed old new (Made a.at a.came) a.adds))
+      by_result result old new (AddsMaking p old new) (λ (l : List Step). Effect p TornMaking (ThisPath p) (ThisPath p) (disk_after s) (disk_after l)) adds
+      (λ a. subst (λ (l : List Step). Effect p TornMaking (ThisPath p) (ThisPath p) (disk_after s) (disk_after l)) (sym (reversed old new (Made a.at a.came) a.adds))
       (made_effect s a.at a.came p a.at_path))
-      (no_effect s p TornMaking (λ m. m ≡ p) (λ m. m ≡ p) (λ m. m ≡ p) (λ f. inl refl))
+      (no_effect s p TornMaking (ThisPath p) (ThisPath p) (λ f. inl refl))
 
 module _ (result : Result (Unit {0}) DiskError) (old new : List Step) (p : List ℕ) where
   pub making_made : MatchResult result (λ _. AddsMaking p old new) (λ _. new ≡ old) → OnOk result (let l = reverse new in (shown l p).seen ≡ Some [])
@@ -82,7 +83,7 @@ module _ (s : List Step) (at : Bytes) (came : Bool) (p : List ℕ) (is : at.item
     same = λ m other. same_at (shown (Removed at came ∷ s) m) (shown s m) (removed_there m other);
   }
 
-  removed_effect : Effect p TornRemoval (λ m. m ≡ p) (λ m. m ≡ p) (λ m. m ≡ p) (disk_after s) (disk_after (Removed at came ∷ s))
+  removed_effect : Effect p TornRemoval (ThisPath p) (ThisPath p) (disk_after s) (disk_after (Removed at came ∷ s))
   removed_effect = record {
     beside = λ m other. (removed_keeps.same m other).seen;
     crash = step_crash s (Removed at came) p TornRemoval removed_keeps
@@ -95,13 +96,13 @@ module _ (s : List Step) (at : Bytes) (came : Bool) (p : List ℕ) (is : at.item
   }
 
 module _ (result : Result (Unit {0}) DiskError) (old new : List Step) (p : List ℕ) (adds : MatchResult result (λ _. AddsRemoval p old new) (λ _. new ≡ old)) where
-  pub removal_effect : Effect p TornRemoval (λ m. m ≡ p) (λ m. m ≡ p) (λ m. m ≡ p) (disk_after (reverse old)) (disk_after (reverse new))
+  pub removal_effect : Effect p TornRemoval (ThisPath p) (ThisPath p) (disk_after (reverse old)) (disk_after (reverse new))
   removal_effect =
       let s = reverse old in
-      by_result result old new (AddsRemoval p old new) (λ (l : List Step). Effect p TornRemoval (λ m. m ≡ p) (λ m. m ≡ p) (λ m. m ≡ p) (disk_after s) (disk_after l)) adds
-      (λ a. subst (λ (l : List Step). Effect p TornRemoval (λ m. m ≡ p) (λ m. m ≡ p) (λ m. m ≡ p) (disk_after s) (disk_after l)) (sym (reversed old new (Removed a.at a.came) a.adds))
+      by_result result old new (AddsRemoval p old new) (λ (l : List Step). Effect p TornRemoval (ThisPath p) (ThisPath p) (disk_after s) (disk_after l)) adds
+      (λ a. subst (λ (l : List Step). Effect p TornRemoval (ThisPath p) (ThisPath p) (disk_after s) (disk_after l)) (sym (reversed old new (Removed a.at a.came) a.adds))
       (removed_effect s a.at a.came p a.at_path))
-      (no_effect s p TornRemoval (λ m. m ≡ p) (λ m. m ≡ p) (λ m. m ≡ p) (λ f. inl refl))
+      (no_effect s p TornRemoval (ThisPath p) (ThisPath p) (λ f. inl refl))
 
 pub removal_gone : (result : Result (Unit {0}) DiskError) (old new : List Step) (p : List ℕ) → MatchResult result (λ _. AddsRemoval p old new) (λ _. new ≡ old) → OnOk result (seen_at new p ≡ None)
 removal_gone (Err e) old new p adds = tt

@@ -1,11 +1,12 @@
--- A write and a cut: all of it, and as far as a crash lets it come.
+-- A write: all of it, and as far as a crash lets it come.
 use Rattle.std.proofs.Common.{◌≡◌, ◌≤◌, ◌+◌, ◌-◌, ℕ, min, List, ◌∷◌, ◌++◌, length, take, drop, refl, sym, ◌∙◌, ap, subst, arith, length-append, length-take, length-drop, append_assoc}
 use Rattle.std.specs.Prelude.{false, bytes_eq, reverse, Option, Some, Result, Ok, Err, MatchResult, OnOk}
 use Rattle.std.proofs.lemmas.List.{take_at, drop_at}
 use Rattle.disk_io.specs.Disk.{bytes_in}
-use Rattle.disk_io.specs.Steps.{IsWrittenAt, TornWrite, TornCut}
+use Rattle.disk_io.specs.Steps.{IsWrittenAt, TornWrite}
+use Rattle.disk_io.specs.Runs.{NoPath}
 use Rattle.disk_io.specs.declared.disk_error.DiskError.{DiskError}
-use Rattle.disk_memory.specs.Calls.{AddsChange, IsCutTo, Bytes}
+use Rattle.disk_memory.specs.Calls.{AddsChange, Bytes}
 use Rattle.disk_memory.specs.Memory.{seen_at, kept_at, disk_after}
 use Rattle.disk_memory.specs.Shown.{Shown, shown, file_of}
 use Rattle.disk_memory.specs.declared.step.Contents.{Contents}
@@ -32,16 +33,6 @@ whole_write file at bytes new le is =
       no_longer = omega (arith, long);
     }
 
--- and so is a whole cut
-pub whole_cut : (old : Option (List ℕ)) (len : ℕ) (new : List ℕ) → len ≤ length (bytes_in old) → IsCutTo len (bytes_in old) new → TornCut len old (Some new)
-whole_cut old len new le is =
-    let long : length new ≡ len = omega (arith, ap length is, length-take len (bytes_in old)) in
-    record {
-      there = λ was. refl;
-      no_shorter = omega (arith, long);
-      front = ap (λ (k : ℕ). take k (bytes_in old)) long ∙ sym is;
-    }
-
 -- ---- the step
 
 module _ (s : List Step) (at : Bytes) (contents : Contents) (p : List ℕ) (is : at.items ≡ p) where
@@ -61,7 +52,7 @@ module _ (s : List Step) (at : Bytes) (contents : Contents) (p : List ℕ) (is :
   changed_alone m = cond_field (λ (z : Shown). z.alone) (bytes_eq m at.items) _ (shown s m) refl
 
   changed_effect : (R : Option (List ℕ) → Option (List ℕ) → Type 0) → R (shown s p).seen (Some contents.seen.items) → R (shown s p).kept (file_of contents.kept)
-      → Effect p R (λ m. ⊥) (λ m. m ≡ p) (λ m. ⊥) (disk_after s) (disk_after (Changed at contents ∷ s))
+      → Effect p R NoPath NoPath (disk_after s) (disk_after (Changed at contents ∷ s))
   changed_effect R seen kept = record {
     beside = λ m other. (changed_keeps.same m other).seen;
     crash = step_crash s (Changed at contents) p R changed_keeps
@@ -77,13 +68,13 @@ module _ (s : List Step) (at : Bytes) (contents : Contents) (p : List ℕ) (is :
 
 module _ (result : Result (Unit {0}) DiskError) (old new : List Step) (p : List ℕ) (seen : List ℕ → Type 0) (kept : Option (List ℕ) → Type 0) (adds : MatchResult result (λ _. AddsChange p seen kept old new) (λ _. new ≡ old)) where
   pub change_effect : (R : Option (List ℕ) → Option (List ℕ) → Type 0) → ((f : Option (List ℕ)) → R f f) → ((bytes : List ℕ) → seen bytes → R (seen_at old p) (Some bytes))
-      → ((f : Option (List ℕ)) → kept f → R (kept_at old p) f) → Effect p R (λ m. ⊥) (λ m. m ≡ p) (λ m. ⊥) (disk_after (reverse old)) (disk_after (reverse new))
+      → ((f : Option (List ℕ)) → kept f → R (kept_at old p) f) → Effect p R NoPath NoPath (disk_after (reverse old)) (disk_after (reverse new))
   change_effect R none whole torn =
       let s = reverse old in
-      by_result result old new (AddsChange p seen kept old new) (λ (l : List Step). Effect p R (λ m. ⊥) (λ m. m ≡ p) (λ m. ⊥) (disk_after s) (disk_after l)) adds
-      (λ a. subst (λ (l : List Step). Effect p R (λ m. ⊥) (λ m. m ≡ p) (λ m. ⊥) (disk_after s) (disk_after l)) (sym (reversed old new (Changed a.at a.contents) a.adds))
+      by_result result old new (AddsChange p seen kept old new) (λ (l : List Step). Effect p R NoPath NoPath (disk_after s) (disk_after l)) adds
+      (λ a. subst (λ (l : List Step). Effect p R NoPath NoPath (disk_after s) (disk_after l)) (sym (reversed old new (Changed a.at a.contents) a.adds))
       (changed_effect s a.at a.contents p a.at_path R (whole a.contents.seen.items a.now_seen) (torn (file_of a.contents.kept) a.now_kept)))
-      (no_effect s p R (λ m. ⊥) (λ m. m ≡ p) (λ m. ⊥) none)
+      (no_effect s p R NoPath NoPath none)
 
 -- what is seen after it
 pub change_seen : (result : Result (Unit {0}) DiskError) (old new : List Step) (p : List ℕ) (seen : List ℕ → Type 0) (kept : Option (List ℕ) → Type 0)

@@ -2,6 +2,7 @@
 use Rattle.std.proofs.Common.{◌≡◌, ◌≢◌, ◌⊎◌, ◌↔◌, ℕ, List, ◌∷◌, refl, sym, ◌∙◌, ap, subst, inl, inr}
 use Rattle.std.specs.Prelude.{Bool, true, false, cond, bytes_eq, reverse, Option, Some, None, IsSome, IsTrue, Result, Ok, Err, MatchResult, IfOk}
 use Rattle.disk_io.specs.Steps.{TornNaming}
+use Rattle.disk_io.specs.Runs.{ThisPath, EitherPath}
 use Rattle.disk_io.specs.declared.disk_error.DiskError.{DiskError}
 use Rattle.disk_memory.specs.Calls.{LinksWhereFree, Bytes}
 use Rattle.disk_memory.specs.Memory.{IsFlushed, seen_at, disk_after}
@@ -37,7 +38,7 @@ module _ (s : List Step) (at target bytes : Bytes) (came : Bool) (from to : List
   linked_alone m but =
       ap (λ (z : Shown). z.alone) (linked_there m (λ b. but (inr b)) ∙ cond_false _ _ _ (elsewhere m from at.items at_from (λ a. but (inl a))))
 
-  linked_effect : (file : Option (List ℕ)) → file ≡ Some bytes.items → Effect to (TornNaming file) (λ m. m ≡ to) (λ m. m ≡ to) (λ m. (m ≡ from) ⊎ (m ≡ to)) (disk_after s) (disk_after (Linked at target bytes came ∷ s))
+  linked_effect : (file : Option (List ℕ)) → file ≡ Some bytes.items → Effect to (TornNaming file) (ThisPath to) (EitherPath from to) (disk_after s) (disk_after (Linked at target bytes came ∷ s))
   linked_effect file is = record {
     beside = λ m other. (linked_same m other).seen;
     crash = step_crash s (Linked at target bytes came) to (TornNaming file) linked_keeps
@@ -58,10 +59,10 @@ module _ (s : List Step) (at target bytes : Bytes) (came : Bool) (from to : List
 
 module _ (old new : List Step) (from to : List ℕ) where
   abbrev Owes : List Step → Type 0
-  Owes l = Effect to (TornNaming (seen_at old from)) (λ m. m ≡ to) (λ m. m ≡ to) (λ m. (m ≡ from) ⊎ (m ≡ to)) (disk_after (reverse old)) (disk_after l)
+  Owes l = Effect to (TornNaming (seen_at old from)) (ThisPath to) (EitherPath from to) (disk_after (reverse old)) (disk_after l)
 
   none_owed : Owes (reverse old)
-  none_owed = no_effect (reverse old) to (TornNaming (seen_at old from)) (λ m. m ≡ to) (λ m. m ≡ to) (λ m. (m ≡ from) ⊎ (m ≡ to)) (λ f. inl refl)
+  none_owed = no_effect (reverse old) to (TornNaming (seen_at old from)) (ThisPath to) (EitherPath from to) (λ f. inl refl)
 
   free_effect : (linked : Bool) → LinksWhereFree linked from to old new → Owes (reverse new)
   free_effect true (a, free) =

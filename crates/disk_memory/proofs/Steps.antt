@@ -1,5 +1,5 @@
 -- The steps of a disk in memory, and what one more does to it.
-use Rattle.std.proofs.Common.{◌≡◌, ◌+◌, List, [], ◌∷◌, ◌++◌, refl, ◌∙◌, ap, inl, inr, ⊎_elim, arith}
+use Rattle.std.proofs.Common.{◌≡◌, List, [], ◌∷◌, ◌++◌, refl, ◌∙◌, ap, inl, inr, ⊎_elim, arith}
 use Rattle.std.specs.Prelude.{false, reverse}
 use Rattle.std.proofs.lemmas.List.{reverse-append}
 use Rattle.disk_io.specs.Disk.{DiskState}

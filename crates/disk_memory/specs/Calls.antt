@@ -1,5 +1,5 @@
 -- The steps that one call adds to a disk in memory.
-use Rattle.std.specs.Prelude.{◌≡◌, ℕ, Bool, true, false, List, [], ◌∷◌, ◌++◌, Option, Some, None, IsSome, Vec, take}
+use Rattle.std.specs.Prelude.{◌≡◌, ℕ, Bool, true, false, List, [], ◌∷◌, ◌++◌, Option, Some, None, IsSome, Vec}
 use Rattle.std.specs.declared.alloc.Global.{Global}
 use Rattle.disk_memory.specs.Memory.{seen_at}
 use Rattle.disk_memory.specs.Shown.{file_of}
@@ -71,7 +71,3 @@ pub record AddsFolderSync (folder : List ℕ) (old new : List Step) : Type 0 whe
   pub at : Bytes
   pub at_path : at.items ≡ folder
   pub adds : Adds (FolderSynced at) old new
-
--- the first bytes alone
-abbrev pub IsCutTo : ℕ → List ℕ → List ℕ → Type 0
-IsCutTo len old new = new ≡ take len old

@@ -1,16 +1,16 @@
 //! Calls that change files: each adds one step, or nothing if it fails.
 ghost use Rattle.std.specs.Prelude.{◌≡◌, ◌≤◌, length, IfOk, IsSome, MatchResult};
 ghost use Rattle.disk_io.specs.Disk.{bytes_in};
-ghost use Rattle.disk_io.specs.Steps.{IsWrittenAt, TornWrite, TornCut};
+ghost use Rattle.disk_io.specs.Steps.{IsWrittenAt, TornWrite};
 ghost use Rattle.disk_io.specs.Runs.{HasCause};
-ghost use Rattle.disk_memory.specs.Calls.{AddsChange, AddsMaking, AddsRemoval, AddsRenaming, LinksWhereFree, IsCutTo};
+ghost use Rattle.disk_memory.specs.Calls.{AddsChange, AddsMaking, AddsRemoval, AddsRenaming, LinksWhereFree};
 ghost use Rattle.disk_memory.specs.Memory.{seen_at, kept_at};
 ghost use Rattle.disk_memory.specs.Shown.{file_of};
 
 use crate::memory_disk::MemoryDisk;
 use crate::shown::{seen, view};
 use crate::step::{Contents, Making, Step};
-use crate::tearing::{Tear, kept_after_cut, kept_after_write, overwritten};
+use crate::tearing::{Tear, kept_after_write, overwritten};
 use disk_io::DiskError;
 use std::alloc::{AllocError, Global};
 
@@ -33,24 +33,6 @@ fn contents_after_write(
     })
 }
 
-// A file after a cut, as it is seen and after a crash.
-fn contents_after_cut(
-    alloc: Global,
-    steps: &[Step],
-    path: &[u8],
-    len: usize,
-    tear: Tear,
-) -> Result<Contents, AllocError>
-    requires { len ≤ length (bytes_in (seen_at steps.now path.now)) }
-    ensures seen { IfOk result (λ new. IsCutTo len (bytes_in (seen_at steps.now path.now)) new.seen.items) }
-    ensures kept { IfOk result (λ new. TornCut len (kept_at steps.now path.now) (file_of new.kept)) }
-{
-    Ok(Contents {
-        seen: seen(steps, path)[..len].to_vec(alloc)?,
-        kept: kept_after_cut(alloc, view(steps, path).kept, len, tear)?,
-    })
-}
-
 /// Writes over old bytes, and past the end.
 pub(crate) fn write(
     disk: &mut MemoryDisk,
@@ -68,22 +50,6 @@ pub(crate) fn write(
     disk.begin()?;
     let tear = disk.next_tear();
     let contents = contents_after_write(disk.alloc, &disk.steps, path, at, bytes, tear)?;
-    let path = path.to_vec(disk.alloc)?;
-    disk.steps.push(Step::Changed { path, contents })?;
-    Ok(())
-}
-
-pub(crate) fn cut(disk: &mut MemoryDisk, path: &[u8], len: usize) -> Result<(), DiskError>
-    requires { len ≤ length (bytes_in (seen_at disk.old.steps.items path.now)) }
-    ensures adds { MatchResult result (λ _. AddsChange path.now
-        (IsCutTo len (bytes_in (seen_at disk.old.steps.items path.now)))
-        (TornCut len (kept_at disk.old.steps.items path.now))
-        disk.old.steps.items disk.new.steps.items) (λ _. disk.new.steps.items ≡ disk.old.steps.items) }
-    ensures cause { HasCause disk.old.failures disk.new.failures result }
-{
-    disk.begin()?;
-    let tear = disk.next_tear();
-    let contents = contents_after_cut(disk.alloc, &disk.steps, path, len, tear)?;
     let path = path.to_vec(disk.alloc)?;
     disk.steps.push(Step::Changed { path, contents })?;
     Ok(())

@@ -1,7 +1,7 @@
 //! A disk in memory keeps the promise of `Disk`.
 ghost use Rattle.disk_memory.specs.Memory.{disk_after, steps_of};
 
-use crate::changing::{cut, link, make, remove, rename, write};
+use crate::changing::{link, make, remove, rename, write};
 use crate::memory_disk::MemoryDisk;
 use crate::shown::{seen, view};
 use crate::syncing::{sync_file, sync_paths};
@@ -33,10 +33,6 @@ impl Disk for MemoryDisk {
 
     fn write_at(&mut self, path: &[u8], at: usize, bytes: &[u8]) -> Result<(), DiskError> {
         write(self, path, at, bytes)
-    }
-
-    fn cut(&mut self, path: &[u8], len: usize) -> Result<(), DiskError> {
-        cut(self, path, len)
     }
 
     fn create(&mut self, path: &[u8]) -> Result<(), DiskError> {

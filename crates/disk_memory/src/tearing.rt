@@ -1,6 +1,6 @@
 //! Changes of bytes, whole and cut short.
-ghost use Rattle.std.specs.Prelude.{◌≡◌, ◌≤◌, length, take, IfOk, Some};
-ghost use Rattle.disk_io.specs.Steps.{IsWrittenAt, TornWrite, TornCut};
+ghost use Rattle.std.specs.Prelude.{◌≡◌, ◌≤◌, length, IfOk, Some};
+ghost use Rattle.disk_io.specs.Steps.{IsWrittenAt, TornWrite};
 ghost use Rattle.disk_memory.specs.Shown.{file_of, file_behind};
 
 use std::alloc::{AllocError, Global};
@@ -8,8 +8,8 @@ use std::alloc::{AllocError, Global};
 /// How far a change comes to the disk before a sync.
 #[derive(Clone, Copy)]
 pub struct Tear {
-    /// The number of first bytes of a write that arrive, and of bytes after a cut that stay. A making, a
-    /// removal, a rename or a link arrives if it is not 0.
+    /// The number of first bytes of a write that arrive. A making, a removal, a rename or a link arrives if it is
+    /// not 0.
     pub bytes: usize,
     /// The rest of the range of a write: this byte, or the old bytes.
     pub filler: Option<u8>,
@@ -79,25 +79,6 @@ pub(crate) fn kept_after_write(
         Some(old) => {
             let came = torn(alloc, bytes, tear)?;
             Ok(Some(overwritten_behind(alloc, old, at, &came)?))
-        }
-    }
-}
-
-// The bytes after a crash of a cut that is not synced; without a file there are none.
-pub(crate) fn kept_after_cut(
-    alloc: Global,
-    kept: Option<&[u8]>,
-    len: usize,
-    tear: Tear,
-) -> Result<Option<Vec<u8>>, AllocError>
-    ensures { IfOk result (λ new. TornCut len (file_behind kept.entry) (file_of new)) }
-{
-    match kept {
-        None => Ok(None),
-        Some(old) => {
-            let cut = len.min(old.len());
-            let behind = tear.bytes.min(old.len() - cut);
-            Ok(Some(old[..cut + behind].to_vec(alloc)?))
         }
     }
 }

@@ -2,7 +2,7 @@
 use Rattle.std.specs.Prelude.{◌≡◌, ◌≢◌, ◌≤◌, ◌<◌, ℕ, zero, suc, ◌+◌, List, [], ◌∷◌, ◌++◌, length, take, drop, slice_index, Some, None, IsSome}
 use Rattle.std.proofs.Common.{inl, inr}
 use Rattle.disk_io.specs.Disk.{DiskState, Files, bytes_in}
-use Rattle.disk_io.specs.Steps.{TornWrite, TornCut, TornMaking, TornRemoval, TornNaming}
+use Rattle.disk_io.specs.Steps.{TornWrite, TornMaking, TornRemoval, TornNaming}
 use Rattle.disk_system.specs.Next.{answered, changed, named_anew, moved, synced, folder_synced, OtherThan, OrIs, Neither}
 
 -- a call's numbers, with the answer last, a path, another path, and bytes
@@ -38,10 +38,6 @@ after_write zero at path bytes unknown old =
     changed old path (Some (bytes_in (unknown path))) (TornWrite at (length bytes)) old.is_alone
 after_write (suc n) at path bytes unknown old =
     changed old path (Some (overwritten (bytes_in (old.seen path)) at bytes)) (TornWrite at (length bytes)) old.is_alone
-
-abbrev pub after_cut : ℕ → ℕ → List ℕ → Files → DiskState → DiskState
-after_cut zero len path unknown old = changed old path (Some (bytes_in (unknown path))) (TornCut len) old.is_alone
-after_cut (suc n) len path unknown old = changed old path (Some (take len (bytes_in (old.seen path)))) (TornCut len) old.is_alone
 
 abbrev pub after_create : ℕ → List ℕ → Files → DiskState → DiskState
 after_create zero path unknown old =
@@ -88,13 +84,12 @@ after_call zero at asked answer path to bytes unknown old = after_exists answer 
 after_call (suc zero) len asked answer path to bytes unknown old = after_len answer len path old
 after_call (suc (suc zero)) at asked answer path to bytes unknown old = after_read answer at asked path bytes old
 after_call (suc (suc (suc zero))) at asked answer path to bytes unknown old = after_write answer at path bytes unknown old
-after_call (suc (suc (suc (suc zero)))) len asked answer path to bytes unknown old = after_cut answer len path unknown old
-after_call (suc (suc (suc (suc (suc zero))))) at asked answer path to bytes unknown old = after_create answer path unknown old
-after_call (suc (suc (suc (suc (suc (suc zero)))))) at asked answer path to bytes unknown old = after_rename answer path to unknown old
-after_call (suc (suc (suc (suc (suc (suc (suc zero))))))) at asked answer path to bytes unknown old = after_link answer path to unknown old
-after_call (suc (suc (suc (suc (suc (suc (suc (suc zero)))))))) at asked answer path to bytes unknown old = after_remove answer path unknown old
-after_call (suc (suc (suc (suc (suc (suc (suc (suc (suc zero))))))))) at asked answer path to bytes unknown old = after_sync answer path old
-after_call (suc (suc (suc (suc (suc (suc (suc (suc (suc (suc n)))))))))) at asked answer path to bytes unknown old = after_folder_sync answer path old
+after_call (suc (suc (suc (suc zero)))) at asked answer path to bytes unknown old = after_create answer path unknown old
+after_call (suc (suc (suc (suc (suc zero))))) at asked answer path to bytes unknown old = after_rename answer path to unknown old
+after_call (suc (suc (suc (suc (suc (suc zero)))))) at asked answer path to bytes unknown old = after_link answer path to unknown old
+after_call (suc (suc (suc (suc (suc (suc (suc zero))))))) at asked answer path to bytes unknown old = after_remove answer path unknown old
+after_call (suc (suc (suc (suc (suc (suc (suc (suc zero)))))))) at asked answer path to bytes unknown old = after_sync answer path old
+after_call (suc (suc (suc (suc (suc (suc (suc (suc (suc n))))))))) at asked answer path to bytes unknown old = after_folder_sync answer path old
 
 -- The disk after these calls, the newest first.
 abbrev pub replay : DiskState → (List Note → Files) → List Note → DiskState

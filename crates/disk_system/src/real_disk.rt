@@ -19,19 +19,17 @@ const READ: u64 = 2;
 
 const WRITE: u64 = 3;
 
-const CUT: u64 = 4;
+const CREATE: u64 = 4;
 
-const CREATE: u64 = 5;
+const RENAME: u64 = 5;
 
-const RENAME: u64 = 6;
+const LINK: u64 = 6;
 
-const LINK: u64 = 7;
+const REMOVE: u64 = 7;
 
-const REMOVE: u64 = 8;
+const SYNC: u64 = 8;
 
-const SYNC: u64 = 9;
-
-const SYNC_FOLDER: u64 = 10;
+const SYNC_FOLDER: u64 = 9;
 
 /// The files of the system; `S` says what they were before the first call.
 ///
@@ -170,20 +168,6 @@ impl<R: Files + Drop, S: Start> Disk for RealDisk<R, S> {
             bytes,
         });
         counted(&mut self.failures, written)
-    }
-
-    fn cut(&mut self, path: &[u8], len: usize) -> Result<(), DiskError> {
-        let cut = self.calls.cut(path, len);
-        self.trace = self.trace.with(&Call {
-            what: CUT,
-            at: len as u64,
-            asked: 0,
-            answer: done(&cut),
-            path,
-            other: &[],
-            bytes: &[],
-        });
-        counted(&mut self.failures, cut)
     }
 
     fn create(&mut self, path: &[u8]) -> Result<(), DiskError> {

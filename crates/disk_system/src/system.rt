@@ -71,15 +71,6 @@ impl<R: Files + Drop> Calls<R> {
         }
     }
 
-    pub(crate) fn cut(&self, path: &[u8], len: usize) -> Result<(), DiskError>
-        ensures made { OnOk result (IsSome self.now.files) }
-    {
-        match set_len(&self.files, path, len) {
-            Ok(()) => Ok(()),
-            Err(error) => Err(fault(error)),
-        }
-    }
-
     pub(crate) fn create(&mut self, path: &[u8]) -> Result<(), DiskError>
         ensures made { OnOk result (IsSome self.old.files) }
         ensures stays { self.new.files ≡ self.old.files }
@@ -260,14 +251,6 @@ fn write<R: Files>(
     placed.file.write_all(bytes)?;
     placed.at = (at as u64).saturating_add(bytes.len() as u64);
     kept.keep_written(path, placed);
-    Ok(())
-}
-
-fn set_len<R: Files>(files: &Option<R>, path: &[u8], len: usize) -> io::Result<()>
-    ensures { OnOk result (IsSome files.now) }
-{
-    let files = usable(files)?;
-    open_to_write(files, path)?.set_len(len as u64)?;
     Ok(())
 }
 

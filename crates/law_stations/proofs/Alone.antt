@@ -18,7 +18,7 @@ use Rattle.law_stations.proofs.Tosses.{IsInFront, IsTossedBy, more-events}
 abbrev pub run_alone : LoneSystem → Run
 run_alone z = record { systems = z.system ∷ []; packets = z.sent; delivered = [] }
 
--- what was tossed stands in front of one of the files
+-- each tossed message is at the beginning of one of the files
 abbrev pub IsOfFiles : LinkFile → List (List ℕ) → List LoneEvent → Type 0
 IsOfFiles file files events = (sender : Address) (messages : List Message) → Among (TossHere sender messages) events →
     (bytes : List ℕ) × Among bytes files × IsInFront file bytes sender messages

@@ -1,4 +1,4 @@
--- A toss from any readers is one from what is known of them.
+-- A toss from any readers is a toss from their contents.
 use Rattle.std.proofs.Common.{◌≡◌, ◌∙◌, refl, sym, inl, inr, Bool, List, [], ◌∷◌, Option, None, Ok, Err}
 use Rattle.cmd_status.specs.Devices.{Device, Output}
 use Rattle.cmd_status.specs.declared.fault.Fault.{Fault}

@@ -1,4 +1,4 @@
--- How often an index stands in a list, and what picked items of a list come to.
+-- How many times an index is in a list, and sums over picked items of a list.
 use Rattle.std.proofs.Common.{◌≡◌, inl, inr, refl, subst, ap, ℕ, zero, suc, ◌+◌, ◌≤◌, arith, List, [], ◌∷◌, ◌++◌, length, Option, Some, None}
 use Rattle.model_graph.specs.Walk.{Among, Different}
 use Rattle.model_run.specs.Run.{change, nth}
@@ -6,20 +6,20 @@ use Rattle.model_run.proofs.Lists.{nth-changed}
 use Rattle.model_run.proofs.Targets.{none_some, some_same}
 use Rattle.law_stations.specs.Nets.{Paired}
 
--- 1 where two numbers are the same, else 0
+-- 1 if two numbers are the same, else 0
 abbrev pub same_as : ℕ → ℕ → ℕ
 same_as zero zero = 1
 same_as zero (suc b) = 0
 same_as (suc a) zero = 0
 same_as (suc a) (suc b) = same_as a b
 
--- 1 where the number is below the other, else 0
+-- 1 if the number is below the other, else 0
 abbrev pub below : ℕ → ℕ → ℕ
 below k zero = 0
 below zero (suc n) = 1
 below (suc k) (suc n) = below k n
 
--- how often the number stands in a list, and in one of which some items are none
+-- how many times the number is in a list, and in a list of which some items are none
 abbrev pub times : ℕ → List ℕ → ℕ
 times k [] = 0
 times k (x ∷ xs) = same_as k x + times k xs

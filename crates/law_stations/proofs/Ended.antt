@@ -1,4 +1,4 @@
--- What stands beside names of a station is brought to its end, one file after another.
+-- The staging files of a station are finished, one after another.
 use Rattle.std.proofs.Common.{◌≡◌, ◌≢◌, inl, inr, ⊎_elim, ◌∙◌, ℕ, zero, suc, ◌<◌, ◌≤◌, Bool, true, false, List, [], ◌∷◌, ◌++◌, append-nil, append_assoc, refl, sym, subst, ap}
 use Rattle.std.proofs.lemmas.Bool.{cases_eq, cases_lt}
 use Rattle.model_graph.specs.Walk.{Among}
@@ -14,7 +14,7 @@ cursor-stays : (net : Net) (i cursor : ℕ) (bytes : List ℕ) (named : Bool) �
 cursor-stays net i cursor bytes true has = has
 cursor-stays net i cursor bytes false has = has
 
--- one file of the station behind others is brought to its end
+-- one file of the station, after others, is finished
 record OneEnds (i cursor : ℕ) (net : Net) (before : List StagingFile) (file : StagingFile) (after : List StagingFile) : Type 0 where
   next : Net
   has : HasCursor next i cursor

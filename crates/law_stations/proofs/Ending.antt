@@ -1,4 +1,4 @@
--- A file beside a name is brought to its end: by its number it gets the name just where its scan came to move the cursor.
+-- A staging file is finished. By its number it gets its name exactly if its scan moved the cursor.
 use Rattle.std.proofs.Common.{◌≡◌, ◌⊎◌, inl, inr, refl, sym, subst, ap, ◌∙◌, ℕ, zero, suc, ◌+◌, ◌<◌, arith, Bool, true, false, List, [], ◌∷◌, ◌++◌, Option, Some, None}
 use Rattle.model_graph.specs.Walk.{Among}
 use Rattle.model_run.specs.Run.{nth}
@@ -11,7 +11,7 @@ use Rattle.law_stations.proofs.Counting.{IsItem, nones, same_as, times-append, w
 use Rattle.law_stations.proofs.Tracking.{IsTagged, IsTossedAt, PairedAround, Tracks, cursor-too, paired-around}
 use Rattle.model_run.proofs.Targets.{some_same}
 
--- as many wait without the file, or with what is left of it
+-- as many wait without the file, or with the rest of it
 same-waits : (k : ℕ) (left : List StagingFile) (front behind : List (Option ℕ)) → waits k (front ++ (nones left ++ behind)) ≡ waits k front + waits k behind
 same-waits k left front behind =
     let a = waits-append k front (nones left ++ behind) in

@@ -65,7 +65,7 @@ module _ (station : Station) (file : LinkFile) (i : ℕ) (d : Disks) (there : nt
     leads = (record { station = station; there = there; becomes = refl }, refl);
   }
 
-  -- before which what was held may be committed
+  -- the base as before, or after a purge
   pub holding-or-purging : (next : Base) → HoldsOrPurges station.base next → MadeOrHeld IsPurge i d station.base next
   holding-or-purging next may = ⊎_elim (λ same. inl same) (λ purges. inr (purging next purges)) may
 

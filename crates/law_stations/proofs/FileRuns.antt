@@ -55,7 +55,7 @@ answered false old reader left stopped new (inr h) = inr (record { answer = h.an
 answered true old reader left stopped new (inl none) = inl (none.0, none.1)
 answered true old reader left stopped new (inr h) = inr (record { answer = h.answer; step = h.step; noted = h.noted; line = h.line })
 
--- what is said of a packet that was opened
+-- the statement about a packet that was opened
 packet-so : (bytes : List ℕ) (old new : TossRun) (stopped : Option Fault) (reader left : Device) → reader.contents ≡ Some bytes
     → (h : IsAnswered old reader left stopped new) → TossesSo bytes old.system new.system h.answer
 packet-so bytes old new stopped reader left reads h =
@@ -99,7 +99,7 @@ module _ (noting : Bool) where
       by (Ok tally) noted told so = absurd (none_some (sym told.0))
       by (Err f) noted told so = so
 
-  -- as many files are left as stand behind the last that was opened
+  -- the number of files left is the number after the last opened one
   left-behind : (files : List Coming) (old : TossRun) (fault : Fault) (left : List Coming) (new : TossRun)
       → TossesEachBy (Unit {0}) (TossesPacketBy noting) itself files old (Some fault) left new → length left + 1 ≤ length files
   left-behind [] old fault left new (none, rest, end) = absurd (none_some (sym none))

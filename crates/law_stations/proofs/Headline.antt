@@ -93,7 +93,7 @@ module _ (commands : List CommandEvent) (net : Net) (files : List LinkFile) (tag
         (orderly.all_came (settled is) f at_f posting posted.filed (record { own = posted.own; area = of_area }) at.s at.among has_tag)) has;
   }
 
--- what a 0 of `check` tells
+-- the meaning of a 0 of `check`
 pub checked : (nodelist : Option (List ℕ)) (more : Bool) (tag : List ℕ) (links : List (List ℕ)) (stopped : Option Fault) (old new : Output)
     → CheckAnswers nodelist more tag links stopped old new (Ok Good) → (files : List LinkFile) × AreLinkFiles links files × Tidy files (upper tag) × RunsAreOrderly files (upper tag)
 checked nodelist more tag links stopped old new so =

@@ -29,7 +29,7 @@ pub record LeadsTo (IsCommand : Command → Type 0) (i : ℕ) (d : Disks) (next 
   pub is : IsCommand command
   pub leads : PartialEffect command d i after
 
--- what is made may be what was held
+-- the base as before, or one that a command of this kind made
 abbrev pub MadeOrHeld : (Command → Type 0) → ℕ → Disks → Base → Base → Type 0
 MadeOrHeld IsCommand i d base next = (next ≡ base) ⊎ LeadsTo IsCommand i d next
 

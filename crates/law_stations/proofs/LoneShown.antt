@@ -55,7 +55,7 @@ stub-owed file h a owed = with_id (msgid_of h.echo.kept)
     with_id None = owed
     with_id (Some id) = record { link = owed.link; not_sender = owed.not_sender; unlisted = λ none. none }
 
--- what stands before the cursor was scanned
+-- messages before the cursor were scanned
 kept-take : (c : ℕ) (base history : List Filed) → Kept c base history → (m : Filed) → Among m (take c base) → (h : Filed) × Among h (take c history) × IsKept m h
 kept-take zero base history k m i = absurd i
 kept-take (suc c) [] history k m i = absurd k
@@ -108,7 +108,7 @@ module _ (commands : List LoneCommand) (file : LinkFile) (fits : IsFile file) (s
   is-base : IsBase z.system.base z.system.cursor
   is-base = (has-system say-here.station say-here.there).is_base
 
-  -- what was filed has come
+  -- filed messages were tossed or posted
   come : (h : Filed) → Among h z.system.history → HasCome s file h
   come h i =
       let (earlier, event, later, same, by) = run-from file events h i in
@@ -159,7 +159,7 @@ module _ (commands : List LoneCommand) (file : LinkFile) (fits : IsFile file) (s
         ],
       )
 
-  -- what was filed is there once
+  -- each filed message is in the base once
   filed-once : (h : Filed) → Among h z.system.history → count (key_of h) z.system.base ≡ 1
   filed-once h i = omega (
     arith,

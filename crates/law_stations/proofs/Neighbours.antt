@@ -11,7 +11,7 @@ use Rattle.law_stations.specs.OnDisks.{LeavesElsewhere, ShowsStation}
 
 module _ (place other : Place) (old new : DiskState) (links : List ℕ) (i : ℕ) (event : CommandEvent) (d after : Disks) (left : LeavesElsewhere place old new) (apart : IsApart other links place)
     (was : StandsOnDisk other links i old d) (off : i ≢ event.station) (happens : MayHappen event d after) where
-  -- files in which what was on the disk elsewhere is as it was show the station
+  -- files that changed nothing elsewhere on the disk show the station
   abbrev shows : (c : Files) → c links ≡ old.seen links → SameOnDisk other old c → ShowsStation other links i c after
   shows c linked same = record {
     station = was.at.shows.station;

@@ -31,7 +31,7 @@ same-cursors : (i : ℕ) (station : Station) (next : Base) (stations : List Stat
 same-cursors i station next stations there same =
     change-map cursor_of i (with_base next) station stations there same
 
--- the station of the disks stands in the net
+-- the net contains the station of the disks
 there-too : (d : Disks) (net : Net) (i : ℕ) (station : Station) → d.net.stations ≡ net.stations → nth i d.net.stations ≡ Some station → nth i net.stations ≡ Some station
 there-too d net i station same there = subst (λ (ss : List Station). nth i ss ≡ Some station) same there
 

@@ -1,4 +1,4 @@
--- Two lists whose items are so, pair by pair, and lists in which one item changes.
+-- Two lists that hold a relation pair by pair, and lists in which one item changes.
 use Rattle.std.proofs.Common.{◌≡◌, inl, inr, refl, sym, subst, ap, ◌∙◌, ℕ, zero, suc, List, [], ◌∷◌, ◌++◌, map, Some}
 use Rattle.model_graph.specs.Walk.{Among}
 use Rattle.model_run.specs.Run.{change, nth}
@@ -34,7 +34,7 @@ paired-append R [] us (y ∷ ys) vs p q = absurd p
 paired-append R (x ∷ xs) us [] vs p q = absurd p
 paired-append R (x ∷ xs) us (y ∷ ys) vs p q = (p.0, paired-append R xs us ys vs p.1 q)
 
--- the last change stands
+-- the last change counts
 pub change-twice : {X : Type 0} (i : ℕ) (f g : X → X) → ((x : X) → g (f x) ≡ g x) → (xs : List X) → change i g (change i f xs) ≡ change i g xs
 change-twice i f g last [] = refl
 change-twice {X} zero f g last (z ∷ xs) = ap (λ (y : X). y ∷ xs) (last z)
@@ -48,7 +48,7 @@ change-same {X} zero f x (z ∷ xs) h same =
     ap (λ (y : X). y ∷ xs) (ap f (sym is) ∙ same ∙ is)
 change-same {X} (suc i) f x (z ∷ xs) h same = ap (λ (ys : List X). z ∷ ys) (change-same i f x xs h same)
 
--- a change of one item keeps what is the same of its old and its new value
+-- if a function has one result for the old and the new item, the change keeps its results
 pub change-map : {X Y : Type 0} (g : X → Y) (i : ℕ) (f : X → X) (x : X) (xs : List X) → nth i xs ≡ Some x → g (f x) ≡ g x → map g (change i f xs) ≡ map g xs
 change-map g i f x [] h e = refl
 change-map {X} {Y} g zero f x (z ∷ xs) h e =

@@ -1,4 +1,4 @@
--- Where the systems of a run stand: an address leads to its system, and files stay.
+-- The places of the systems in a run: an address leads to its system, and files stay.
 use Rattle.std.proofs.Common.{◌≡◌, inl, inr, refl, sym, subst, ap, ◌∙◌, ℕ, zero, suc, ◌+◌, arith, not, true, List, [], ◌∷◌, map, Some}
 use Rattle.std.specs.List.{position_or_len}
 use Rattle.std.proofs.lemmas.Bool.{cond-false, cond-true}

@@ -1,4 +1,4 @@
--- What a purge leaves tells that one was run.
+-- The traces of a purge show that one was run.
 use Rattle.std.proofs.Common.{◌≡◌, ◌⊎◌, inl, inr, refl, sym, subst, ℕ, zero, suc, ◌<◌, ◌≤◌, arith, List, [], ◌∷◌, take}
 use Rattle.std.specs.Prelude.{Bool, true, false, if◌then◌else◌}
 use Rattle.model_graph.specs.Walk.{Among}
@@ -54,7 +54,7 @@ left-first m (suc n) (x ∷ ms) i =
           (h, inr j, elim left [ inl same ↦ inl same | inr stub ↦ inr (omega arith, subst Q back (inr stub.1), stub.2) ]))
     ]
 
--- a message of a base, by how far the last purge came and what was scanned
+-- a message of a base, by the range of the last purge and the scanned messages
 pub left-scanned : (m : Filed) (n c : ℕ) (base history : List Filed) → base ≡ purged history n → n ≤ c → Among m base →
     (h : Filed) × Among h history × ((m ≡ h) ⊎ ((0 < n) × Among m (take c base) × (m ≡ stub_of h)))
 left-scanned m n c base history same room i =

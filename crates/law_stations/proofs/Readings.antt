@@ -1,4 +1,4 @@
--- Bytes are read as one packet, and a toss of them tosses messages that stand in front of them.
+-- Bytes are read as one packet. A toss of them tosses messages at their beginning.
 use Rattle.std.proofs.Common.{◌≡◌, ◌⊎◌, inl, inr, sym, ap, ◌∙◌, ℕ, ◌+◌, ◌≤◌, arith, append-nil, append_assoc, List, [], ◌∷◌, ◌++◌, length, take, Option, Some, None, Result, Ok, Err}
 use Rattle.std.specs.List.{AllByRecursion}
 use Rattle.echo_packet.specs.declared.header.Header.{Header}
@@ -41,7 +41,7 @@ all-wider : (most more : ℕ) → most ≤ more → (ms : List Message) → AllB
 all-wider most more room [] all = tt
 all-wider most more room (m ∷ ms) all = (wider most more room m all.0, all-wider most more room ms all.1)
 
--- messages in front of the same bytes, within limits of their own
+-- messages at the beginning of the same bytes, within other limits
 record Fronts (a b : Limits) (ms all : List Message) : Type 0 where
   mine : AllByRecursion (IsMessage (a.text + b.text)) ms
   theirs : AllByRecursion (IsMessage (a.text + b.text)) all
@@ -77,7 +77,7 @@ pub one-packet : (a b : Limits) (h k : Header) (ms all : List Message) (bytes ca
     → (k ≡ h) × (all ≡ ms)
 one-packet a b h k ms all bytes came left is other same = one-in_front a b h k ms all bytes bytes [] came left is (sym (append-nil bytes)) other same
 
--- what stands at the front of a packet's bytes
+-- the messages at the beginning of a packet's bytes
 pub front-packet : (a b : Limits) (h k : Header) (ms all : List Message) (bytes : List ℕ) → PacketOf a h ms bytes → BeginsWith b k all bytes
     → (k ≡ h) × ((n : ℕ) × (n ≤ length ms) × (all ≡ take n ms))
 front-packet a b h k ms all bytes is begins =

@@ -43,7 +43,7 @@ use Rattle.law_stations.specs.Scans.{AreAfterScan, IsAfterScan, IsAtPath, IsStag
 use Rattle.model_run.proofs.HarmLists.{nth-changed as changed-there}
 use Rattle.model_run.proofs.Targets.{some_same, none_some}
 
--- what earlier scans left has none of the paths that are away from all that a scan touches
+-- the files of earlier scans have no path outside the paths that a scan touches
 left-away : (is_true : Type 0) (Own : List ℕ → Type 0) (outbound own : List ℕ) (found : List Left) → All (IsLeftOf is_true Own outbound own) found → (m : List ℕ) → (IsTouched Own outbound m → ⊥) → IsOfLeft found m → ⊥
 left-away is_true Own outbound own found each m away (l, has, is) = by (All-contains (IsLeftOf is_true Own outbound own) found l each has) is
   where
@@ -95,7 +95,7 @@ module _ (stamp : Stamp) (place : Place) (links outbound : List ℕ) (i : ℕ) (
   as-it-was c linked stands =
       record { station = at.shows.station; there = at.shows.there; of_links = linked ∙ at.shows.of_links; stands = stands }
 
-  -- What was on the disk, and a scan does not touch, is as it was.
+  -- A scan leaves everything on the disk unchanged that it does not touch.
   abbrev SameAway : Files → Type 0
   SameAway c = (m : List ℕ) → (IsTouched place.is_own outbound m → ⊥) → old.is_named m → old.is_flushed m → c m ≡ old.seen m
 

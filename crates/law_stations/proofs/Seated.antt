@@ -16,12 +16,12 @@ use Rattle.law_stations.specs.Steps.{HasCrashed, HasEnded, IsAllOnDisk, IsOn, Ma
 use Rattle.model_run.proofs.HarmLists.{nth-changed as changed-there}
 use Rattle.model_run.proofs.Targets.{some_same}
 
--- files show the station where the net has the same of it
+-- files show the station if the net has the same station
 abbrev shows-too : (place : Place) (links : List ℕ) (i : ℕ) (c : Files) (d next : Disks) → nth i next.net.stations ≡ nth i d.net.stations → ShowsStation place links i c d
     → ShowsStation place links i c next
 shows-too place links i c d next same shows = record { station = shows.station; there = same ∙ shows.there; of_links = shows.of_links; stands = shows.stands }
 
--- what stands on the disk a crash leaves
+-- a station that is on the disk is on the files that a crash leaves
 shown-on : (place : Place) (links : List ℕ) (i : ℕ) (disk : DiskState) (d : Disks) → StandsOnDisk place links i disk d → (c : Files) → disk.may_leave c → ShowsStation place links i c d
 shown-on place links i disk d s c left = record {
   station = s.at.shows.station;
@@ -30,7 +30,7 @@ shown-on place links i disk d s c left = record {
   stands = s.kept c (λ m own named flushed. disk.on_disk m named flushed c left);
 }
 
--- what comes of a command, as an event
+-- the result of a command, as an event
 abbrev some_command : Option Command → Command
 some_command None = Purge
 some_command (Some command) = command
@@ -43,7 +43,7 @@ may-happen i None d next same = inl same
 may-happen i (Some command) d next leads = inr leads
 
 module _ {D Kept : Type 0} (state : D → DiskState) (place : Kept → Place) (seats : List (Seat Kept)) (near : AreNeighbours place seats) where
-  -- on another disk a station stands as it did
+  -- a station is unchanged on another disk
   moved : (j : ℕ) (b : Seat Kept) (disk : DiskState) (d next : Disks) → nth j next.net.stations ≡ nth j d.net.stations → StandsAt place seats j b disk d → StandsAt place seats j b disk next
   moved j b disk d next same s = record {
     at = record { shows = shows-too (place b.kept) b.links j disk.seen d next same s.at.shows; linked = s.at.linked; outside = s.at.outside };
@@ -72,7 +72,7 @@ module _ {D Kept : Type 0} (state : D → DiskState) (place : Kept → Place) (s
       (near.apart i j a b there is (λ e. off (sym e)) same) (record { at = s.at; kept = s.kept shared }) off (may-happen i command d next may)
 
   module _ (number : ℕ) (old then : D) (disks : List D) (d next : Disks) (there : nth number disks ≡ Some old) (seated : AreSeated state place seats disks d) where
-    -- what stands on this disk stands there then, and what the net has of other stations is the same
+    -- the stations of this disk are on its new state, and the net has the same stations of other disks
     renewed : ((j : ℕ) (b : Seat Kept) → nth j seats ≡ Some b → b.disk ≡ number → StandsAt place seats j b (state old) d → StandsAt place seats j b (state then) next)
         → ((j : ℕ) (b : Seat Kept) → nth j seats ≡ Some b → b.disk ≢ number → nth j next.net.stations ≡ nth j d.net.stations)
         → AreSeated state place seats (change number (λ x. then) disks) next

@@ -77,7 +77,7 @@ sent-total : (address : Address) (key : Key) (ps : List Packet) → sent_count a
 sent-total address key [] = refl
 sent-total address key (p ∷ ps) = ap (λ (n : ℕ). weight address key p + n) (sent-total address key ps)
 
--- each of some packets stands at its place among others
+-- each of some packets is at its place among others
 picked-weights : (w : Packet → ℕ) (files some : List (List ℕ)) (places : List ℕ) (ps qs : List Packet) → Paired (IsItem files) some places → Paired ReadsAs files ps
     → Paired ReadsAs some qs → Paired (IsItem (map w ps)) (map w qs) places
 picked-weights w files [] [] ps [] picked read other = tt
@@ -125,7 +125,7 @@ module _ (commands plain : List CommandEvent) (d : Disks) (net : Net) (like : Pa
   }
 
   module _ (tag : List ℕ) (order : InOrder plain net tag) where
-    -- what is settled on the disks is so in the net
+    -- if the disks have settled, the net has settled
     settled : HasSettled d tag → IsSettled net tag
     settled is = record {
       scanned = λ i file messages cursor holds m waits.

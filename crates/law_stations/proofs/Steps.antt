@@ -136,7 +136,7 @@ module _ (files : List Coming) (file : LinkFile) (s new : LoneStation) (events :
       ])
       (subst A (sym (made.becomes z refl)) left-agrees))
 
--- what was purged was purged by a command
+-- each purge was done by a command
 abbrev pub AreOfCommands : List LoneCommand → List LoneEvent → Type 0
 AreOfCommands commands events = (e : LoneEvent) → Among e events → IsPurge e → Among PurgeAlone commands
 

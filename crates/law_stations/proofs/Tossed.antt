@@ -21,7 +21,8 @@ use Rattle.law_stations.proofs.Readings.{TossesFront}
 use Rattle.law_stations.proofs.Unpurged.{IsAsFiled, tossing-as_filed}
 use Rattle.model_run.proofs.Targets.{none_some}
 
--- A system from another, of this state: it has the link file and what was filed there, has posted nothing since, and has a base; it has all as it was filed if that did.
+-- A system made from another, with this state. It has the same link file and all that was filed there. It has posted
+-- nothing since, and has a base. If the other had all as it was filed, so has it.
 pub record Takes (s now : System) (state : SystemState) : Type 0 where
   pub is : state_of now ≡ state
   pub file : now.file ≡ s.file
@@ -86,7 +87,7 @@ tossed-base most file sender small (q ∷ ms) all base cursor is =
     one None e = subst (λ (l : List Filed). IsBase l cursor) (sym (append-nil base)) is
     one (Some m) e = tossing_keeps most file base cursor sender q m small all.0 is e
 
--- the sender of a packet is of two-byte numbers
+-- the sender of a packet has numbers of two bytes
 small-zone : (file : LinkFile) (zone : ℕ) → IsFile file → zone < 2 ^ 16 → zone_of file zone < 2 ^ 16
 small-zone file zone fits small =
     let P : ℕ → Type 0 = λ z. z < 2 ^ 16 in

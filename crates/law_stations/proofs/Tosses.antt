@@ -1,4 +1,4 @@
--- The toss of any files is the toss of messages that stand in them.
+-- A toss of any files is a toss of messages in them.
 use Rattle.std.proofs.Common.{◌≡◌, inl, inr, refl, sym, subst, ap, ◌∙◌, ℕ, zero, suc, arith, List, [], ◌∷◌, ◌++◌, length, take, Option, Some, None}
 use Rattle.std.specs.List.{AllByRecursion}
 use Rattle.std.proofs.lemmas.List.{take_all}
@@ -38,7 +38,7 @@ front-plain bytes limits header messages begins packed h = each messages begins.
           | inr t ↦ each ms all.1 q t
         ]
 
--- messages that stand in front of the bytes, of the sender that the header there names
+-- messages at the beginning of the bytes, from the sender that their header names
 pub record IsInFront (file : LinkFile) (bytes : List ℕ) (sender : Address) (messages : List Message) : Type 0 where
   pub header : Header
   pub limits : Limits

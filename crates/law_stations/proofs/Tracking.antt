@@ -1,4 +1,4 @@
--- The disks and a net without crashes that go with each other.
+-- The disks, and a net without crashes that agrees with them.
 use Rattle.std.proofs.Common.{◌≡◌, ◌⊎◌, inl, inr, refl, sym, subst, ap, ◌∙◌, ℕ, ◌+◌, ◌≤◌, ◌<◌, true, false, List, [], ◌∷◌, ◌++◌, length, map, Option, Some, None}
 use Rattle.model_graph.specs.Walk.{Among}
 use Rattle.model_run.specs.Run.{nth}
@@ -7,8 +7,8 @@ use Rattle.law_stations.specs.Disks.{StagingFile, Disks, HasCursor, cursor_of, c
 use Rattle.law_stations.proofs.Counting.{IsItem, below, times, waits}
 use Rattle.model_run.proofs.HarmLists.{nth-map}
 
--- A file beside a name, and the index of the packet that waits in it for its name. One that is none of these has its name, or
--- is of a scan that did not come to move the cursor.
+-- A staging file, and the index of the packet that waits in it for its name. A file without an index has its name, or
+-- belongs to a scan that did not move the cursor.
 abbrev pub IsTagged : List (List ℕ) → List ℕ → StagingFile → Option ℕ → Type 0
 IsTagged packets at file None = (file.named ≡ true) ⊎ ((c : ℕ) → nth file.station at ≡ Some c → c ≤ file.number)
 IsTagged packets at file (Some k) = (nth k packets ≡ Some file.bytes) × (file.named ≡ false) × ((c : ℕ) × (nth file.station at ≡ Some c) × (file.number < c))
@@ -17,7 +17,7 @@ IsTagged packets at file (Some k) = (nth k packets ≡ Some file.bytes) × (file
 abbrev pub IsTossedAt : List ℕ → List ℕ → ℕ → Type 0
 IsTossedAt places delivered j = (k : ℕ) × (nth j places ≡ Some k) × Among k delivered
 
--- the same stations and postings; each packet of the net has its name or waits for it, just once
+-- the same stations and postings. Each packet of the net has its name or waits for it, exactly once
 pub record Tracks (d : Disks) (net : Net) : Type 0 where
   pub stations : d.net.stations ≡ net.stations
   pub postings : d.net.postings ≡ net.postings
@@ -69,7 +69,7 @@ paired-so R S [] (y ∷ ys) so p = absurd p
 paired-so R S (x ∷ xs) [] so p = absurd p
 paired-so R S (x ∷ xs) (y ∷ ys) so p = (so x y (inl refl) p.0, paired-so R S xs ys (λ z w h. so z w (inr h)) p.1)
 
--- Where a command leaves packets, files beside names and cursors as they were, disks and net still go with each other.
+-- If a command leaves packets, staging files and cursors unchanged, disks and net still agree.
 pub still : (d new : Disks) (net then : Net) → (t : Tracks d net)
     → new.net.stations ≡ then.stations → new.net.postings ≡ then.postings → new.net.packets ≡ d.net.packets → then.packets ≡ net.packets → new.staging ≡ d.staging
     → cursors then ≡ cursors net → ((j : ℕ) → Among j new.net.delivered → IsTossedAt t.places then.delivered j) → Tracks new then

@@ -1,4 +1,4 @@
--- A net of stations and a run of systems that say the same.
+-- A net of stations and a run of systems that agree.
 use Rattle.std.specs.Prelude.{◌≡◌, ◌≢◌, ◌⊎◌, ℕ, List, [], ◌∷◌, ◌++◌, map, length, None, Ok}
 use Rattle.echo_addr.specs.declared.address.Address.{Address}
 use Rattle.model_graph.specs.Walk.{Among, Different}
@@ -41,7 +41,7 @@ pub record HasPosting (m : Filed) (s : System) : Type 0 where
   pub own : m.sender ≡ None
 
 -- The stations have the link files and the bases of the systems. The packet files are the bytes of the packets, in
--- order, the same packets were delivered, and just the postings were filed by their systems.
+-- order. The same packets were delivered, and exactly the postings were filed by their systems.
 pub record Agrees (net : Net) (run : Run) : Type 0 where
   pub stations : Paired HasSystem net.stations run.systems
   pub packets : Paired IsPacketFile net.packets run.packets

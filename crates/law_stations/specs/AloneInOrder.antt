@@ -1,4 +1,4 @@
--- The promise about one station, whatever bytes came to it.
+-- The promise about one station, whatever bytes it received.
 use Rattle.std.specs.Prelude.{◌≡◌, ℕ, ◌⊎◌, ◌<◌, ◌≤◌, false, List, [], ◌∷◌, ◌++◌, drop, take, None, Ok, Some}
 use Rattle.echo_addr.specs.declared.address.Address.{Address}
 use Rattle.model_graph.specs.Walk.{Among}

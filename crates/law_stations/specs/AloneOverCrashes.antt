@@ -1,4 +1,4 @@
--- The promise about the disks of one station, whatever came to it, and wherever its commands were stopped.
+-- The promise about the disks of one station, whatever it received, and wherever its commands were stopped.
 use Rattle.std.specs.Prelude.{◌≡◌, ℕ, List, ◌++◌, Ok}
 use Rattle.echo_links.specs.Links.{LinkFile}
 use Rattle.echo_links.specs.LinkLines.{LinksOf}
@@ -8,8 +8,8 @@ use Rattle.law_stations.specs.LoneStations.{LoneCommand}
 use Rattle.law_stations.specs.OverCrashes.{HasNet}
 use Rattle.law_stations.specs.LoneDisks.{LoneDisks, MayHappenAllAlone, lone_disks_at_first, on_net}
 
--- The disks have a net of the station alone that is in order after these commands: its packets are those of the scans that
--- moved the cursor, each under its name or to be named.
+-- The disks have a net of the station alone that is in order after these commands. Its packets are those of the scans
+-- that moved the cursor. Each has its name or will get it.
 pub record AloneHasOrder (commands : List LoneCommand) (s : LoneDisks) : Type 0 where
   pub net : Net
   pub has : HasNet s.disks net

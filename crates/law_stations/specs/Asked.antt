@@ -1,4 +1,4 @@
--- What the contract of a command that is run at a station says of the steps of a net.
+-- The contract of a command at a station, as a statement about the steps of a net.
 use Rattle.std.specs.Prelude.{◌≡◌, ℕ, Bool, List, Option, Some, None, Result, Ok}
 use Rattle.base_file.specs.Base.{Base}
 use Rattle.cmd_report.specs.declared.posting.NewMessage.{NewMessage}
@@ -26,7 +26,7 @@ pub data Asked : Type 0 where
   AsksPurge : Asked
   AsksToss : (indexes : List ℕ) → Asked
 
--- The command events that it may be where the station has this base.
+-- The command events that it may be if the station has this base.
 abbrev pub IsAsked : Asked → Base → Command → Type 0
 IsAsked (AsksPost free words body) base command = IsPostAs free words body command
 IsAsked (AsksReply index answer body) base command = IsReplyAs index answer body base command
@@ -34,7 +34,7 @@ IsAsked (AsksMail letter words) base command = IsMail letter words command
 IsAsked AsksPurge base command = IsPurge command
 IsAsked (AsksToss indexes) base command = IsToss indexes command
 
--- What the command answers where it ends well.
+-- The answer of the command if it ends well.
 abbrev pub AnswerOf : Asked → Type 0
 AnswerOf (AsksToss indexes) = Option Fault
 AnswerOf asked = Unit {0}
@@ -62,8 +62,8 @@ pub record GoesOnEnded {Kept : Type 0} (IsCommand : Command → Type 0) (place :
 abbrev pub IsKeptWhereShared : {Kept : Type 0} → (Kept → Place) → List (Seat Kept) → Seat Kept → ℕ → DiskState → Type 0
 IsKeptWhereShared place seats seat i disk = IsShared seats i seat → (base : Base) → (place seat.kept).stands_for base disk.seen → IsKeptOn (place seat.kept) base disk
 
--- Whatever crash cuts a command at a station, and where it ends well, the net goes on by a command event that it may be. Where the station
--- is as before it, as after a fault that it met, the net goes on by none.
+-- If a crash cuts a command at a station, or if the command ends well, the net goes on by a command event that it may
+-- be. If the station is as before it, as after a fault, the net goes on by none.
 pub record CommandGoesOn {D Kept : Type 0} (state : D → DiskState) (place : Kept → Place) (seats : List (Seat Kept)) (seat : Seat Kept) (i : ℕ) (asked : Asked) (base : Base) (d : Disks) (old whole : D) (result : Result (AnswerOf asked) CommandError) : Type 0 where
   pub cut : (begun : D) → (state whole).left_since (state old).moment (state begun).seen → IsAllOnDisk (state begun)
       → GoesOnCut (IsAsked asked base) place seat i d (state old) (state whole) (state begun)

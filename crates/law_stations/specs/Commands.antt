@@ -60,7 +60,7 @@ pub record Purges (net : Net) (i : ℕ) (new : Net) : Type 0 where
   pub there : nth i net.stations ≡ Some station
   pub becomes : new ≡ with_left net i [] (purged station.base)
 
--- A reader of which just this is known.
+-- A reader of which only this is known.
 abbrev pub itself : Device → Device
 itself reader = reader
 
@@ -76,8 +76,8 @@ abbrev pub whole_of : List ℕ → Option Fault → List Coming → List ℕ
 whole_of indexes None left = indexes
 whole_of indexes (Some fault) left = take (length indexes - (length left + 1)) indexes
 
--- Files are tossed at a system with this base, in order, with notes or without, up to the first fault; then it has the other. The files
--- are what is known of them.
+-- Files are tossed at a system with this base, in order, with notes or without, up to the first fault. Then it has
+-- the other base. A file is given as its known contents.
 pub record TossesAll (files : List Coming) (file : LinkFile) (base next : Base) : Type 0 where
   pub noting : Bool
   pub limits : Limits

@@ -1,4 +1,4 @@
--- Which command events of a net a command may be, where that depends on what it finds.
+-- The command events that a command may be, if that depends on the base.
 use Rattle.std.specs.Prelude.{◌≡◌, ℕ, Bool, true, false, List, Some, slice_get}
 use Rattle.base_file.specs.Base.{Base}
 use Rattle.echo_filed.specs.Filed.{Filed}
@@ -11,7 +11,7 @@ use Rattle.cmd_store.specs.Mailed.{IsPosting}
 use Rattle.law_stations.specs.Commands.{Command}
 use Rattle.law_stations.specs.Kinds.{IsPost, IsPostWith}
 
--- The posting of these words, or, where a free serial is looked for, of the same with some serial.
+-- The posting of these words. If a free serial is searched, the same with some serial.
 abbrev pub IsPostAs : Bool → NewMessage → List ℕ → Command → Type 0
 IsPostAs false words body command = IsPost words body command
 IsPostAs true words body command = IsPostWith words body command

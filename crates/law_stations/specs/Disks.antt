@@ -31,7 +31,7 @@ cursors net = map cursor_of net.stations
 abbrev pub HasCursor : Net → ℕ → ℕ → Type 0
 HasCursor net i cursor = nth i (cursors net) ≡ Some cursor
 
--- One packet file more has its name.
+-- One more packet file has its name.
 abbrev pub with_packet : Net → List ℕ → Net
 with_packet net bytes = record {
   stations = net.stations;
@@ -40,7 +40,7 @@ with_packet net bytes = record {
   postings = net.postings;
 }
 
--- The bytes get the name; where they had it before, it is the same packet file that has it again.
+-- The bytes get the name. If they had it before, it is the same packet file again.
 abbrev pub naming : Net → List ℕ → Bool → Net
 naming net bytes true = net
 naming net bytes false = with_packet net bytes

@@ -94,7 +94,7 @@ abbrev pub NetsAreSound : Type 0
 NetsAreSound = (links : List (List ℕ)) (files : List LinkFile) → AreLinkFiles links files → Different (map file_address files)
     → (commands : List CommandEvent) (net : Net) → Happen commands (first_net links) net → IsSound commands net
 
--- Where `check` ended with 0 for these link files and the area, any commands on them leave a net that is in order.
+-- If `check` ended with 0 for these link files and the area, any commands on them leave a net that is in order.
 abbrev pub HeadlineOnNets : Type 0
 HeadlineOnNets = (nodelist : Option (List ℕ)) (more : Bool) (tag : List ℕ) (links : List (List ℕ)) (stopped : Option Fault) (old new : Output)
     → CheckAnswers nodelist more tag links stopped old new (Ok Good)

@@ -17,7 +17,7 @@ pub record LoneDisks : Type 0 where
 abbrev pub lone_disks_at_first : List ℕ → LoneDisks
 lone_disks_at_first links = record { disks = first_disks (links ∷ []); came = []; whole = [] }
 
--- A net of the station, to which the same came.
+-- A net of the station that received the same.
 abbrev pub on_net : LoneDisks → Net → LoneStation
 on_net s net = record { net = net; came = s.came; whole = s.whole }
 

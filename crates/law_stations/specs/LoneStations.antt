@@ -1,4 +1,4 @@
--- One station, to which any bytes come as packet files.
+-- One station that gets any bytes as packet files.
 use Rattle.std.specs.Prelude.{◌≡◌, ℕ, ◌⊎◌, ◌+◌, ◌-◌, List, [], ◌∷◌, ◌++◌, length, take, Option, Some, None, Ok}
 use Rattle.base_file.specs.Base.{Base}
 use Rattle.echo_links.specs.Links.{LinkFile}
@@ -28,14 +28,14 @@ held_in (Holds bytes ∷ later) = bytes ∷ held_in later
 held_in (Fails path ∷ later) = held_in later
 held_in (Unknown ∷ later) = held_in later
 
--- Each file holds some bytes, whichever, or cannot be used.
+-- Each file holds any bytes, or cannot be used.
 abbrev pub AreAnyFiles : List Coming → Type 0
 AreAnyFiles [] = Unit {0}
 AreAnyFiles (Holds bytes ∷ later) = AreAnyFiles later
 AreAnyFiles (Fails path ∷ later) = AreAnyFiles later
 AreAnyFiles (Unknown ∷ later) = ⊥
 
--- The files that were tossed whole: all where nothing stopped the run, else those before the one that did.
+-- The files that were tossed whole: all if nothing stopped the run, else those before the file that stopped it.
 abbrev pub tossed_whole : List Coming → Option Fault → List Coming → List Coming
 tossed_whole files None left = files
 tossed_whole files (Some fault) left = take (length files - (length left + 1)) files

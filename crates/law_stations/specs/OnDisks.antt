@@ -64,20 +64,21 @@ pub record IsAsBefore (place : Place) (links : List ℕ) (i : ℕ) (d : Disks) (
   pub at : IsStationAt place links i new d
   pub on_disk : (c : Files) → new.may_leave c → ShowsStation place links i c d
 
--- Files elsewhere stay. A crash at any time leaves what a crash before could have left, or each file elsewhere that was on the disk.
+-- Files elsewhere stay. A crash at any time leaves what a crash before could have left, or each file elsewhere that
+-- was on the disk.
 pub record LeavesElsewhere (place : Place) (old new : DiskState) : Type 0 where
   pub crash : (c : Files) → new.left_since old.moment c → old.may_leave c ⊎ SameElsewhere place old c
   pub keeps : KeepsElsewhere place old new
 
 -- A command does on the disk what the command event may do.
 pub record RefinesEvent {A : Type 0} (IsCommand : Command → Type 0) (place : Place) (links : List ℕ) (i : ℕ) (d : Disks) (old new : DiskState) (result : Result A CommandError) : Type 0 where
-  -- A crash at any moment leaves what one before it might have left, or the station as before the event or after it.
+  -- A crash at any time leaves what one before it might have left, or the station as before the event or after it.
   pub crash : (c : Files) → new.left_since old.moment c → old.may_leave c ⊎ AreAsMay IsCommand place links i d c
-  -- Where it ends well they are as after the event.
+  -- If it ends well, they are as after the event.
   pub done : (value : A) → result ≡ Ok value → IsAfter IsCommand place links i d new
-  -- If it met a fault, a crash leaves what a crash before could have left, or both as they were.
+  -- If it met a fault, a crash leaves what a crash before could have left, or both unchanged.
   pub stopped : (fault : Fault) → result ≡ Err (Met fault) → (c : Files) → new.left_since old.moment c → old.may_leave c ⊎ ShowsStation place links i c d
-  -- The link file is as it was, on the disk.
+  -- The link file is unchanged, on the disk.
   pub same_links : new.seen links ≡ old.seen links
   pub linked : IsLinkedOn links new
   -- Everything elsewhere is unchanged.
@@ -87,8 +88,8 @@ pub record RefinesEvent {A : Type 0} (IsCommand : Command → Type 0) (place : P
 abbrev pub ReadsLinks : (LinkFile → Type 0) → List ℕ → DiskState → Type 0
 ReadsLinks Reads links disk = (file : LinkFile) → Reads file → AreLinks disk links file
 
--- At each station of a net that the disk shows in this place a command does what a command event of this kind may do. The kind may depend
--- on the base of the station.
+-- At each station of a net that the disk shows in this place a command does what a command event of this kind may do.
+-- The kind may depend on the base of the station.
 abbrev pub AsMay : {A : Type 0} → (Base → Command → Type 0) → Place → (LinkFile → Type 0) → DiskState → DiskState → Result A CommandError → Type 0
 AsMay IsCommand place Reads old new result = (i : ℕ) (d : Disks) (links : List ℕ) → ReadsLinks Reads links old → (at : IsStationAt place links i old d)
     → RefinesEvent (IsCommand at.shows.station.base) place links i d old new result
@@ -98,13 +99,14 @@ abbrev pub StaysWhereMet : {A : Type 0} → Place → (Fault → Type 0) → Dis
 StaysWhereMet place IsShut old new result = (i : ℕ) (d : Disks) (links : List ℕ) → IsStationAt place links i old d → (fault : Fault) → result ≡ Err (Met fault)
     → IsAsBefore place links i d new ⊎ IsShut fault
 
--- Of a toss with this answer, which left these files, the packets that it tossed whole are delivered: all where nothing stopped it.
+-- The packets that a toss with this answer tossed whole are delivered: all if nothing stopped it, else those without
+-- the files that it left.
 pub record IsAfterToss (indexes : List ℕ) (left : List Coming) (place : Place) (links : List ℕ) (i : ℕ) (d : Disks) (new : DiskState) (answer : Option Fault) : Type 0 where
   pub at : IsAfter (IsToss indexes) place links i d new
   pub delivered : at.after.net.delivered ≡ with_indexes (whole_of indexes answer left) d.net.delivered
 
--- A toss of the packet files of these indexes does on the disk what the command event may do. If it ends well, it does just what it
--- returns.
+-- A toss of the packet files of these indexes does on the disk what the command event may do. If it ends well, it
+-- does exactly what it returns.
 pub record TossesAsEvent (indexes : List ℕ) (left : List Coming) (place : Place) (links : List ℕ) (i : ℕ) (d : Disks) (old new : DiskState) (result : Result (Option Fault) CommandError) : Type 0 where
   pub does : RefinesEvent (IsToss indexes) place links i d old new result
   pub ends : (answer : Option Fault) → result ≡ Ok answer → IsAfterToss indexes left place links i d new answer

@@ -94,7 +94,8 @@ pub record InOrderOverCrashes (commands : List CommandEvent) (d : Disks) (tag : 
       (i : ℕ) (file : LinkFile) (messages : List Filed) (cursor : ℕ) → StationHolds d.net i file messages cursor → IsTrue (has_area file tag) →
       HasUnchanged commands i messages cursor posting
 
--- Where `check` ended with 0 for these link files and the area, commands that anything stops anywhere leave disks that are in order.
+-- If `check` ended with 0 for these link files and the area, commands that anything stops anywhere leave disks that
+-- are in order.
 abbrev pub HeadlineOverCrashes : Type 0
 HeadlineOverCrashes = (nodelist : Option (List ℕ)) (more : Bool) (tag : List ℕ) (links : List (List ℕ)) (stopped : Option Fault) (old new : Output)
     → CheckAnswers nodelist more tag links stopped old new (Ok Good)

@@ -28,8 +28,8 @@ IsAtPath outbound c packet = c (outbound ++ packet.name) ≡ Some packet.bytes
 abbrev pub IsStagingPath : List ℕ → List ℕ → Files → PacketFile → Type 0
 IsStagingPath outbound own c packet = c (staging_path (outbound ++ packet.name) own) ≡ Some packet.bytes
 
--- The link file and the base are those of the station after a scan of this base that got this far. Some of its packets are whole at their
--- paths: these got their names. The others are whole at their staging paths, and wait.
+-- The link file and the base are those of the station after a scan of this base that got this far. Some of its
+-- packets are whole at their paths: these got their names. The others are whole at their staging paths, and wait.
 pub record AreAfterScan (stamp : Stamp) (place : Place) (links outbound : List ℕ) (i : ℕ) (d ended : Disks) (base : Base) (c : Files) : Type 0 where
   pub after : Disks
   pub leads : PartialEffect (Scan stamp) d i after
@@ -43,8 +43,8 @@ pub record AreAfterScan (stamp : Stamp) (place : Place) (links outbound : List �
   pub at_paths : AllByRecursion (IsAtPath outbound c) named
   pub staging_paths : AllByRecursion (IsStagingPath outbound (dotted file.system) c) waiting
 
--- The disk shows the link file and the base of the station after a scan without a waiting packet. The next command finds them like that,
--- and each crash leaves both like that.
+-- The disk shows the link file and the base of the station after a scan without a waiting packet. The next command
+-- finds them like that, and each crash leaves both like that.
 pub record IsAfterScan (stamp : Stamp) (place : Place) (links outbound : List ℕ) (i : ℕ) (d ended : Disks) (base : Base) (new : DiskState) : Type 0 where
   pub scan : AreAfterScan stamp place links outbound i d ended base new.seen
   pub none_waits : scan.waiting ≡ []
@@ -57,25 +57,25 @@ with_packets_in outbound place = record { stands_for = place.stands_for; is_own 
 
 -- A scan does on the disk what its command event may do.
 pub record ScansAsEvent (stamp : Stamp) (place : Place) (links outbound : List ℕ) (i : ℕ) (d ended : Disks) (base : Base) (old new : DiskState) (result : Result (Unit {0}) ScanError) : Type 0 where
-  -- A crash at any time leaves what a crash before could have left, or the station unchanged, or the station and the packets as after the
-  -- event.
+  -- A crash at any time leaves one of three things: what a crash before could have left; the station unchanged; or
+  -- the station and the packets as after the event.
   pub crash : (c : Files) → new.left_since old.moment c → old.may_leave c ⊎ (ShowsStation place links i c d ⊎ AreAfterScan stamp place links outbound i d ended base c)
-  -- Where it ends well they are as after the event, and no packet waits.
+  -- If it ends well, they are as after the event, and no packet waits.
   pub done : result ≡ Ok tt → IsAfterScan stamp place links outbound i d ended base new
   -- And a crash leaves them so.
   pub on_disk : result ≡ Ok tt → (c : Files) → new.may_leave c → (after : AreAfterScan stamp place links outbound i d ended base c) × (after.waiting ≡ [])
   -- However it ended, except by a fault, a crash leaves the station unchanged or as after the event.
   pub lasts : ((fault : Fault) → result ≡ Err (Command (Met fault)) → ⊥) → (c : Files) → new.may_leave c → ShowsStation place links i c d ⊎ AreAfterScan stamp place links outbound i d ended base c
-  -- If it met a fault, a crash leaves what a crash before could have left, or both as they were.
+  -- If it met a fault, a crash leaves what a crash before could have left, or both unchanged.
   pub stopped : (fault : Fault) → result ≡ Err (Command (Met fault)) → (c : Files) → new.left_since old.moment c → old.may_leave c ⊎ ShowsStation place links i c d
-  -- The link file is as it was, on the disk.
+  -- The link file is unchanged, on the disk.
   pub same_links : new.seen links ≡ old.seen links
   pub linked : IsLinkedOn links new
   -- Everything elsewhere is unchanged, except packets.
   pub elsewhere : LeavesElsewhere (with_packets_in outbound place) old new
 
--- The same at each station of a net that the disk shows in this place. The packets that stopped scans left are finished as in the event,
--- and the station's link file has no path of a packet.
+-- The same at each station of a net that the disk shows in this place. The packets that stopped scans left are
+-- finished as in the event, and the station's link file has no path of a packet.
 abbrev pub ScansAsMay : Stamp → Place → List ℕ → (LinkFile → Type 0) → DiskState → DiskState → Result (Unit {0}) ScanError → Type 0
 ScansAsMay stamp place outbound Reads old new result = (links : List ℕ) (i : ℕ) (d : Disks) (n : ℕ) (ended : Disks) → ReadsLinks Reads links old → (IsTouched place.is_own outbound links → ⊥)
     → (at : IsStationAt place links i old d) → EndsSome n i d ended → HasNoneStaged i ended.staging

@@ -17,8 +17,8 @@ abbrev pub either : {First Second : Type 0} → (First → Place) → (Second �
 either first second (OfFirst kept) = first kept
 either first second (OfSecond kept) = second kept
 
--- The place of a station: the number of its disk, the path of its link file, the folder into which its scans write packets, and what holds
--- its base.
+-- The place of a station: the number of its disk, the path of its link file, the folder for the packets of its scans,
+-- and what holds its base.
 pub record Seat (Kept : Type 0) : Type 0 where
   pub disk : ℕ
   pub links : List ℕ
@@ -42,7 +42,7 @@ pub record IsShared {Kept : Type 0} (seats : List (Seat Kept)) (i : ℕ) (seat :
   pub differs : i ≢ j
   pub same_disk : other.disk ≡ seat.disk
 
--- Which base the files hold depends on the files of the place alone.
+-- The base that the files hold depends only on the files of the place.
 abbrev pub IsSettledByOwn : Place → Type 0
 IsSettledByOwn place = (base : Base) (before after : Files) → ((m : List ℕ) → place.is_own m → after m ≡ before m) → place.stands_for base before → place.stands_for base after
 
@@ -51,8 +51,8 @@ pub record AreNeighbours {Kept : Type 0} (place : Kept → Place) (seats : List 
   pub apart : (i j : ℕ) (a b : Seat Kept) → nth i seats ≡ Some a → nth j seats ≡ Some b → i ≢ j → b.disk ≡ a.disk → IsApart (place b.kept) b.links (reach place a)
   pub settled : (i : ℕ) (seat : Seat Kept) → nth i seats ≡ Some seat → IsShared seats i seat → IsSettledByOwn (place seat.kept)
 
--- Between two steps the disk shows the link file and the base of the station, and each crash leaves them so. Where the station shares
--- the disk, its base is on that.
+-- Between two steps the disk shows the link file and the base of the station, and each crash leaves them so. If the
+-- station shares the disk, its base is on the disk.
 pub record StandsAt {Kept : Type 0} (place : Kept → Place) (seats : List (Seat Kept)) (i : ℕ) (seat : Seat Kept) (disk : DiskState) (d : Disks) : Type 0 where
   pub at : IsStationAt (place seat.kept) seat.links i disk d
   pub on_disk : (c : Files) → disk.may_leave c → ShowsStation (place seat.kept) seat.links i c d

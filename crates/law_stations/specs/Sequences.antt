@@ -19,12 +19,12 @@ SequencesAreAmong {D} {Kept} state place = (seats : List (Seat Kept)) → AreNei
     → (steps : List (Step D)) (disks : List D) (d last : Disks) → AreSeated state place seats disks d → GoesOn state place seats steps disks d last
     → MayHappenAll (commands_of steps) d last × AreSeated state place seats (after_all steps disks) last
 
--- What the disks show at the end is in order.
+-- The net that the disks show at the end is in order.
 pub record ShowsInOrder {D Kept : Type 0} (state : D → DiskState) (place : Kept → Place) (seats : List (Seat Kept)) (steps : List (Step D)) (disks : List D) (tag : List ℕ) (last : Disks) : Type 0 where
   pub order : InOrderOverCrashes (commands_of steps) last tag
   pub seated : AreSeated state place seats (after_all steps disks) last
 
--- Where `check` ended with 0 for the link files of stations with empty bases, and an area.
+-- If `check` ended with 0 for the link files of stations with empty bases, and an area.
 abbrev pub HeadlineOverSequences : {D Kept : Type 0} → (D → DiskState) → (Kept → Place) → Type 0
 HeadlineOverSequences {D} {Kept} state place = (nodelist : Option (List ℕ)) (more : Bool) (tag : List ℕ) (links : List (List ℕ)) (stopped : Option Fault) (old new : Output)
     → CheckAnswers nodelist more tag links stopped old new (Ok Good)

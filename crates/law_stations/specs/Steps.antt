@@ -1,4 +1,4 @@
--- Steps at stations: commands that come to their end, or that crashes cut, and crashes between commands.
+-- Steps at stations: commands that end or that a crash cuts, and crashes between commands.
 use Rattle.std.specs.Prelude.{◌≡◌, ℕ, List, [], ◌∷◌, Option, Some, None}
 use Rattle.disk_io.specs.Disk.{DiskState}
 use Rattle.model_run.specs.Run.{change, nth}
@@ -9,19 +9,20 @@ use Rattle.law_stations.specs.Stopping.{PartialEffect}
 use Rattle.law_stations.specs.OnDisks.{LeavesElsewhere, ShowsStation}
 use Rattle.law_stations.specs.Seats.{Seat, StandsAt, reach}
 
--- A command at a station ends. Or a crash cuts it; uncut it would have led to this disk. Or a crash comes between commands. A command
--- without an effect is none.
+-- A command at a station ends. Or a crash cuts it; without the crash it would have led to this disk. Or there is a
+-- crash between commands. A command without an effect is none.
 pub data Happening (D : Type 0) : Type 0 where
   Ends : (station : ℕ) (command : Option Command) → Happening D
   IsCut : (station : ℕ) (command : Option Command) (whole : D) → Happening D
   Crashes : Happening D
 
--- what may come of it
+-- its possible effects
 abbrev pub MayLead : Option Command → ℕ → Disks → Disks → Type 0
 MayLead None i d next = next ≡ d
 MayLead (Some command) i d next = PartialEffect command d i next
 
--- What happens on the disk of a number, and that disk then. After a crash it is the disk with which the machine starts again.
+-- What happens on the disk of a number, and the disk after it. After a crash it is the disk with which the machine
+-- starts again.
 pub record Step (D : Type 0) : Type 0 where
   pub disk : ℕ
   pub what : Happening D

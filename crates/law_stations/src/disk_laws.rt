@@ -1,4 +1,4 @@
-//! What holds of files on disks: stations that share one, and packet files. Each law is the contract of a function that
+//! Laws about files on disks: stations that share one, and packet files. Each law is the contract of a function that
 //! does nothing.
 ghost use Rattle.std.specs.Prelude.{ℕ, List};
 ghost use Rattle.law_stations.specs.Commands.{IsPacketAt};
@@ -25,8 +25,8 @@ pub fn others_stay<'a, D: Disk, P: OpenStation<'a, D>, O: OpenStation<'a, D>>(
     ensures scan { (outbound : List ℕ) → OthersStay (with_packets_in outbound (P.place _station.now)) (O.place _other.now) (D.state _old.now) (D.state _new.now) }
 {}
 
-/// Packet files on a disk are packets of a net if the disk shows just their bytes, at most a MiB each. Some may be missing.
-/// This is the premise of `toss_as_may`.
+/// Packet files on a disk are packets of a net if the disk shows exactly their bytes, at most a MiB each. Some may be
+/// missing. This is the premise of `toss_as_may`.
 pub fn shown_packets_are_known<'a, D: Disk + Drop, N: PacketName, S: StreamPackets<'a>>(
     _files: &PacketsOnDisk<'a, D, N, S>,
 )

@@ -14,10 +14,11 @@
 //!
 //! For commands on disks: a crash leaves of a command what the law over crashes allows (`commands`, `scanning`,
 //! `disk_laws`). After any steps of a sequence, the disks show a net of the headline over crashes (`sequence_laws`).
-//! Begin with specs/: `DiskKinds` (which command events a command may be), `OnDisks` (a link file and a base on a disk
-//! as those of a station), `Scans` (the same with the packets of a scan), `ShownPackets` (the packet files of `toss`) and
-//! `Neighbours` (other stations on the same disk). Then `Seats` (stations on disks), `Steps` (the effect of a step),
-//! `Asked` and `Scanned` (which steps commands are) and `Sequences` (the promise).
+//!
+//! Begin with specs/. `DiskKinds` says which command events a command may be. `OnDisks` has a link file and a base on
+//! a disk as those of a station, and `Scans` the same with the packets of a scan. `ShownPackets` has the packet files
+//! of `toss`, and `Neighbours` other stations on the same disk. Then read `Seats` (stations on disks), `Steps` (the
+//! effect of a step), `Asked` and `Scanned` (which steps commands are) and `Sequences` (the promise).
 #![tactic(auto)]
 
 mod commands;

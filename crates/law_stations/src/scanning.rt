@@ -11,7 +11,7 @@ use station_scan::{Scan, Scanned, run_scan};
 use std::alloc::Global;
 
 /// `scan` on a station. A crash at any time leaves what an earlier one might have left, or the station as before the
-/// scan or after it. Once the station is as after it, each packet is whole at its path or in its staging file. If the
+/// scan or after it. If the station is as after it, each packet is whole at its path or in its staging file. If the
 /// scan ended well, each packet has its path, and the next command finds the station so. If it met a fault on an open
 /// station, both are as before it.
 pub fn scan_as_may<

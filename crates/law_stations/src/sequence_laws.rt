@@ -1,4 +1,4 @@
-//! What holds of steps at stations. Each law is the contract of a function that does nothing.
+//! Laws about steps at stations. Each law is the contract of a function that does nothing.
 
 ghost use Rattle.law_stations.specs.Asked.{CommandsGoOn};
 ghost use Rattle.law_stations.specs.Scanned.{ScansGoOn, TossesGoOn};

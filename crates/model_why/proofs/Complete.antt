@@ -1,4 +1,4 @@
--- What is not found in a run is not there.
+-- A message that is not found in a run is not there.
 use Rattle.std.proofs.Common.{◌≡◌, ◌∙◌, refl, sym, subst, ap, ℕ, ◌<◌, ◌≤◌, arith, List, Option, Some, None}
 use Rattle.std.specs.Prelude.{Bool, true, false, ◌&&◌, MatchOption, bytes_eq, option_map, unwrap_or}
 use Rattle.echo_addr.specs.declared.address.Address.{Address}

@@ -32,7 +32,7 @@ file-there files events s h =
     subst P (along (λ run. map (λ (z : System). z.file) run.systems ≡ files) (λ run event same. event-files run event ∙ same) events (start files) (fresh-files files))
     (Among-map_to (λ (z : System). z.file) s (run_of files events).systems h)
 
--- where the system of this index lists whom the guess is of, the guess is wrong of its first scan
+-- if the system of this index lists the system of the guess, the guess is wrong of its first scan
 abbrev pub IsWrongOfListed : List LinkFile → List ℕ → ℕ → Guess → Type 0
 IsWrongOfListed files tag i guess =
     (file : LinkFile) → nth i files ≡ Some file → IsTrue (is_link file tag (guessed_link file.system guess)) → IsWrongAtOnce files tag i guess

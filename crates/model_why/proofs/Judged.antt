@@ -1,4 +1,4 @@
--- What is read off a world says what harm its run has.
+-- The harm that a world shows is the harm of its run.
 use Rattle.std.proofs.Common.{◌≡◌, ◌≢◌, ◌∙◌, ◌⊎◌, inl, inr, refl, sym, subst, ap, ℕ, zero, suc, ◌+◌, ◌<◌, ◌≤◌, arith, Bool, true, false, cond, List, [], ◌∷◌, length, Option, Some, None}
 use Rattle.std.specs.Prelude.{◌&&◌, bytes_eq, option_map, slice_get, unwrap_or}
 use Rattle.std.proofs.lemmas.List.Sums.{sum_by-cons}

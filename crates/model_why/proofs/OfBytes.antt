@@ -12,7 +12,7 @@ use Rattle.model_run.specs.Run.{nth}
 use Rattle.model_why.specs.Sources.{files_of}
 use Rattle.model_why.proofs.Counting.{nth-read}
 
--- what was read is what the bytes say
+-- the read files are those of the bytes
 pub of_bytes : (bytes : List ℕ) (file : LinkFile) → (let read : Result LinkFile LinkFault = Ok file in (read ≡ Err fault.Memory) ⊎ LinksOf bytes read) → LinksOf bytes (Ok file)
 of_bytes bytes file h = elim h [ inl memory ↦ absurd (cc) | inr is ↦ is ]
 

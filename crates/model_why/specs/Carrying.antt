@@ -1,4 +1,4 @@
--- How the message of a harm comes to the system that the harm names: the packets to that system that hold it.
+-- How the message of a harm reaches the system that the harm names: the packets to that system that hold it.
 use Rattle.std.specs.Prelude.{ℕ, ◌+◌, ◌&&◌, nat_le, nat_lt, Bool, count_by, if◌then◌else◌, List, [], ◌∷◌, ◌++◌, Option, Some, None}
 use Rattle.echo_addr.specs.declared.address.Address.{Address}
 use Rattle.echo_links.specs.Links.{LinkFile, same_address}
@@ -25,11 +25,12 @@ system_named NeverSettles = None
 abbrev pub brings : Address → Key → Packet → Bool
 brings to key p = same_address (destination p) to && nat_lt 0 (count key (copies p))
 
--- The number of the event that made the packet of this index, where so many packets were there after each event: it comes after those after which it was not there. The first event has the number 1.
+-- The number of the event that made the packet of this index. The list has the number of packets after each event.
+-- The event follows all events after which the packet did not exist yet. The first event has the number 1.
 abbrev pub step_of : List ℕ → ℕ → ℕ
 step_of counts k = count_by (λ n. nat_le n k) counts + 1
 
--- A packet on its way, from who made it to whom it is for.
+-- A packet on its way, with its sender and its receiver.
 abbrev pub crossing : List ℕ → ℕ → Packet → Crossing
 crossing counts k p = record { step = step_of counts k; from = origin p; to = destination p }
 
@@ -37,19 +38,19 @@ crossing counts k p = record { step = step_of counts k; from = origin p; to = de
 abbrev pub crossing_at : List ℕ → Address → Key → ℕ → Packet → List Crossing
 crossing_at counts to key k p = if brings to key p then crossing counts k p ∷ [] else []
 
--- Those that bring it, of packets the first of which has this index.
+-- Those that bring it, among packets the first of which has this index.
 abbrev pub crossings_from : List ℕ → Address → Key → ℕ → List Packet → List Crossing
 crossings_from counts to key k [] = []
 crossings_from counts to key k (p ∷ later) = crossing_at counts to key k p ++ crossings_from counts to key (k + 1) later
 
--- Those of a run that is shown, where its harm names this system.
+-- The crossings of a run, if its harm names this system.
 abbrev pub crossings_to : List LinkFile → List ℕ → Shown → Option Address → List Crossing
 crossings_to files tag shown None = []
 crossings_to files tag shown (Some to) =
     crossings_from (packet_counts (start files) (posting_and_moves shown.poster tag shown.moves)) to (ById tag shown.id) 0
     (shown_run files shown.poster tag shown.moves).packets
 
--- And where it names the one that it does.
+-- The crossings of a run, for the system that its harm names.
 abbrev pub shown_crossings : List LinkFile → List ℕ → Shown → List Crossing
 shown_crossings files tag shown = crossings_to files tag shown (system_named shown.harm)
 

@@ -1,4 +1,4 @@
--- Where a run that goes wrong is always found.
+-- When a run that does harm is always found.
 use Rattle.std.specs.Prelude.{◌≢◌, List}
 use Rattle.model_graph.specs.Walk.{Among}
 use Rattle.echo_links.specs.Links.{LinkFile}
@@ -13,7 +13,7 @@ AlwaysHarms (Apart a b) = Unit {0}
 AlwaysHarms (Loop loop) = Unit {0}
 AlwaysHarms _ = ⊥
 
--- V4, where no file has the address that is listed
+-- V4, if no file has the listed address
 abbrev pub LeadsNowhere : List LinkFile → NetFault → Type 0
 LeadsNowhere files (Unknown a b) = (file : LinkFile) → Among file files → file.system ≢ b
 LeadsNowhere files _ = ⊥

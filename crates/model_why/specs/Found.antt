@@ -73,7 +73,7 @@ abbrev pub FindsHarm : Option Shown → Type 0
 FindsHarm None = ⊥
 FindsHarm (Some shown) = BreaksIt shown.harm
 
--- A run that goes wrong is found.
+-- A run that does harm is found.
 abbrev pub FindsSome : Option Shown → Type 0
 FindsSome None = ⊥
 FindsSome (Some shown) = Unit {0}

@@ -1,4 +1,4 @@
--- When a guess is right of a run in which one system posted one message.
+-- When a guess is right for a run in which one system posted one message.
 use Rattle.std.specs.Prelude.{◌≡◌, ◌≢◌, ◌≤◌, ℕ, IsTrue, List, Some}
 use Rattle.echo_addr.specs.declared.address.Address.{Address}
 use Rattle.model_graph.specs.Walk.{Among}
@@ -25,7 +25,7 @@ pub record IsOwn (run : Run) (poster : ℕ) (tag id : List ℕ) : Type 0 where
   pub at : nth poster run.systems ≡ Some system
   pub sent : 1 ≤ sent_count system.file.system (ById tag id) run.packets
 
--- Nothing moves any more, and the system of this index has the area and no message of it.
+-- Nothing moves any more, and the system of this index has the area but no message of it.
 pub record IsLacking (run : Run) (tag : List ℕ) (i : ℕ) : Type 0 where
   pub settled : IsTrue (is_settled run)
   pub system : System
@@ -38,7 +38,7 @@ pub record IsToNobody (run : Run) (tag id : List ℕ) (to : Address) : Type 0 wh
   pub nobody : (s : System) → Among s run.systems → s.file.system ≢ to
   pub sent : 1 ≤ sent_count to (ById tag id) run.packets
 
--- The guess is right, of the message of this id that the system of this index posted.
+-- The guess is right for the message of this id that the system of this index posted.
 abbrev pub IsRight : Run → ℕ → List ℕ → List ℕ → Guess → Type 0
 IsRight run poster tag id (Again i) = IsAgain run tag id i
 IsRight run poster tag id Own = IsOwn run poster tag id
@@ -50,7 +50,7 @@ abbrev pub GuessBreaks : Guess → Type 0
 GuessBreaks (Nobody to) = ⊥
 GuessBreaks _ = Unit {0}
 
--- It is wrong where the system of this index posts and scans, and nothing else happens.
+-- It is wrong for the run in which the system of this index posts and scans, and nothing else happens.
 abbrev pub IsWrongAtOnce : List LinkFile → List ℕ → ℕ → Guess → Type 0
 IsWrongAtOnce files tag poster guess =
     (file : LinkFile) → nth poster files ≡ Some file → IsTrue (has_area file tag) →

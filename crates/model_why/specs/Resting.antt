@@ -1,4 +1,4 @@
--- One posting after which all has come to rest, and does no harm.
+-- One posting after which all messages rest, and which does no harm.
 use Rattle.std.specs.Prelude.{◌≡◌, ◌≤◌, ℕ, IsTrue, List, Some}
 use Rattle.model_graph.specs.Walk.{Among}
 use Rattle.echo_text.specs.Ids.{id_of}
@@ -13,12 +13,12 @@ use Rattle.model_run.specs.Grave.{AllAreCarriers}
 use Rattle.model_plan.specs.declared.plan.Move.{Move}
 use Rattle.model_why.specs.Shown.{shown_run}
 
--- Nothing waits, every packet came, and nothing was filed but the message of this id.
+-- Nothing waits, every packet was delivered, and only the message of this id was filed.
 pub record IsAtRest (run : Run) (tag id : List ℕ) : Type 0 where
   pub settled : IsTrue (is_settled run)
   pub only : (s : System) → Among s run.systems → (m : Filed) → Among m s.history → key_of m ≡ ById tag id
 
--- Where every link of a carrier is a carrier, all that a carrier's posting brought has come to rest.
+-- If every link of a carrier is a carrier, all packets that a carrier's posting caused have come to rest.
 abbrev pub RestsWith : List LinkFile → List ℕ → ℕ → List Move → Type 0
 RestsWith files tag poster moves =
     AllAreCarriers files tag → (file : LinkFile) → nth poster files ≡ Some file → IsTrue (has_area file tag) →
@@ -34,7 +34,7 @@ pub record PostsFirst (run : Run) (i : ℕ) (tag id : List ℕ) : Type 0 where
   pub posting : IsPosting tag message
   pub key : key_of message ≡ ById tag id
 
--- A carrier is sent the message once at most, and has some message of the area.
+-- A carrier is sent the message at most once, and has some message of the area.
 pub record IsWell (run : Run) (tag id : List ℕ) (s : System) : Type 0 where
   pub once : sent_count s.file.system (ById tag id) run.packets ≤ 1
   pub filed : 1 ≤ area_count tag s.base
@@ -44,7 +44,8 @@ pub record DoesNoHarm (run : Run) (poster : ℕ) (tag id : List ℕ) : Type 0 wh
   pub never_own : (s : System) → nth poster run.systems ≡ Some s → sent_count s.file.system (ById tag id) run.packets ≡ 0
   pub well : (i : ℕ) (s : System) → nth i run.systems ≡ Some s → IsTrue (has_area s.file tag) → IsWell run tag id s
 
--- Where every link of a carrier is a carrier, a carrier's posting does no harm, once some moves have brought all to rest.
+-- If every link of a carrier is a carrier, a carrier's posting does no harm after moves that have brought all to
+-- rest.
 abbrev pub IsHarmlessAt : List LinkFile → List ℕ → ℕ → Type 0
 IsHarmlessAt files tag poster =
     AllAreCarriers files tag → (file : LinkFile) → nth poster files ≡ Some file → IsTrue (has_area file tag) →

@@ -7,7 +7,7 @@ use Rattle.model_run.specs.Postings.{trial_moment, trial_posting}
 use Rattle.model_plan.specs.declared.plan.Move.{Move}
 use Rattle.model_plan.specs.declared.plan.Move.TheVariants.{Deliver, Scan}
 
--- What a move is in a run; each scan has the moment of the posting.
+-- A move as an event of a run. Each scan has the timestamp of the posting.
 abbrev pub run_move : Move → RunEvent
 run_move (Scan system) = Scanning system trial_moment
 run_move (Deliver packet) = Delivery packet

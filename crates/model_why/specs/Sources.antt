@@ -1,8 +1,8 @@
--- The link files that some bytes are.
+-- The link files of some bytes.
 use Rattle.std.specs.Prelude.{ℕ, List, map}
 use Rattle.echo_links.specs.Links.{LinkFile}
 use Rattle.echo_links.specs.LinkLines.{file_of}
 
--- what each of them says
+-- the link file of each of them
 abbrev pub files_of : List (List ℕ) → List LinkFile
 files_of sources = map file_of sources

@@ -1,4 +1,4 @@
-//! By which packets the message of a harm comes to the system that the harm names, and when these were made.
+//! The packets by which the message of a harm reaches the system of the harm, and when these were made.
 
 ghost use Rattle.std.specs.Prelude.{◌≡◌, ◌++◌, IfOk, OnOk, Some, None, if◌then◌else◌, nat_lt, option_copied};
 ghost use Rattle.echo_filed.specs.declared.key.Key.TheVariants.{ById};
@@ -78,7 +78,7 @@ struct HarmedMessage<'a> {
     id: &'a [u8],
 }
 
-// The packets of the net to the system that hold the message, where so many were there after each event.
+// The packets of the net to the system that hold the message. The list has the number of packets after each event.
 fn crossings_to(
     alloc: Global,
     world: &World,
@@ -153,7 +153,7 @@ fn sender_in(
     Ok(Some(origin(&header)))
 }
 
-// The header and the messages of the packet that these bytes are.
+// The header and the messages of these bytes of a packet.
 fn parts_of(alloc: Global, bytes: &[u8]) -> Result<(Header, Vec<Packed>), AllocError>
     ensures { IfOk result (λ parts. (p : Packet) → Fits p → bytes.now ≡ encoded p → (parts.0 ≡ p.header) × (parts.1.items ≡ p.messages)) }
 {
@@ -163,7 +163,7 @@ fn parts_of(alloc: Global, bytes: &[u8]) -> Result<(Header, Vec<Packed>), AllocE
     }
 }
 
-// The address that a header is from.
+// The sender's address of a header.
 fn origin(header: &Header) -> Address
     ensures { (p : Packet) → header.now ≡ p.header → result ≡ origin p }
 {
@@ -174,7 +174,8 @@ fn origin(header: &Header) -> Address
     }
 }
 
-// The number of the event that made the packet of this index: it comes after those after which it was not there.
+// The number of the event that made the packet of this index. It follows all events after which the packet did not
+// exist.
 fn step_of(counts: &[usize], k: usize) -> usize
     ensures { result ≡ step_of counts.now k }
 {

@@ -21,7 +21,7 @@ use model_run::runs_are_known;
 use std::alloc::{AllocError, Global};
 use std::hash::RandomState;
 
-/// The run of the plan, just where its guess is right of what these events do to the net of these link files.
+/// The run of the plan, exactly if its guess is right for what these events do to the net of these link files.
 pub(crate) fn confirmed(
     alloc: Global,
     files: Vec<LinkFile>,
@@ -58,7 +58,7 @@ pub(crate) fn confirmed(
     }
 }
 
-/// The id of what the system of this index posts.
+/// The id of the message that the system of this index posts.
 pub(crate) fn id_of_posting(
     alloc: Global,
     files: &[LinkFile],

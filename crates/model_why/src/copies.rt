@@ -41,7 +41,7 @@ pub(crate) fn sent_times(
     Ok(times)
 }
 
-// How many copies of it the packet of this index holds, none where the packet is for another address.
+// How many copies of it the packet of this index holds: 0 if the packet is for another address.
 fn copies_to(
     alloc: Global,
     world: &World,
@@ -80,7 +80,7 @@ fn copies_in(alloc: Global, bytes: &[u8], tag: &[u8], id: &[u8]) -> Result<usize
     count_copies(alloc, &messages, tag, id)
 }
 
-// The messages of the packet that these bytes are.
+// The messages of these bytes of a packet.
 fn messages_in(alloc: Global, bytes: &[u8]) -> Result<Vec<Packed>, AllocError>
     ensures { IfOk result (λ all. (p : Packet) → Fits p → bytes.now ≡ encoded p → all.items ≡ p.messages) }
 {
@@ -129,7 +129,7 @@ fn is_of(of: &[u8], msgid: Option<&[u8]>, tag: &[u8], id: &[u8]) -> bool
     }
 }
 
-/// Whether the message was posted where it is filed, with this tag and id.
+/// Whether the message was posted at the system that filed it, with this tag and id.
 pub(crate) fn is_posting(message: &Filed, tag: &[u8], id: &[u8]) -> bool
     ensures { IsTrue result ↔ (IsPosting tag.now message.now × (key_of message.now ≡ ById tag.now id.now)) }
 {

@@ -1,4 +1,4 @@
-//! The events of a posting and of what follows it.
+//! The events of a posting and of the moves after it.
 
 ghost use Rattle.std.specs.Prelude.{◌≡◌, IfOk, codes, map, [], ◌∷◌};
 ghost use Rattle.model_run.specs.Event.{run_event};
@@ -14,7 +14,7 @@ use std::alloc::{AllocError, Global};
 /// The serial of the posting.
 pub(crate) const SERIAL: u32 = 1;
 
-/// The moment of the posting and of each scan.
+/// The timestamp of the posting and of each scan.
 const MOMENT: Stamp = Stamp {
     year: 2000,
     month: 1,

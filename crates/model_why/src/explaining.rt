@@ -1,4 +1,4 @@
-//! Why an area is not in order: a run that goes wrong, wherever the fault is one that always does harm.
+//! Why an area is not in order: a run that does harm, for every fault that always does harm.
 
 ghost use Rattle.std.specs.Prelude.{IfOk, IfSome, IsTrue, List, option_copied};
 ghost use Rattle.echo_links.specs.Links.{LinkFile as File};
@@ -19,8 +19,8 @@ use model_plan::Guess;
 use std::alloc::{AllocError, Global};
 use std::hash::RandomState;
 
-/// A run on the net of these link files that goes wrong in the area of the tag, if the verdict on it is no and a run is
-/// found. Look-ups go by the hasher. Fails if some bytes are no link file, and when out of memory.
+/// A run that does harm in the area of the tag, on the net of these link files, if the verdict on it is no and a run
+/// is found. Look-ups go by the hasher. Fails if some bytes are no link file, and when out of memory.
 ///
 /// It is the run of `find_harm`. If that breaks no promise, and the fault always does harm, each system posts in turn
 /// until one posting does.
@@ -49,7 +49,7 @@ pub fn explain(
     Ok(found)
 }
 
-// Whether the run that was found is as bad as the fault lets one expect.
+// Whether the found run breaks the promise, if the fault always does.
 fn is_enough(fault: &NetFault, found: Option<&Shown>) -> bool
     ensures exact { IsTrue result → AlwaysHarms fault.now → FindsHarm (option_copied found.entry) }
     ensures nowhere { IsTrue result → (files : List File) → LeadsNowhere files fault.now → FindsSome (option_copied found.entry) }
@@ -77,7 +77,7 @@ fn breaks_promise(found: Option<&Shown>) -> bool
     }
 }
 
-// Systems post in turn until it shows, where the fault is one that always does.
+// Systems post in turn until the harm shows, for a fault that always does harm.
 fn by_fault(
     alloc: Global,
     sources: &[Items<u8>],

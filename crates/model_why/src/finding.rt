@@ -1,4 +1,4 @@
-//! What goes wrong in an area that is not in order.
+//! Finds the harm in an area that is not in order.
 
 ghost use Rattle.std.specs.Prelude.{IfOk, IfSome};
 ghost use Rattle.model_why.specs.Found.{IsShown};
@@ -11,8 +11,8 @@ use model_plan::plan_for;
 use std::alloc::{AllocError, Global};
 use std::hash::RandomState;
 
-/// A run on the net of these link files that goes wrong in the area of the tag, if the verdict on it is no and a run is
-/// found. It was tried on real packets. Look-ups go by the hasher. Fails only when out of memory.
+/// A run that does harm in the area of the tag, on the net of these link files, if the verdict on it is no and a run
+/// is found. It was tried on real packets. Look-ups go by the hasher. Fails only when out of memory.
 pub fn find_harm(
     alloc: Global,
     files: Vec<LinkFile>,

@@ -84,7 +84,7 @@ fn lists_it(files: &[LinkFile], tag: &[u8], poster: usize, guess: Guess) -> bool
     }
 }
 
-// Whom a packet of the first scan of this system goes to, where the guess is right.
+// The destination of a packet of the first scan of this system, if the guess is right.
 fn guessed_link(own: Address, guess: Guess) -> Address
     ensures { result ≡ guessed_link own guess }
 {
@@ -94,7 +94,7 @@ fn guessed_link(own: Address, guess: Guess) -> Address
     }
 }
 
-// What the guess says, where it is right once this system posted and scanned.
+// The harm of the guess, if it is right after this system posted and scanned.
 fn first_scan(
     alloc: Global,
     sources: &[Items<u8>],

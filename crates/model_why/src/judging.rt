@@ -1,4 +1,4 @@
-//! Whether a guess of what goes wrong holds of a net.
+//! Whether a guess of the harm is right for a net.
 
 ghost use Rattle.std.specs.Prelude.{◌≡◌, ◌≢◌, ◌≤◌, IfOk, IfSome, IsTrue, None, Some, false, true, ℕ};
 ghost use Rattle.model_graph.specs.Walk.{Among};
@@ -20,7 +20,7 @@ use model_replay::World;
 use model_run::settled_runs_settle_each_area;
 use std::alloc::{AllocError, Global};
 
-/// The harm that the guess names, just if the guess is right of the net. The message has this tag and id, and the
+/// The harm that the guess names, exactly if the guess is right for the net. The message has this tag and id, and the
 /// system of index `poster` posted it. Fails only when out of memory.
 pub(crate) fn judge(
     alloc: Global,
@@ -43,7 +43,7 @@ pub(crate) fn judge(
     }
 }
 
-/// The break of the promise in the net, or none if the message does no harm though all has settled. The message has
+/// The break of the promise in the net, or none if the message does no harm although all has settled. The message has
 /// this tag and id, and the system of index `poster` posted it. Fails only when out of memory.
 pub(crate) fn judge_all(
     alloc: Global,
@@ -67,7 +67,7 @@ pub(crate) fn judge_all(
     }
 }
 
-// What breaks the promise at the first carrier where something does.
+// The break of the promise at the first carrier that shows one.
 fn at_carriers(
     alloc: Global,
     world: &World,
@@ -89,7 +89,7 @@ fn at_carriers(
     Ok(None)
 }
 
-// What breaks the promise at the carrier of index `system`.
+// The break of the promise at the carrier of index `system`.
 fn harm_at(
     alloc: Global,
     world: &World,

@@ -1,4 +1,4 @@
-//! Why an area is not in order: a run on its link files that goes wrong.
+//! Why an area is not in order: a run on its link files that does harm.
 //!
 //! The contract for the layer above is that of `explain`. The run that it returns has the harm that it names, and it
 //! returns one if the fault always does harm. A plan of `model_plan` is tried on real packets (`find_harm`). If that

@@ -17,8 +17,8 @@ use model_run::runs_are_known;
 use std::alloc::{AllocError, Global};
 use std::hash::RandomState;
 
-/// The moves of so many rounds that all has come to rest: in each round all systems scan, and then all
-/// packets come. Each round but the last brings the message to one more system at least.
+/// The moves of so many rounds that all has come to rest. In each round all systems scan, and then all packets are
+/// delivered. Each round except the last brings the message to at least one more system.
 pub(crate) fn moves_to_rest(
     alloc: Global,
     sources: &[Items<u8>],
@@ -84,7 +84,7 @@ fn add_scans(moves: &mut Vec<Move>, systems: usize) -> Result<(), AllocError>
     Ok(())
 }
 
-// So many packets come, from the first on.
+// So many packets are delivered, from the first on.
 fn add_deliveries(moves: &mut Vec<Move>, packets: usize) -> Result<(), AllocError>
     ensures { OnOk result (map run_move moves.new.items ≡ map run_move moves.old.items ++ deliveries packets) }
 {

@@ -10,7 +10,7 @@ use echo_addr::Items;
 use echo_links::{LinkFile, link_file_law};
 use std::alloc::{AllocError, Global};
 
-/// The link files that these bytes are. Fails where one is none, and when out of memory.
+/// The link files of these bytes. Fails if some bytes are no link file, and when out of memory.
 pub(crate) fn read_files(alloc: Global, sources: &[Items<u8>]) -> Result<Vec<LinkFile>, AllocError>
     ensures read { IfOk result (λ files. files.items ≡ files_of sources.now) }
     ensures fit { IfOk result (λ files. FilesFit files.items) }
@@ -23,7 +23,7 @@ pub(crate) fn read_files(alloc: Global, sources: &[Items<u8>]) -> Result<Vec<Lin
     Ok(files)
 }
 
-// The link file that these bytes are.
+// The link file of these bytes.
 fn read_file(alloc: Global, bytes: &[u8]) -> Result<LinkFile, AllocError>
     ensures read { IfOk result (λ file. file ≡ file_of bytes.now) }
     ensures fit { IfOk result IsFile }

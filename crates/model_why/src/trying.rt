@@ -1,4 +1,4 @@
-//! Each system posts in turn, and what goes wrong then is looked for in all that came of it.
+//! Each system posts in turn, and the harm is searched in all results.
 
 ghost use Rattle.std.specs.Prelude.{◌≡◌, IfOk, IfSome, None};
 ghost use Rattle.model_run.specs.Grave.{AllAreCarriers, GraveFault, HaveOwnAddresses};
@@ -19,8 +19,8 @@ use model_run::{runs_are_known, settled_runs_settle_each_area};
 use std::alloc::{AllocError, Global};
 use std::hash::RandomState;
 
-/// The first posting that does harm once all has come to rest, of one message of each system. Where a fault
-/// of the net is grave, there is one.
+/// The first posting that does harm after all has come to rest, of one message of each system. There is one if the
+/// net has a grave fault.
 pub(crate) fn by_trials(
     alloc: Global,
     sources: &[Items<u8>],
@@ -42,7 +42,7 @@ pub(crate) fn by_trials(
     Ok(None)
 }
 
-// What goes wrong where this system posts, once all has come to rest.
+// The harm after this system has posted, and all has come to rest.
 fn tried(
     alloc: Global,
     sources: &[Items<u8>],

@@ -8,6 +8,7 @@ use Rattle.echo_filed.specs.Stored.{Stored, has_tag, is_short, message_in, store
 use Rattle.echo_filed.specs.declared.key.Key.{Key}
 use Rattle.echo_filed.specs.declared.stored.Version.{Version}
 use Rattle.echo_filed.specs.declared.stored.Version.TheVariants.{Second}
+use Rattle.base_file.specs.Alone.{MayStandAlone, cursor_alone}
 use Rattle.base_file.specs.Base.{Base, IsBase, is_known}
 use Rattle.base_file.specs.BaseFile.{AreSound, BaseOf, Begins, LoadOf, Loaded, has_wrong_form, has_wrong_last, has_wrong_sender, has_wrong_string, head_bytes, is_damaged, is_other_kind, magic, stored_from}
 use Rattle.base_file.specs.Pieces.{BeginsWith, IsJudged}
@@ -18,7 +19,7 @@ use Rattle.base_file.proofs.Loading.{base_is, say_more, whole_loads}
 use Rattle.base_file.proofs.Pieces.{head_begins, next_begins}
 use Rattle.base_file.proofs.SavedAgain.{saved_again}
 use Rattle.base_file.proofs.SavedMessages.{saved_parts}
-use Rattle.base_store.specs.Keys.{MayStandAlone, cursor_alone, digested, digested_key, entry, keys_from}
+use Rattle.base_store.specs.Keys.{digested, digested_key, entry, keys_from}
 use Rattle.base_store.specs.Sip.{sip_digest}
 use Rattle.base_store.specs.declared.sip.SipDigest.{SipDigest}
 use Rattle.base_store.proofs.Digests.{of_key}

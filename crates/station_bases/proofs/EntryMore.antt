@@ -7,6 +7,7 @@ use Rattle.std.proofs.lemmas.List.{append-nil, drop_at, length-take-le, take_all
 use Rattle.echo_filed.specs.Filed.{Filed, IsFiled, key_of}
 use Rattle.echo_filed.specs.Stored.{is_short, is_short_enough, stored_as, stored_bytes}
 use Rattle.echo_filed.specs.declared.stored.Version.TheVariants.{Second}
+use Rattle.base_file.specs.Alone.{IsStoredAlone}
 use Rattle.base_file.specs.Base.{Base, IsBase, is_known}
 use Rattle.base_file.specs.BaseFile.{LoadOf, head_bytes, is_countable, saved_bytes, stored_at, stored_from}
 use Rattle.base_file.proofs.Saved.{saved_loads}
@@ -16,7 +17,7 @@ use Rattle.base_store.specs.Store.{all_scanned, with_message}
 use Rattle.base_store.specs.Sip.{sip_digest}
 use Rattle.base_store.specs.declared.sip.SipDigest.{SipDigest}
 use Rattle.base_store.proofs.Placed.{stand_where_told}
-use Rattle.base_folder_store.specs.Added.{IsStoredAlone, with_stored}
+use Rattle.base_folder_store.specs.Added.{with_stored}
 use Rattle.base_folder_store.specs.Held.{HoldsBase, digest_by}
 use Rattle.base_log.specs.Standing.{BaseBytes}
 use Rattle.station_bases.specs.Entries.{HoldEntries, KeepForms, entry_digest, file_bytes, message_bytes}

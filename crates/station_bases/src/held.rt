@@ -1,9 +1,9 @@
-//! What is held of a base file: entries of its messages, or a base in memory.
+//! A base file in memory: the entries of its messages, or the whole base.
 use crate::entries::Entries;
 use base_file::Base;
 use std::hash::BuildHasher;
 
-/// What is held of a base file.
+/// A base file in memory.
 #[derive(Drop)]
 pub enum Held<S: BuildHasher> {
     /// The messages stay in the file.

@@ -1,22 +1,18 @@
 use Rattle.std.proofs.Common.{◌∙◌, ap}
+use Rattle.std.proofs.lemmas.Bool.{or_parts}
 use Rattle.echo_filed.specs.Stored.{has_tag, message_in}
-use Rattle.base_file.specs.Loading.{has_wrong_field}
+use Rattle.base_file.specs.BaseFile.{has_wrong_form}
+use Rattle.base_file.specs.Loading.{has_wrong_field, is_wrong}
 use Rattle.base_file.proofs.ShortForms.{found_short}
 use Rattle.base_file.proofs.Verdicts.{found_right}
 use Rattle.base_file.proofs.judging.judged.Goals as goal
-
-pub has_wrong_form-requires : goal.has_wrong_form-requires
-has_wrong_form-requires c tagged =
-    let version = c.args.version in
-    let s = c.args.stored in
-    let found = found_right (has_wrong_field version s) (message_in version s, s.last) (c.in-Some.message, c.in-Some.last) _ c.in-Some.is c.in_ok-message.ensures in
-    let same = c.has_tag-with_tag.ensures ∙ ap (λ x. has_tag version x.kind) c.stored.view_is in
-    (found_short version s c.has_tag-with_tag.result (c.in-Some.message, c.in-Some.last) same tagged found).0
 
 pub key_of-requires : goal.key_of-requires
 key_of-requires c tagged =
     let version = c.args.version in
     let s = c.args.stored in
-    let found = found_right (has_wrong_field version s) (message_in version s, s.last) (c.in-Some.message, c.in-Some.last) _ c.in-Some.is c.in_ok-message.ensures in
+    let wrong = is_wrong version c.args.cursor c.args.place s in
+    let found = found_right wrong (message_in version s, s.last) (c.in-Some.message, c.in-Some.last) _ c.in-Some.is c.in_ok-message.ensures in
+    let right = (or_parts (has_wrong_field version s) (has_wrong_form version c.args.cursor c.args.place s) found.0).0 in
     let same = c.has_tag-with_tag.ensures ∙ ap (λ x. has_tag version x.kind) c.stored.view_is in
-    (found_short version s c.has_tag-with_tag.result (c.in-Some.message, c.in-Some.last) same tagged found).1
+    (found_short version s c.has_tag-with_tag.result (c.in-Some.message, c.in-Some.last) same tagged (right, found.1)).1

@@ -1,7 +1,8 @@
 use Rattle.std.proofs.Common.{List, ℕ, length, refl, sym, ap, subst, ◌∙◌}
 use Rattle.base_store.specs.Keys.{digested_key}
 use Rattle.echo_filed.specs.Filed.{key_of}
-use Rattle.base_folder_store.specs.Added.{IsStoredAlone, LacksRoom}
+use Rattle.base_file.specs.Alone.{IsStoredAlone}
+use Rattle.base_folder_store.specs.Added.{LacksRoom}
 use Rattle.base_folder_store.specs.Opened.{held_by}
 use Rattle.base_folder_store.proofs.Causes.{done_both, handed_on}
 use Rattle.base_folder_store.proofs.Seen.{filed_more}

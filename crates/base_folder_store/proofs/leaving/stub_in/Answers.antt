@@ -1,52 +1,40 @@
-use Rattle.std.proofs.Common.{◌≡◌, ◌≤◌, ◌-◌, true, [], ◌∷◌, List, ℕ, length, take, drop, sym, ap, subst, ◌∙◌, arith}
+use Rattle.std.proofs.Common.{◌≡◌, ◌≤◌, not, true, List, ℕ, length, refl, sym, ap, subst, ◌∙◌}
 use Rattle.std.proofs.lemmas.Bool.{true≢false}
-use Rattle.std.proofs.lemmas.List.{length-drop, take_all}
-use Rattle.base_file.specs.Base.{Base}
-use Rattle.base_file.specs.BaseFile.{is_countable, saved_bytes}
-use Rattle.echo_filed.specs.Stored.{message_in, stored_bytes}
-use Rattle.echo_filed.specs.Stubs.{stub_of}
+use Rattle.base_file.specs.Alone.{IsStoredAlone}
+use Rattle.base_file.specs.BaseFile.{stored_at}
+use Rattle.echo_filed.specs.Filed.{Filed}
+use Rattle.echo_filed.specs.Stored.{is_short_enough, message_in, stored_bytes}
+use Rattle.echo_filed.specs.Stubs.{is_stub, stub_of}
 use Rattle.echo_filed.specs.declared.stored.Version.TheVariants.{Second}
-use Rattle.base_folder_store.specs.Added.{IsStoredAlone}
 use Rattle.base_folder_store.specs.Left.{IsLeftOf}
-use Rattle.base_folder_store.proofs.Causes.{answers_error, answers_whole}
+use Rattle.base_folder_store.proofs.Causes.{answers_error, answers_whole, handed_on}
 use Rattle.base_folder_store.proofs.Shorter.{leaves_less}
-use Rattle.base_folder_store.proofs.Single.{saved_left, saved_long}
 use Rattle.base_folder_store.proofs.leaving.stub_in.Goals as goal
 
-pub returns-in_err-alone-clause-left : goal.returns-in_err-alone-clause-left
-returns-in_err-alone-clause-left c = λ s size alone is.
-    answers_error {T = Base} (λ (a : Base). a.messages ≡ message_in Second s ∷ []) (IsLeftOf true s) _ c.from_residual.result c.from_residual.ensures.1 (c.in_err-alone.ensures.read s size alone is)
+pub returns-in_err-message-clause-left : goal.returns-in_err-message-clause-left
+returns-in_err-message-clause-left c = λ s size alone is.
+    answers_error {T = Filed} (λ (m : Filed). m ≡ message_in Second s) (IsLeftOf true s) _ c.from_residual.result c.from_residual.ensures.1
+    (c.in_err-message.ensures.read (message_in Second s) (record { s = s; size = size; alone = alone; is = refl; same = is }))
 
-pub returns-in_err-file-clause-left : goal.returns-in_err-file-clause-left
-returns-in_err-file-clause-left c = λ s size alone is.
-    let m = message_in Second s in
-    let one = c.in_ok-alone.ensures.read s size alone is in
-    let messages = c.in_ok-changed.ensures.left m one in
-    let cursor = c.in_ok-changed.ensures.cursor m one in
-    let few : is_countable c.leave.new.alone.messages c.leave.new.alone.cursor ≡ true = (λ i. is_countable (messages i) (cursor i)) ∙ (leaves_less s size alone).few in
-    answers_whole (IsLeftOf true s) _ c.from_residual-in_err-file.result c.from_residual-in_err-file.ensures.1 (λ damaged. true≢false (sym few ∙ c.in_err-file.ensures.damaged damaged))
+pub returns-in_err-bytes-clause-left : goal.returns-in_err-bytes-clause-left
+returns-in_err-bytes-clause-left c = λ s size alone is.
+    answers_whole (IsLeftOf true s) _ c.from_residual-in_err-bytes.result c.from_residual-in_err-bytes.ensures.1 c.in_err-bytes.ensures.whole
 
-pub slice_bounds-from_slice-count : goal.slice_bounds-from_slice-count
-slice_bounds-from_slice-count c = let long = saved_long c.leave.new.alone.messages c.leave.new.alone.cursor in let is = ap (λ (l : List ℕ). length l) c.in_ok-file.ensures.saved in omega (arith, long, is)
-
-pub slice_bounds-from_slice-start : goal.slice_bounds-from_slice-start
-slice_bounds-from_slice-start c = let long = saved_long c.leave.new.alone.messages c.leave.new.alone.cursor in let is = ap (λ (l : List ℕ). length l) c.in_ok-file.ensures.saved in omega (arith, long, is)
+pub returns-in_err-bytes-clause-few : goal.returns-in_err-bytes-clause-few
+returns-in_err-bytes-clause-few c is =
+    let stored = c.in_ok-message.ensures.stored in
+    let left : c.make_stub.new.message ≡ stub_of (message_in Second stored.s) = c.in_ok-changed.ensures.left ∙ ap stub_of (sym stored.is) in
+    let few : is_short_enough (stored_at 1 0 c.make_stub.new.message) ≡ true = ap (λ (x : Filed). is_short_enough (stored_at 1 0 x)) left ∙ (leaves_less stored.s stored.size stored.alone).few in
+    true≢false (sym few ∙ c.in_err-bytes.ensures.many (handed_on _ _ c.from_residual-in_err-bytes.result c.from_residual-in_err-bytes.ensures.1 is))
 
 pub returns-clause-left : goal.returns-clause-left
 returns-clause-left c = λ s size alone is.
     let m = message_in Second s in
-    let one = c.in_ok-alone.ensures.read s size alone is in
-    let messages = c.in_ok-changed.ensures.left m one in
-    let cursor = c.in_ok-changed.ensures.cursor m one in
-    let saved = c.in_ok-file.ensures.saved in
-    let whole = c.deref.result.now in
-    let piece : take (length whole - 16) (drop 16 whole) ≡ drop 16 whole = take_all (length whole - 16) (drop 16 whole) (omega (arith, length-drop 16 whole)) in
-    let bytes : c.in_ok-bytes.bytes.items ≡ drop 16 c.in_ok-file.file.items = c.in_ok-bytes.ensures.items ∙ piece ∙ ap (λ (l : List ℕ). drop 16 l) c.deref.ensures.value in
-    let same : c.in_ok-bytes.bytes.items ≡ drop 16 (saved_bytes (stub_of m ∷ []) 1) = bytes ∙ ap (λ (l : List ℕ). drop 16 l) saved ∙ (λ i. drop 16 (saved_bytes (messages i) (cursor i))) in
+    let read : c.in_ok-message.message ≡ m = c.in_ok-message.ensures.read m (record { s = s; size = size; alone = alone; is = refl; same = is }) in
+    let left : c.make_stub.new.message ≡ stub_of m = c.in_ok-changed.ensures.left ∙ ap stub_of read in
+    let bytes : c.in_ok-bytes.bytes.items ≡ stored_bytes Second (stored_at 1 0 (stub_of m)) = c.in_ok-bytes.ensures.bytes ∙ ap (λ (x : Filed). stored_bytes Second (stored_at 1 0 x)) left in
     record {
-      stored =
-          subst (λ (l : List ℕ). IsStoredAlone (stub_of m) l) (sym bytes)
-          (saved_left (stub_of m) c.leave.new.alone.messages c.leave.new.alone.cursor c.in_ok-file.file.items messages c.in_ok-file.ensures.base c.in_ok-file.ensures.countable saved);
-      shorter = subst (λ (l : List ℕ). length l ≤ length (stored_bytes Second s)) (sym same) (leaves_less s size alone).less;
-      changed = c.in_ok-changed.ensures.changed m one;
+      stored = subst (λ (x : Filed). IsStoredAlone x c.in_ok-bytes.bytes.items) left c.in_ok-bytes.ensures.stored;
+      shorter = subst (λ (l : List ℕ). length l ≤ length (stored_bytes Second s)) (sym bytes) (leaves_less s size alone).less;
+      changed = c.in_ok-changed.ensures.changed ∙ ap (λ (x : Filed). not (is_stub x)) read;
     }

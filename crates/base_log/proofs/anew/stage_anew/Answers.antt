@@ -4,8 +4,9 @@ use Rattle.disk_io.specs.Disk.{bytes_in, IsIn}
 use Rattle.disk_io.proofs.Moments.{then_nothing, left_now}
 use Rattle.base_log.specs.Names.{folder_of, log_of, messages_of, keys_of}
 use Rattle.base_log.specs.Standing.{BaseBytes, StandsFor, base_at}
+use Rattle.base_log.proofs.Calls.{Made, but_one_call}
 use Rattle.base_log.proofs.Gates.{outside_quiet, outside_twice}
-use Rattle.base_log.proofs.Made.{Made, keys_run, keys_seen, messages_run, messages_seen, outside_both}
+use Rattle.base_log.proofs.Made.{keys_run, keys_seen, messages_run, messages_seen, outside_both}
 use Rattle.base_log.proofs.Paths.{log_not_messages, log_not_keys, messages_not_keys, keys_not_messages, messages_of-injective, messages_in}
 use Rattle.base_log.proofs.Removed.{outside_but_one}
 use Rattle.base_log.proofs.Renewed.{FilesAlone, alone_stands, alone_run, same_base}
@@ -16,21 +17,11 @@ use Rattle.base_log.proofs.anew.stage_anew.Goals as goal
 
 messages_made : (g : given.Over) (c : After-create g) → Made (g.D.Disk.state c.args.disk.now) (g.D.Disk.state c.create.new.self) (messages_of (folder_of c.args.names.now) c.args.number)
 messages_made g c =
-    let made = c.create.ensures in
-    subst (λ (l : List ℕ). Made (g.D.Disk.state c.args.disk.now) (g.D.Disk.state c.create.new.self) l) (c.deref.ensures.value ∙ c.requires.names.messages) (record {
-      kept = record { seen = made.beside; named = made.named; flushed = made.flushed; alone = made.alone; honest = made.time.honest };
-      crash = made.crash;
-      time = made.time;
-    })
+    subst (λ (l : List ℕ). Made (g.D.Disk.state c.args.disk.now) (g.D.Disk.state c.create.new.self) l) (c.deref.ensures.value ∙ c.requires.names.messages) c.create.ensures.changes
 
 keys_made : (g : given.Over) (c : After-create-2 g) → Made (g.D.Disk.state c.create.new.self) (g.D.Disk.state c.create-2.new.self) (keys_of (folder_of c.args.names.now) c.args.number)
 keys_made g c =
-    let made = c.create-2.ensures in
-    subst (λ (l : List ℕ). Made (g.D.Disk.state c.create.new.self) (g.D.Disk.state c.create-2.new.self) l) (c.deref-2.ensures.value ∙ c.requires.names.keys) (record {
-      kept = record { seen = made.beside; named = made.named; flushed = made.flushed; alone = made.alone; honest = made.time.honest };
-      crash = made.crash;
-      time = made.time;
-    })
+    subst (λ (l : List ℕ). Made (g.D.Disk.state c.create.new.self) (g.D.Disk.state c.create-2.new.self) l) (c.deref-2.ensures.value ∙ c.requires.names.keys) c.create-2.ensures.changes
 
 pub returns-in_err-create-clause-run : goal.returns-in_err-create-clause-run
 returns-in_err-create-clause-run g c = record {
@@ -44,7 +35,8 @@ returns-in_err-create-clause-run g c = record {
   outside =
       let one = messages_made g (goal.at.returns-in_err-create-clause-run g c).After-create in
       let path = folder_of c.args.names.now in
-      outside_but_one path (g.D.Disk.state c.args.disk.now) (g.D.Disk.state c.create.new.self) (messages_of path c.args.number) (messages_in path c.args.number) one.kept;
+      outside_but_one path (g.D.Disk.state c.args.disk.now) (g.D.Disk.state c.create.new.self) (messages_of path c.args.number) (messages_in path c.args.number)
+      (but_one_call (g.D.Disk.state c.args.disk.now) (g.D.Disk.state c.create.new.self) (messages_of path c.args.number) one);
 }
 
 pub returns-in_err-create-clause-same : goal.returns-in_err-create-clause-same
@@ -54,10 +46,10 @@ returns-in_err-create-clause-same g c honest =
     let n = c.args.end.told.number in
     let number = c.args.number in
     same_base (g.D.Disk.state c.args.disk.now) (g.D.Disk.state c.create.new.self) path c.args.end
-    (one.kept.seen (messages_of path n) (λ is. c.requires.free.other (sym (messages_of-injective path n number is)))) (one.kept.seen (keys_of path n) (keys_not_messages path n number))
+    (one.beside (messages_of path n) (λ is. c.requires.free.other (sym (messages_of-injective path n number is)))) (one.beside (keys_of path n) (keys_not_messages path n number))
 
 pub returns-in_err-create-clause-beside : goal.returns-in_err-create-clause-beside
-returns-in_err-create-clause-beside g c m ne nk = (messages_made g (goal.at.returns-in_err-create-clause-beside g c).After-create).kept.seen m ne
+returns-in_err-create-clause-beside g c m ne nk = (messages_made g (goal.at.returns-in_err-create-clause-beside g c).After-create).beside m ne
 
 pub returns-in_err-create-2-clause-run : goal.returns-in_err-create-2-clause-run
 returns-in_err-create-2-clause-run g c = record {
@@ -89,7 +81,7 @@ returns-in_err-create-2-clause-same g c honest =
 
 pub returns-in_err-create-2-clause-beside : goal.returns-in_err-create-2-clause-beside
 returns-in_err-create-2-clause-beside g c m ne nk =
-    (keys_made g (goal.at.returns-in_err-create-2-clause-beside g c).After-create-2).kept.seen m nk ∙ (messages_made g (goal.at.returns-in_err-create-2-clause-beside g c).After-create).kept.seen m ne
+    (keys_made g (goal.at.returns-in_err-create-2-clause-beside g c).After-create-2).beside m nk ∙ (messages_made g (goal.at.returns-in_err-create-2-clause-beside g c).After-create).beside m ne
 
 pub returns-in_err-sync_folder_of-clause-run : goal.returns-in_err-sync_folder_of-clause-run
 returns-in_err-sync_folder_of-clause-run g c = record {
@@ -129,7 +121,7 @@ returns-in_err-sync_folder_of-clause-same g c honest =
 
 pub returns-in_err-sync_folder_of-clause-beside : goal.returns-in_err-sync_folder_of-clause-beside
 returns-in_err-sync_folder_of-clause-beside g c m ne nk =
-    c.sync_folder_of.ensures.quiet.seen m ∙ (keys_made g (goal.at.returns-in_err-sync_folder_of-clause-beside g c).After-create-2).kept.seen m nk ∙ (messages_made g (goal.at.returns-in_err-sync_folder_of-clause-beside g c).After-create).kept.seen m ne
+    c.sync_folder_of.ensures.quiet.seen m ∙ (keys_made g (goal.at.returns-in_err-sync_folder_of-clause-beside g c).After-create-2).beside m nk ∙ (messages_made g (goal.at.returns-in_err-sync_folder_of-clause-beside g c).After-create).beside m ne
 
 pub returns-clause-run : goal.returns-clause-run
 returns-clause-run g c = record {
@@ -169,7 +161,7 @@ returns-clause-same g c honest =
 
 pub returns-clause-beside : goal.returns-clause-beside
 returns-clause-beside g c m ne nk =
-    c.sync_folder_of.ensures.quiet.seen m ∙ (keys_made g (goal.at.returns-clause-beside g c).After-create-2).kept.seen m nk ∙ (messages_made g (goal.at.returns-clause-beside g c).After-create).kept.seen m ne
+    c.sync_folder_of.ensures.quiet.seen m ∙ (keys_made g (goal.at.returns-clause-beside g c).After-create-2).beside m nk ∙ (messages_made g (goal.at.returns-clause-beside g c).After-create).beside m ne
 
 pub returns-clause-staged : goal.returns-clause-staged
 returns-clause-staged g c honest =
@@ -191,11 +183,11 @@ returns-clause-staged g c honest =
     let same : base_at d3 path end.told ≡ base_at d0 path end.told = same_base d0 d3 path end m_same k_same in
     let log_1 = log_not_messages path number in
     let log_2 = log_not_keys path number in
-    let log_seen : d3.seen (log_of path) ≡ d0.seen (log_of path) = quiet.seen (log_of path) ∙ two.kept.seen (log_of path) log_2 ∙ one.kept.seen (log_of path) log_1 in
+    let log_seen : d3.seen (log_of path) ≡ d0.seen (log_of path) = quiet.seen (log_of path) ∙ two.beside (log_of path) log_2 ∙ one.beside (log_of path) log_1 in
     let messages : c.deref.result.now ≡ messages_of path number = c.deref.ensures.value ∙ c.requires.names.messages in
     let keys : c.deref-2.result.now ≡ keys_of path number = c.deref-2.ensures.value ∙ c.requires.names.keys in
     let m_made : d3.seen (messages_of path number) ≡ Some [] =
-    quiet.seen (messages_of path number) ∙ two.kept.seen (messages_of path number) (messages_not_keys path number number) ∙ subst (λ (l : List ℕ). d1.seen l ≡ Some []) messages c.in_ok-create.ensures.made in
+    quiet.seen (messages_of path number) ∙ two.beside (messages_of path number) (messages_not_keys path number number) ∙ subst (λ (l : List ℕ). d1.seen l ≡ Some []) messages c.in_ok-create.ensures.made in
     let k_made : d3.seen (keys_of path number) ≡ Some [] = quiet.seen (keys_of path number) ∙ subst (λ (l : List ℕ). d2.seen l ≡ Some []) keys c.in_ok-create-2.ensures.made in
     let on = rest.log.on_disk in
     record {
@@ -210,9 +202,9 @@ returns-clause-staged g c honest =
         told = rest.log.told;
         on_disk = record {
           there = subst (λ f. IsSome f) (sym log_seen) on.there;
-          named = quiet.named (log_of path) (λ h. h) (two.kept.named (log_of path) log_2 (one.kept.named (log_of path) log_1 on.named));
-          flushed = quiet.flushed (log_of path) (λ h. h) (two.kept.flushed (log_of path) log_2 (one.kept.flushed (log_of path) log_1 on.flushed));
-          alone = quiet.alone (log_of path) (λ h. h) (two.kept.alone (log_of path) log_2 (one.kept.alone (log_of path) log_1 on.alone));
+          named = quiet.named (log_of path) (λ h. h) (two.named (log_of path) log_2 (one.named (log_of path) log_1 on.named));
+          flushed = quiet.flushed (log_of path) (λ h. h) (two.flushed (log_of path) log_2 (one.flushed (log_of path) log_1 on.flushed));
+          alone = quiet.alone (log_of path) (λ h. h) (two.alone (log_of path) log_2 (one.alone (log_of path) log_1 on.alone));
         };
         named = subst (λ (p : List ℕ). (m : List ℕ) → IsIn p m → d3.is_named m) c.deref-3.ensures.value c.in_ok-sync_folder_of.ensures.durable;
       };
@@ -221,7 +213,7 @@ returns-clause-staged g c honest =
       digit = c.requires.free.digit;
       messages_there = subst (λ f. IsSome f) (sym m_made) refl;
       keys_there = subst (λ f. IsSome f) (sym k_made) refl;
-      messages_alone = quiet.alone (messages_of path number) (λ h. h) (two.kept.alone (messages_of path number) (messages_not_keys path number number) (subst (λ (l : List ℕ). d1.is_alone l) messages c.in_ok-create.ensures.own));
+      messages_alone = quiet.alone (messages_of path number) (λ h. h) (two.alone (messages_of path number) (messages_not_keys path number number) (subst (λ (l : List ℕ). d1.is_alone l) messages c.in_ok-create.ensures.own));
       keys_alone = quiet.alone (keys_of path number) (λ h. h) (subst (λ (l : List ℕ). d2.is_alone l) keys c.in_ok-create-2.ensures.own);
       messages_long = omega arith;
       keys_long = omega arith;

@@ -4,9 +4,10 @@ use Rattle.std.proofs.lemmas.Result.{on_ok_weaker}
 use Rattle.disk_io.specs.Disk.{IsIn}
 use Rattle.disk_io.proofs.Moments.{then_nothing}
 use Rattle.base_log.specs.Names.{folder_of, log_of, messages_of, keys_of}
+use Rattle.base_log.proofs.Calls.{Made, but_one_call}
 use Rattle.base_log.proofs.Empty.{LogAlone, log_alone_stands}
 use Rattle.base_log.proofs.Gates.{on_disk_quiet, outside_quiet, outside_twice}
-use Rattle.base_log.proofs.Made.{Made, log_both, log_first, outside_both}
+use Rattle.base_log.proofs.Made.{log_both, log_first, outside_both}
 use Rattle.base_log.proofs.Paths.{log_not_messages, log_not_keys, messages_in, messages_not_keys}
 use Rattle.base_log.proofs.Removed.{on_disk_but_one, outside_but_one}
 use Rattle.base_log.proofs.making.make_files.Given as given
@@ -15,21 +16,11 @@ use Rattle.base_log.proofs.making.make_files.Goals as goal
 
 messages_made : (g : given.Over) (c : After-create g) → Made (g.D.Disk.state c.args.disk.now) (g.D.Disk.state c.create.new.self) (messages_of (folder_of c.args.names.now) 0)
 messages_made g c =
-    let made = c.create.ensures in
-    subst (λ (l : List ℕ). Made (g.D.Disk.state c.args.disk.now) (g.D.Disk.state c.create.new.self) l) (c.deref.ensures.value ∙ c.requires.names.messages) (record {
-      kept = record { seen = made.beside; named = made.named; flushed = made.flushed; alone = made.alone; honest = made.time.honest };
-      crash = made.crash;
-      time = made.time;
-    })
+    subst (λ (l : List ℕ). Made (g.D.Disk.state c.args.disk.now) (g.D.Disk.state c.create.new.self) l) (c.deref.ensures.value ∙ c.requires.names.messages) c.create.ensures.changes
 
 keys_made : (g : given.Over) (c : After-create-2 g) → Made (g.D.Disk.state c.create.new.self) (g.D.Disk.state c.create-2.new.self) (keys_of (folder_of c.args.names.now) 0)
 keys_made g c =
-    let made = c.create-2.ensures in
-    subst (λ (l : List ℕ). Made (g.D.Disk.state c.create.new.self) (g.D.Disk.state c.create-2.new.self) l) (c.deref-2.ensures.value ∙ c.requires.names.keys) (record {
-      kept = record { seen = made.beside; named = made.named; flushed = made.flushed; alone = made.alone; honest = made.time.honest };
-      crash = made.crash;
-      time = made.time;
-    })
+    subst (λ (l : List ℕ). Made (g.D.Disk.state c.create.new.self) (g.D.Disk.state c.create-2.new.self) l) (c.deref-2.ensures.value ∙ c.requires.names.keys) c.create-2.ensures.changes
 
 pub returns-in_err-create-clause-any_moment : goal.returns-in_err-create-clause-any_moment
 returns-in_err-create-clause-any_moment g c honest base stands =
@@ -46,18 +37,19 @@ pub returns-in_err-create-clause-log : goal.returns-in_err-create-clause-log
 returns-in_err-create-clause-log g c honest =
     let one = messages_made g (goal.at.returns-in_err-create-clause-log g c).After-create in
     let path = folder_of c.args.names.now in
-    on_disk_but_one (g.D.Disk.state c.args.disk.now) (g.D.Disk.state c.create.new.self) (log_of path) (messages_of path 0) one.kept (log_not_messages path 0) (c.requires.bare (one.time.honest honest)).log
+    on_disk_but_one (g.D.Disk.state c.args.disk.now) (g.D.Disk.state c.create.new.self) (log_of path) (messages_of path 0) (but_one_call (g.D.Disk.state c.args.disk.now) (g.D.Disk.state c.create.new.self) (messages_of path 0) one) (log_not_messages path 0) (c.requires.bare (one.time.honest honest)).log
 
 pub returns-in_err-create-clause-same : goal.returns-in_err-create-clause-same
 returns-in_err-create-clause-same g c =
     let path = folder_of c.args.names.now in
-    (messages_made g (goal.at.returns-in_err-create-clause-same g c).After-create).kept.seen (log_of path) (log_not_messages path 0)
+    (messages_made g (goal.at.returns-in_err-create-clause-same g c).After-create).beside (log_of path) (log_not_messages path 0)
 
 pub returns-in_err-create-clause-outside : goal.returns-in_err-create-clause-outside
 returns-in_err-create-clause-outside g c =
     let one = messages_made g (goal.at.returns-in_err-create-clause-outside g c).After-create in
     let path = folder_of c.args.names.now in
-    outside_but_one path (g.D.Disk.state c.args.disk.now) (g.D.Disk.state c.create.new.self) (messages_of path 0) (messages_in path 0) one.kept
+    outside_but_one path (g.D.Disk.state c.args.disk.now) (g.D.Disk.state c.create.new.self) (messages_of path 0) (messages_in path 0)
+    (but_one_call (g.D.Disk.state c.args.disk.now) (g.D.Disk.state c.create.new.self) (messages_of path 0) one)
 
 pub returns-in_err-create-2-clause-any_moment : goal.returns-in_err-create-2-clause-any_moment
 returns-in_err-create-2-clause-any_moment g c honest base stands =
@@ -81,13 +73,13 @@ returns-in_err-create-2-clause-log g c honest =
     let d0 = g.D.Disk.state c.args.disk.now in
     let d1 = g.D.Disk.state c.create.new.self in
     let d2 = g.D.Disk.state c.create-2.new.self in
-    on_disk_but_one d1 d2 log (keys_of path 0) two.kept (log_not_keys path 0) (on_disk_but_one d0 d1 log (messages_of path 0) one.kept (log_not_messages path 0) (c.requires.bare (one.time.honest (two.time.honest honest))).log)
+    on_disk_but_one d1 d2 log (keys_of path 0) (but_one_call d1 d2 (keys_of path 0) two) (log_not_keys path 0) (on_disk_but_one d0 d1 log (messages_of path 0) (but_one_call d0 d1 (messages_of path 0) one) (log_not_messages path 0) (c.requires.bare (one.time.honest (two.time.honest honest))).log)
 
 pub returns-in_err-create-2-clause-same : goal.returns-in_err-create-2-clause-same
 returns-in_err-create-2-clause-same g c =
     let path = folder_of c.args.names.now in
-    (keys_made g (goal.at.returns-in_err-create-2-clause-same g c).After-create-2).kept.seen (log_of path) (log_not_keys path 0)
-    ∙ (messages_made g (goal.at.returns-in_err-create-2-clause-same g c).After-create).kept.seen (log_of path) (log_not_messages path 0)
+    (keys_made g (goal.at.returns-in_err-create-2-clause-same g c).After-create-2).beside (log_of path) (log_not_keys path 0)
+    ∙ (messages_made g (goal.at.returns-in_err-create-2-clause-same g c).After-create).beside (log_of path) (log_not_messages path 0)
 
 pub returns-in_err-create-2-clause-outside : goal.returns-in_err-create-2-clause-outside
 returns-in_err-create-2-clause-outside g c =
@@ -122,14 +114,14 @@ returns-clause-log g c honest =
     let d1 = g.D.Disk.state c.create.new.self in
     let d2 = g.D.Disk.state c.create-2.new.self in
     on_disk_quiet d2 (g.D.Disk.state c.sync_folder_of.new.disk) log quiet
-    (on_disk_but_one d1 d2 log (keys_of path 0) two.kept (log_not_keys path 0) (on_disk_but_one d0 d1 log (messages_of path 0) one.kept (log_not_messages path 0) (c.requires.bare (one.time.honest (two.time.honest (quiet.honest honest)))).log))
+    (on_disk_but_one d1 d2 log (keys_of path 0) (but_one_call d1 d2 (keys_of path 0) two) (log_not_keys path 0) (on_disk_but_one d0 d1 log (messages_of path 0) (but_one_call d0 d1 (messages_of path 0) one) (log_not_messages path 0) (c.requires.bare (one.time.honest (two.time.honest (quiet.honest honest)))).log))
 
 pub returns-clause-same : goal.returns-clause-same
 returns-clause-same g c =
     let path = folder_of c.args.names.now in
     c.sync_folder_of.ensures.quiet.seen (log_of path)
-    ∙ (keys_made g (goal.at.returns-clause-same g c).After-create-2).kept.seen (log_of path) (log_not_keys path 0)
-    ∙ (messages_made g (goal.at.returns-clause-same g c).After-create).kept.seen (log_of path) (log_not_messages path 0)
+    ∙ (keys_made g (goal.at.returns-clause-same g c).After-create-2).beside (log_of path) (log_not_keys path 0)
+    ∙ (messages_made g (goal.at.returns-clause-same g c).After-create).beside (log_of path) (log_not_messages path 0)
 
 pub returns-clause-outside : goal.returns-clause-outside
 returns-clause-outside g c =
@@ -153,13 +145,13 @@ returns-clause-made g c =
     let k = keys_of path 0 in
     let messages : c.deref.result.now ≡ m = c.deref.ensures.value ∙ c.requires.names.messages in
     let keys : c.deref-2.result.now ≡ k = c.deref-2.ensures.value ∙ c.requires.names.keys in
-    let m_made : d3.seen m ≡ Some [] = quiet.seen m ∙ two.kept.seen m (messages_not_keys path 0 0) ∙ subst (λ (l : List ℕ). d1.seen l ≡ Some []) messages c.in_ok-create.ensures.made in
+    let m_made : d3.seen m ≡ Some [] = quiet.seen m ∙ two.beside m (messages_not_keys path 0 0) ∙ subst (λ (l : List ℕ). d1.seen l ≡ Some []) messages c.in_ok-create.ensures.made in
     let k_made : d3.seen k ≡ Some [] = quiet.seen k ∙ subst (λ (l : List ℕ). d2.seen l ≡ Some []) keys c.in_ok-create-2.ensures.made in
     on_ok_weaker {P = (n : List ℕ) → IsIn c.deref-3.result.now n → d3.is_named n} c.sync_folder_of.result
     (λ named. record {
       messages = subst (λ (f : Option (List ℕ)). IsSome f) (sym m_made) refl;
       keys = subst (λ (f : Option (List ℕ)). IsSome f) (sym k_made) refl;
-      messages_alone = quiet.alone m (λ h. h) (two.kept.alone m (messages_not_keys path 0 0) (subst (λ (l : List ℕ). d1.is_alone l) messages c.in_ok-create.ensures.own));
+      messages_alone = quiet.alone m (λ h. h) (two.alone m (messages_not_keys path 0 0) (subst (λ (l : List ℕ). d1.is_alone l) messages c.in_ok-create.ensures.own));
       keys_alone = quiet.alone k (λ h. h) (subst (λ (l : List ℕ). d2.is_alone l) keys c.in_ok-create-2.ensures.own);
       named = subst (λ (p : List ℕ). (n : List ℕ) → IsIn p n → d3.is_named n) c.deref-3.ensures.value named;
     }) c.sync_folder_of.ensures.durable

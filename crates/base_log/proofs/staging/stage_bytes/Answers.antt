@@ -1,15 +1,14 @@
 use Rattle.std.proofs.Common.{◌≡◌, ◌≤◌, List, ℕ, ap, length, sym, subst, ◌∙◌}
 use Rattle.std.specs.Prelude.{IsSome}
 use Rattle.disk_io.specs.Disk.{bytes_in}
-use Rattle.disk_io.specs.Runs.{LeavesOneStepOn}
-use Rattle.disk_io.specs.Steps.{ChangesFile, IsWrittenAt, TornWrite}
-use Rattle.disk_io.specs.Synced.{KeepsOthers}
+use Rattle.disk_io.specs.Steps.{IsWrittenAt, TornWrite}
 use Rattle.base_log.specs.AtRest.{IsStaged}
 use Rattle.base_log.specs.Growing.{counted, file_of}
 use Rattle.base_log.specs.Moments.{LeavesOutside, StagesOnly}
 use Rattle.base_log.specs.Names.{folder_of}
 use Rattle.base_log.specs.Standing.{base_at}
 use Rattle.base_log.specs.declared.log.CommitRecord.{CommitRecord}
+use Rattle.base_log.proofs.Calls.{Wrote, others_kept}
 use Rattle.base_log.proofs.Gates.{outside_kept}
 use Rattle.base_log.proofs.Growing.{file_alone, file_inside, file_long, file_named, file_there, grown_next, grown_run, grown_staged}
 use Rattle.base_log.proofs.LeftOutside.{left_call}
@@ -41,29 +40,19 @@ write_at-requires-clause-alone g c honest =
     (file_alone d (folder_of c.args.names.now) c.args.end c.args.told c.args.file (c.requires.staged.staged honest))
 
 -- the call, at the file's path and behind the bytes that the record counts
-record Wrote (g : given.Over) (c : After-write_at g) : Type 0 where
+record Writing (g : given.Over) (c : After-write_at g) : Type 0 where
   path : c.path_of.result.now ≡ file_of (folder_of c.args.names.now) c.args.told.number c.args.file
-  kept : KeepsOthers (g.D.Disk.state c.args.disk.now) (g.D.Disk.state c.write_at.new.self) (file_of (folder_of c.args.names.now) c.args.told.number c.args.file)
-  crash : LeavesOneStepOn (ChangesFile (g.D.Disk.state c.args.disk.now) (file_of (folder_of c.args.names.now) c.args.told.number c.args.file) (TornWrite (counted c.args.told c.args.file) (length c.args.bytes.now)))
-      (g.D.Disk.state c.args.disk.now) (g.D.Disk.state c.write_at.new.self)
+  call : Wrote (g.D.Disk.state c.args.disk.now) (g.D.Disk.state c.write_at.new.self) (file_of (folder_of c.args.names.now) c.args.told.number c.args.file) (counted c.args.told c.args.file) (length c.args.bytes.now)
 
-wrote : (g : given.Over) (c : After-write_at g) → Wrote g c
+wrote : (g : given.Over) (c : After-write_at g) → Writing g c
 wrote g c =
     let d0 = g.D.Disk.state c.args.disk.now in
     let d = g.D.Disk.state c.write_at.new.self in
     let path : c.path_of.result.now ≡ file_of (folder_of c.args.names.now) c.args.told.number c.args.file = c.path_of.ensures ∙ file_named c.args.names.now c.args.told.number c.args.file c.requires.staged.names in
-    let kept : KeepsOthers d0 d c.path_of.result.now = record {
-      seen = c.write_at.ensures.beside;
-      flushed = c.write_at.ensures.flushed;
-      named = λ m. c.write_at.ensures.named m (λ h. h);
-      alone = λ m. c.write_at.ensures.alone m (λ h. h);
-      honest = c.write_at.ensures.time.honest;
-    } in
     record {
       path = path;
-      kept = subst (λ (l : List ℕ). KeepsOthers d0 d l) path kept;
-      crash = subst (λ (n : ℕ). LeavesOneStepOn (ChangesFile d0 (file_of (folder_of c.args.names.now) c.args.told.number c.args.file) (TornWrite n (length c.args.bytes.now))) d0 d) c.counted.ensures
-          (subst (λ (l : List ℕ). LeavesOneStepOn (ChangesFile d0 l (TornWrite c.counted.result (length c.args.bytes.now))) d0 d) path c.write_at.ensures.crash);
+      call = subst (λ (n : ℕ). Wrote d0 d (file_of (folder_of c.args.names.now) c.args.told.number c.args.file) n (length c.args.bytes.now)) c.counted.ensures
+          (subst (λ (l : List ℕ). Wrote d0 d l c.counted.result (length c.args.bytes.now)) path c.write_at.ensures.changes);
     }
 
 run : (g : given.Over) (c : After-write_at g) → StagesOnly (folder_of c.args.names.now) (base_at (g.D.Disk.state c.args.disk.now) (folder_of c.args.names.now) c.args.end.told) (g.D.Disk.state c.args.disk.now) (g.D.Disk.state c.write_at.new.self)
@@ -74,21 +63,21 @@ run g c =
     let d = g.D.Disk.state c.write_at.new.self in
     let one = wrote g c in
     record {
-      any_moment = λ honest. grown_run d0 d path c.args.end told c.args.file (c.requires.staged.staged (c.write_at.ensures.time.honest honest)) (length c.args.bytes.now) c.write_at.ensures.time one.crash;
-      outside = outside_kept path (file_of path told.number c.args.file) d0 d (file_inside path told.number c.args.file) one.kept;
+      any_moment = λ honest. grown_run d0 d path c.args.end told c.args.file (c.requires.staged.staged (c.write_at.ensures.changes.time.honest honest)) (length c.args.bytes.now) one.call;
+      outside = outside_kept path (file_of path told.number c.args.file) d0 d (file_inside path told.number c.args.file) (others_kept d0 d (file_of path told.number c.args.file) (counted told c.args.file) (length c.args.bytes.now) one.call);
     }
 
 leaves : (g : given.Over) (c : After-write_at g) → LeavesOutside (folder_of c.args.names.now) (g.D.Disk.state c.args.disk.now) (g.D.Disk.state c.write_at.new.self)
 leaves g c =
     let path = folder_of c.args.names.now in
     left_call path (file_of path c.args.told.number c.args.file) (g.D.Disk.state c.args.disk.now) (g.D.Disk.state c.write_at.new.self) (TornWrite (counted c.args.told c.args.file) (length c.args.bytes.now))
-    (file_inside path c.args.told.number c.args.file) c.write_at.ensures.time (wrote g c).crash
+    (file_inside path c.args.told.number c.args.file) (wrote g c).call
 
 pub returns-in_err-write_at-clause-run : goal.returns-in_err-write_at-clause-run
 returns-in_err-write_at-clause-run g c = run g (goal.at.returns-in_err-write_at-clause-run g c).After-write_at
 
 pub returns-in_err-write_at-clause-beside : goal.returns-in_err-write_at-clause-beside
-returns-in_err-write_at-clause-beside g c = (wrote g (goal.at.returns-in_err-write_at-clause-beside g c).After-write_at).kept.seen
+returns-in_err-write_at-clause-beside g c = (wrote g (goal.at.returns-in_err-write_at-clause-beside g c).After-write_at).call.beside
 
 pub returns-in_err-write_at-clause-leaves : goal.returns-in_err-write_at-clause-leaves
 returns-in_err-write_at-clause-leaves g c = leaves g (goal.at.returns-in_err-write_at-clause-leaves g c).After-write_at
@@ -97,7 +86,7 @@ pub returns-clause-run : goal.returns-clause-run
 returns-clause-run g c = run g (goal.at.returns-clause-run g c).After-write_at
 
 pub returns-clause-beside : goal.returns-clause-beside
-returns-clause-beside g c = (wrote g (goal.at.returns-clause-beside g c).After-write_at).kept.seen
+returns-clause-beside g c = (wrote g (goal.at.returns-clause-beside g c).After-write_at).call.beside
 
 pub returns-clause-leaves : goal.returns-clause-leaves
 returns-clause-leaves g c = leaves g (goal.at.returns-clause-leaves g c).After-write_at
@@ -112,8 +101,8 @@ returns-clause-staged g c honest =
     let written = subst (λ (n : ℕ). IsWrittenAt (bytes_in (d0.seen (file_of path told.number c.args.file))) n c.args.bytes.now (bytes_in (d.seen (file_of path told.number c.args.file)))) c.counted.ensures
     (subst (λ (l : List ℕ). IsWrittenAt (bytes_in (d0.seen l)) c.counted.result c.args.bytes.now (bytes_in (d.seen l))) one.path c.in_ok-write_at.ensures.written) in
     subst (λ (m : CommitRecord). IsStaged d path c.args.end m) (sym c.with_more.ensures)
-    (grown_staged d0 d path c.args.end told c.args.file (c.requires.staged.staged (c.write_at.ensures.time.honest honest)) c.args.bytes.now one.kept written
-    (subst (λ (l : List ℕ). IsSome (d.seen l)) one.path c.write_at.ensures.there) one.crash)
+    (grown_staged d0 d path c.args.end told c.args.file (c.requires.staged.staged (c.write_at.ensures.changes.time.honest honest)) c.args.bytes.now one.call written
+    (subst (λ (l : List ℕ). IsSome (d.seen l)) one.path c.write_at.ensures.there))
 
 pub returns-clause-next : goal.returns-clause-next
 returns-clause-next g c honest =
@@ -124,5 +113,5 @@ returns-clause-next g c honest =
     let one = wrote g (goal.at.returns-clause-next g c).After-write_at in
     let written = subst (λ (n : ℕ). IsWrittenAt (bytes_in (d0.seen (file_of path told.number c.args.file))) n c.args.bytes.now (bytes_in (d.seen (file_of path told.number c.args.file)))) c.counted.ensures
     (subst (λ (l : List ℕ). IsWrittenAt (bytes_in (d0.seen l)) c.counted.result c.args.bytes.now (bytes_in (d.seen l))) one.path c.in_ok-write_at.ensures.written) in
-    let next = grown_next d0 d path c.args.end told c.args.file (c.requires.staged.staged (c.write_at.ensures.time.honest honest)) c.args.bytes.now one.kept written in
+    let next = grown_next d0 d path c.args.end told c.args.file (c.requires.staged.staged (c.write_at.ensures.changes.time.honest honest)) c.args.bytes.now one.call written in
     record { added = ap (λ (m : CommitRecord). base_at d path m) c.with_more.ensures ∙ next.added; same = next.same }

@@ -1,4 +1,3 @@
-use Rattle.std.proofs.Common.{ℕ}
 use Rattle.std.specs.Prelude.{Contains}
 use Rattle.base_store.specs.declared.expected.Place.{Place}
 use Rattle.base_store.proofs.Found.{AreOnly, HasAllSet}

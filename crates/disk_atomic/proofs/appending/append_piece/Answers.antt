@@ -1,6 +1,6 @@
 use Rattle.std.proofs.Common.{◌≡◌, List, ℕ, length, refl}
 use Rattle.disk_io.specs.Steps.{TornWrite}
-use Rattle.disk_atomic.proofs.Changes.{only_call, only_nothing, then_only}
+use Rattle.disk_atomic.proofs.Changes.{only_bytes, only_nothing, then_only}
 use Rattle.disk_atomic.proofs.appending.append_piece.Goals as goal
 
 pub returns-clause-changes : goal.returns-clause-changes
@@ -13,5 +13,4 @@ returns-clause-changes g c =
     let quiet = c.len.ensures.quiet in
     let now = c.write_at.ensures in
     then_only at d0 d1 d2 (only_nothing at d0 d1 quiet)
-    (only_call at d1 d2 path (TornWrite c.in_ok-end.end (length c.args.bytes.now)) refl (quiet.named path (λ h. h) c.requires.named)
-    now.beside now.crash (λ m other. now.named m (λ h. h)) now.flushed (λ m other. now.alone m (λ h. h)) now.time)
+    (only_bytes at d1 d2 path (TornWrite c.in_ok-end.end (length c.args.bytes.now)) refl (quiet.named path (λ h. h) c.requires.named) now.changes)

@@ -1,6 +1,6 @@
 use Rattle.std.proofs.Common.{◌≡◌, List, ℕ, refl}
 use Rattle.disk_io.specs.Steps.{TornRemoval}
-use Rattle.disk_atomic.proofs.Changes.{only_call, only_nothing, then_only}
+use Rattle.disk_atomic.proofs.Changes.{only_nothing, only_path, then_only}
 use Rattle.disk_atomic.proofs.dropping.drop_one.Goals as goal
 
 pub returns-clause-changes : goal.returns-clause-changes
@@ -12,4 +12,4 @@ returns-clause-changes g c =
     let d2 = g.D.Disk.state c.remove.new.self in
     let now = c.remove.ensures in
     then_only at d0 d1 d2 (only_nothing at d0 d1 c.exists.ensures.quiet)
-    (only_call at d1 d2 path TornRemoval refl (c.exists.ensures.quiet.named path (λ h. h) c.requires) now.beside now.crash now.named now.flushed now.alone now.time)
+    (only_path at d1 d2 path TornRemoval refl (c.exists.ensures.quiet.named path (λ h. h) c.requires) now.changes)

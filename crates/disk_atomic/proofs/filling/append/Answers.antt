@@ -2,7 +2,7 @@ use Rattle.std.proofs.Common.{◌≡◌, ◌+◌, List, ℕ, length, refl, arith
 use Rattle.disk_io.specs.Disk.{bytes_in}
 use Rattle.disk_io.specs.Steps.{TornWrite}
 use Rattle.disk_atomic.specs.Changes.{ChangesOnly}
-use Rattle.disk_atomic.proofs.Changes.{only_call}
+use Rattle.disk_atomic.proofs.Changes.{only_bytes}
 use Rattle.disk_atomic.proofs.Growing.{grown, written_behind}
 use Rattle.disk_atomic.proofs.filling.append.Given as given
 use Rattle.disk_atomic.proofs.filling.append.Goals.{After-write_at}
@@ -12,8 +12,7 @@ written : (g : given.Over) (c : After-write_at g) → ChangesOnly (λ m. m ≡ c
 written g c =
     let path = c.args.path.now in
     let now = c.write_at.ensures in
-    only_call (λ (m : List ℕ). m ≡ path) (g.D.Disk.state c.args.disk.now) (g.D.Disk.state c.write_at.new.self) path (TornWrite c.args.at (length c.args.bytes.now)) refl c.requires.named
-    now.beside now.crash (λ m other. now.named m (λ h. h)) now.flushed (λ m other. now.alone m (λ h. h)) now.time
+    only_bytes (λ (m : List ℕ). m ≡ path) (g.D.Disk.state c.args.disk.now) (g.D.Disk.state c.write_at.new.self) path (TornWrite c.args.at (length c.args.bytes.now)) refl c.requires.named now.changes
 
 pub returns-in_err-write_at-clause-changes : goal.returns-in_err-write_at-clause-changes
 returns-in_err-write_at-clause-changes g c = written g (goal.at.returns-in_err-write_at-clause-changes g c).After-write_at
@@ -38,4 +37,4 @@ returns-in-Some-clause-growing g c =
     let now = c.write_at.ensures in
     let end : c.in-Some.end ≡ c.args.at + length c.args.bytes.now = omega (arith, c.in-Some.ensures) in
     let more = written_behind (bytes_in (old.seen path)) (bytes_in (new.seen path)) c.args.bytes.now c.args.at c.requires.long c.in_ok-write_at.ensures.written in
-    grown old new path c.args.bytes.now c.args.at c.in-Some.end c.requires more end c.are_bytes.ensures now.there (now.named path (λ h. h) c.requires.named) (now.alone path (λ h. h) c.requires.alone)
+    grown old new path c.args.bytes.now c.args.at c.in-Some.end c.requires more end c.are_bytes.ensures now.there (now.changes.named path (λ h. h) c.requires.named) (now.changes.alone path (λ h. h) c.requires.alone)

@@ -7,7 +7,7 @@ use Rattle.disk_io.proofs.Moments.{weaker_run}
 use Rattle.disk_atomic.specs.Changes.{ChangesOnly}
 use Rattle.disk_atomic.specs.Finishing.{Finishes, IsFreeOf, IsOver}
 use Rattle.disk_atomic.specs.Naming.{HasMoved, IsTaken, Names}
-use Rattle.disk_atomic.proofs.Changes.{only_call, only_nothing, then_only}
+use Rattle.disk_atomic.proofs.Changes.{only_nothing, only_path, then_only}
 use Rattle.disk_atomic.proofs.Ended.{AtLeft, ends_same, named_finishes, quiet_then, removed_finishes}
 use Rattle.disk_atomic.proofs.Whole.{none_is_not_there}
 use Rattle.disk_atomic.proofs.finishing.finish_one.Given as given
@@ -30,12 +30,11 @@ removed : (g : given.Over) (c : After-remove g) → ChangesOnly (AtLeft c.args.l
 removed g c =
     let l = c.args.left.now in
     let now = c.remove.ensures in
-    only_call (AtLeft l) (g.D.Disk.state c.args.disk.now) (g.D.Disk.state c.remove.new.self) l.staging.now TornRemoval (inl refl) c.requires.named.staging now.beside now.crash
-    (λ m out. now.named m (λ e. out (inl e))) (λ m out. now.flushed m (λ e. out (inl e))) (λ m out. now.alone m (λ e. out (inl e))) now.time
+    only_path (AtLeft l) (g.D.Disk.state c.args.disk.now) (g.D.Disk.state c.remove.new.self) l.staging.now TornRemoval (inl refl) c.requires.named.staging now.changes
 
 removal : (g : given.Over) (c : After-remove g) → LeavesOnly (g.D.Disk.state c.args.disk.now) (g.D.Disk.state c.remove.new.self) (OneStepOn (Finishes c.args.cursor c.args.left.now) (g.D.Disk.state c.args.disk.now))
 removal g c =
-    removed_finishes c.args.cursor c.args.left.now c.if-left-cursor.true c.requires.placed.other (g.D.Disk.state c.args.disk.now) (g.D.Disk.state c.remove.new.self) c.requires.named.staging c.remove.ensures.time c.remove.ensures.crash
+    removed_finishes c.args.cursor c.args.left.now c.if-left-cursor.true c.requires.placed.other (g.D.Disk.state c.args.disk.now) (g.D.Disk.state c.remove.new.self) c.requires.named.staging c.remove.ensures.changes
 
 pub returns-in_err-remove-clause-changes : goal.returns-in_err-remove-clause-changes
 returns-in_err-remove-clause-changes g c = removed g (goal.at.returns-in_err-remove-clause-changes g c).After-remove
@@ -56,14 +55,14 @@ returns-then-left-cursor-clause-over g c honest is =
     record {
       committed = λ lt. absurd (omega (arith, c.if-left-cursor.true));
       gone = λ le. c.in_ok-remove.ensures.gone;
-      untouched = λ le. now.beside l.path.now (λ e. c.requires.placed.other (sym e));
+      untouched = λ le. now.changes.beside l.path.now (λ e. c.requires.placed.other (sym e));
     }
 
 pub returns-then-left-cursor-clause-kept : goal.returns-then-left-cursor-clause-kept
 returns-then-left-cursor-clause-kept g c honest some =
     let l = c.args.left.now in
     let now = c.remove.ensures in
-    now.beside l.path.now (λ e. c.requires.placed.other (sym e))
+    now.changes.beside l.path.now (λ e. c.requires.placed.other (sym e))
 
 pub returns-in_err-sync-clause-changes : goal.returns-in_err-sync-clause-changes
 returns-in_err-sync-clause-changes g c =

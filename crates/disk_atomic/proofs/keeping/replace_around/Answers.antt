@@ -1,4 +1,4 @@
-use Rattle.std.proofs.Common.{◌≡◌, ◌⊎◌, inl, inr, ◌∙◌, ℕ, List}
+use Rattle.std.proofs.Common.{◌≡◌, ◌⊎◌, inl, ◌∙◌, ℕ, List}
 use Rattle.std.proofs.lemmas.Result.{on_ok_weaker}
 use Rattle.disk_io.specs.Disk.{bytes_in}
 use Rattle.disk_io.specs.Runs.{LeavesOnly, OneStepOn}
@@ -8,7 +8,7 @@ use Rattle.disk_atomic.specs.Keeping.{kept_bytes}
 use Rattle.disk_atomic.specs.Replacing.{Replaces}
 use Rattle.disk_atomic.proofs.Changes.{only_nothing, then_only, weaker_steps, wider}
 use Rattle.disk_atomic.proofs.Parts.{on_disk_as}
-use Rattle.disk_atomic.proofs.Replaced.{not_yet, renamed_differ, replaced_run}
+use Rattle.disk_atomic.proofs.Replaced.{not_yet, renamed_only, replaced_run}
 use Rattle.disk_atomic.proofs.Whole.{some_is_there}
 use Rattle.disk_atomic.proofs.keeping.replace_around.Given as given
 use Rattle.disk_atomic.proofs.keeping.replace_around.Goals.{After-rename}
@@ -43,7 +43,7 @@ moments g c honest =
     let staged = c.in_ok-stage_kept.ensures in
     let bytes = kept_bytes (bytes_in ((g.D.Disk.state c.args.disk.now).seen path)) c.args.kept in
     replaced_run path staging bytes (g.D.Disk.state c.args.disk.now) d1 (g.D.Disk.state c.rename.new.self) c.requires.other c.stage_kept.ensures.changes
-    (on_disk_as d1 staging bytes staged.staged (staged.bytes (c.rename.ensures.time.honest honest))) (staged.named path c.requires.path_in) c.rename.ensures.time c.rename.ensures.crash
+    (on_disk_as d1 staging bytes staged.staged (staged.bytes (c.rename.ensures.changes.time.honest honest))) (staged.named path c.requires.path_in) c.rename.ensures.changes
 
 renamed : (g : given.Over) (c : After-rename g) → ChangesOnly (λ m. (m ≡ c.args.staging.now) ⊎ (m ≡ c.args.path.now)) (g.D.Disk.state c.args.disk.now) (g.D.Disk.state c.rename.new.self)
 renamed g c =
@@ -55,15 +55,8 @@ renamed g c =
     let d1 = g.D.Disk.state c.stage_kept.new.disk in
     let d2 = g.D.Disk.state c.rename.new.self in
     let staged = c.in_ok-stage_kept.ensures in
-    let now = c.rename.ensures in
-    then_only both d0 d1 d2 (wider few both d0 d1 (λ m is. inl is) c.stage_kept.ensures.changes) (record {
-      seen = λ m out. now.beside m (λ e. out (inl e)) (λ e. out (inr e));
-      named = now.named;
-      flushed = now.flushed;
-      alone = now.alone;
-      honest = now.time.honest;
-      any_moment = renamed_differ path staging (bytes_in (d1.seen staging)) d1 d2 staged.staged (staged.named path c.requires.path_in) now.time now.crash;
-    })
+    then_only both d0 d1 d2 (wider few both d0 d1 (λ m is. inl is) c.stage_kept.ensures.changes)
+    (renamed_only path staging (bytes_in (d1.seen staging)) d1 d2 staged.staged (staged.named path c.requires.path_in) c.rename.ensures.changes)
 
 pub returns-in_err-rename-clause-any_moment : goal.returns-in_err-rename-clause-any_moment
 returns-in_err-rename-clause-any_moment g c honest = moments g (goal.at.returns-in_err-rename-clause-any_moment g c).After-rename honest
@@ -93,7 +86,7 @@ returns-clause-replaced g c honest =
     let quiet = c.sync_folder_of.ensures.quiet in
     let staged = c.in_ok-stage_kept.ensures in
     let bytes = kept_bytes (bytes_in ((g.D.Disk.state c.args.disk.now).seen path)) c.args.kept in
-    let has = on_disk_as d1 c.args.staging.now bytes staged.staged (staged.bytes (c.rename.ensures.time.honest (quiet.honest honest))) in
+    let has = on_disk_as d1 c.args.staging.now bytes staged.staged (staged.bytes (c.rename.ensures.changes.time.honest (quiet.honest honest))) in
     on_ok_weaker c.sync_folder_of.result
     (λ named. record {
       seen = quiet.seen path ∙ c.in_ok-rename.ensures.moved ∙ has.seen;

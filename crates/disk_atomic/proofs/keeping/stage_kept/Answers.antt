@@ -5,7 +5,7 @@ use Rattle.disk_io.specs.Steps.{TornMaking}
 use Rattle.disk_atomic.specs.Changes.{ChangesOnly}
 use Rattle.disk_atomic.specs.Keeping.{kept_bytes}
 use Rattle.disk_atomic.proofs.Growing.{grows_from_none}
-use Rattle.disk_atomic.proofs.Changes.{only_call, only_nothing, then_only}
+use Rattle.disk_atomic.proofs.Changes.{only_nothing, only_path, then_only}
 use Rattle.disk_atomic.proofs.Parts.{part_still}
 use Rattle.disk_atomic.proofs.keeping.stage_kept.Given as given
 use Rattle.disk_atomic.proofs.keeping.stage_kept.Goals.{After-create, After-sync_folder_of-2}
@@ -21,10 +21,10 @@ fill_kept-requires-clause-growing g c =
 seen_still : (g : given.Over) (c : After-sync_folder_of-2 g) → (g.D.Disk.state c.sync_folder_of-2.new.disk).seen c.args.path.now ≡ (g.D.Disk.state c.args.disk.now).seen c.args.path.now
 seen_still g c =
     let path = c.args.path.now in
-    c.sync_folder_of-2.ensures.quiet.seen path ∙ c.create.ensures.beside path (λ e. c.requires.other (sym e)) ∙ c.sync_folder_of.ensures.quiet.seen path
+    c.sync_folder_of-2.ensures.quiet.seen path ∙ c.create.ensures.changes.beside path (λ e. c.requires.other (sym e)) ∙ c.sync_folder_of.ensures.quiet.seen path
 
 first_honest : (g : given.Over) (c : After-sync_folder_of-2 g) → (g.D.Disk.state c.sync_folder_of-2.new.disk).is_honest → (g.D.Disk.state c.args.disk.now).is_honest
-first_honest g c honest = c.sync_folder_of.ensures.quiet.honest (c.create.ensures.time.honest (c.sync_folder_of-2.ensures.quiet.honest honest))
+first_honest g c honest = c.sync_folder_of.ensures.quiet.honest (c.create.ensures.changes.time.honest (c.sync_folder_of-2.ensures.quiet.honest honest))
 
 pub fill_kept-requires-clause-part : goal.fill_kept-requires-clause-part
 fill_kept-requires-clause-part g c =
@@ -44,7 +44,7 @@ created g c =
     let d2 = g.D.Disk.state c.create.new.self in
     let now = c.create.ensures in
     then_only at d0 d1 d2 (only_nothing at d0 d1 c.sync_folder_of.ensures.quiet)
-    (only_call at d1 d2 path TornMaking refl (c.in_ok-sync_folder_of.ensures.durable path c.requires.staging_in) now.beside now.crash now.named now.flushed now.alone now.time)
+    (only_path at d1 d2 path TornMaking refl (c.in_ok-sync_folder_of.ensures.durable path c.requires.staging_in) now.changes)
 
 flushed : (g : given.Over) (c : After-sync_folder_of-2 g) → ChangesOnly (λ m. m ≡ c.args.staging.now) (g.D.Disk.state c.args.disk.now) (g.D.Disk.state c.create.new.self)
     → ChangesOnly (λ m. m ≡ c.args.staging.now) (g.D.Disk.state c.args.disk.now) (g.D.Disk.state c.sync_folder_of-2.new.disk)

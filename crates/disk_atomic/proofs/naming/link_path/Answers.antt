@@ -3,6 +3,4 @@ use Rattle.disk_atomic.proofs.naming.link_path.Goals as goal
 
 pub returns-clause-gives : goal.returns-clause-gives
 returns-clause-gives g c =
-    let now = c.link.ensures in
-    link_gives c.args.path.now c.args.staging.now c.requires.other (g.D.Disk.state c.args.disk.now) (g.D.Disk.state c.link.new.self) c.requires.staging_named c.requires.durable c.requires.path_named
-    now.beside now.crash now.named now.flushed now.alone now.time
+    link_gives c.args.path.now c.args.staging.now c.requires.other (g.D.Disk.state c.args.disk.now) (g.D.Disk.state c.link.new.self) c.requires.staging_named c.requires.durable c.requires.path_named c.link.ensures.changes

@@ -5,7 +5,7 @@ use Rattle.disk_io.specs.Steps.{TornRemoval}
 use Rattle.disk_io.specs.Runs.{LeavesOnly, OneStepOn}
 use Rattle.disk_atomic.specs.Changes.{ChangesOnly}
 use Rattle.disk_atomic.specs.Naming.{Gives, Names}
-use Rattle.disk_atomic.proofs.Changes.{only_call, then_only}
+use Rattle.disk_atomic.proofs.Changes.{only_path, then_only}
 use Rattle.disk_atomic.proofs.Named.{gives_quiet, moved_run}
 use Rattle.disk_atomic.proofs.naming.name_packet.Given as given
 use Rattle.disk_atomic.proofs.naming.name_packet.Goals.{After-remove, After-sync_folder_of}
@@ -38,8 +38,7 @@ removed g c =
     let d3 = g.D.Disk.state c.remove.new.self in
     let now = c.remove.ensures in
     then_only both d0 d2 d3 (gives_quiet (g.D.Disk.state c.args.disk.now) (g.D.Disk.state c.give_path.new.disk) (g.D.Disk.state c.sync_folder_of.new.disk) c.args.path.now c.args.staging.now c.give_path.ensures.gives c.sync_folder_of.ensures.quiet).changes
-    (only_call both d2 d3 staging TornRemoval (inl refl) (c.in_ok-sync_folder_of.ensures.durable staging c.requires.inside.staging_in) now.beside now.crash
-    (λ m out. now.named m (λ e. out (inl e))) (λ m out. now.flushed m (λ e. out (inl e))) (λ m out. now.alone m (λ e. out (inl e))) now.time)
+    (only_path both d2 d3 staging TornRemoval (inl refl) (c.in_ok-sync_folder_of.ensures.durable staging c.requires.inside.staging_in) now.changes)
 
 moments : (g : given.Over) (c : After-remove g) → Honestly (g.D.Disk.state c.remove.new.self)
     (LeavesOnly (g.D.Disk.state c.args.disk.now) (g.D.Disk.state c.remove.new.self) (OneStepOn (Names c.args.path.now c.args.staging.now) (g.D.Disk.state c.args.disk.now)))
@@ -53,7 +52,7 @@ moments g c honest =
     moved_run path staging c.requires.can.other (g.D.Disk.state c.args.disk.now) (g.D.Disk.state c.sync_folder_of.new.disk) (g.D.Disk.state c.remove.new.self)
     (gives_quiet (g.D.Disk.state c.args.disk.now) (g.D.Disk.state c.give_path.new.disk) (g.D.Disk.state c.sync_folder_of.new.disk) c.args.path.now c.args.staging.now c.give_path.ensures.gives c.sync_folder_of.ensures.quiet).any_moment
     c.requires.can.staging_named c.requires.can.durable (names staging c.requires.inside.staging_in) (names path c.requires.inside.path_in) (quiet.flushed path (λ h. h) (given.durable c.if-not-given.false))
-    (quiet.seen path ∙ given.given (quiet.honest (now.time.honest honest)) c.if-not-given.false) now.time now.crash
+    (quiet.seen path ∙ given.given (quiet.honest (now.changes.time.honest honest)) c.if-not-given.false) now.changes
 
 pub returns-in_err-remove-clause-changes : goal.returns-in_err-remove-clause-changes
 returns-in_err-remove-clause-changes g c = removed g (goal.at.returns-in_err-remove-clause-changes g c).After-remove
@@ -75,10 +74,10 @@ returns-clause-named g c honest is =
     let given = c.in_ok-given.ensures in
     let apart = λ (e : path ≡ c.args.staging.now). c.requires.can.other (sym e) in
     record {
-      seen = now.beside path apart ∙ quiet.seen path ∙ given.given (quiet.honest (now.time.honest honest)) c.if-not-given.false;
+      seen = now.changes.beside path apart ∙ quiet.seen path ∙ given.given (quiet.honest (now.changes.time.honest honest)) c.if-not-given.false;
       gone = c.in_ok-remove.ensures.gone;
-      named = now.named path apart (c.in_ok-sync_folder_of.ensures.durable path c.requires.inside.path_in);
-      flushed = now.flushed path apart (quiet.flushed path (λ h. h) (given.durable c.if-not-given.false));
+      named = now.changes.named path apart (c.in_ok-sync_folder_of.ensures.durable path c.requires.inside.path_in);
+      flushed = now.changes.flushed path apart (quiet.flushed path (λ h. h) (given.durable c.if-not-given.false));
     }
 
 pub returns-clause-over_none : goal.returns-clause-over_none
@@ -86,4 +85,4 @@ returns-clause-over_none g c honest some =
     let path = c.args.path.now in
     let quiet = c.sync_folder_of.ensures.quiet in
     let now = c.remove.ensures in
-    now.beside path (λ e. c.requires.can.other (sym e)) ∙ quiet.seen path ∙ c.in_ok-given.ensures.over_none (quiet.honest (now.time.honest honest)) some
+    now.changes.beside path (λ e. c.requires.can.other (sym e)) ∙ quiet.seen path ∙ c.in_ok-given.ensures.over_none (quiet.honest (now.changes.time.honest honest)) some

@@ -1,11 +1,11 @@
-use Rattle.std.proofs.Common.{◌≡◌, ◌⊎◌, inl, inr, ◌∙◌, ℕ, List}
+use Rattle.std.proofs.Common.{◌≡◌, ◌⊎◌, inl, ◌∙◌, ℕ, List}
 use Rattle.std.proofs.lemmas.Result.{on_ok_weaker}
 use Rattle.disk_io.specs.Runs.{LeavesOnly, OneStepOn}
 use Rattle.disk_io.proofs.Moments.{then_nothing}
 use Rattle.disk_atomic.specs.Changes.{ChangesOnly, DifferAt}
 use Rattle.disk_atomic.specs.Replacing.{Replaces}
 use Rattle.disk_atomic.proofs.Changes.{only_nothing, then_only, weaker_steps, wider}
-use Rattle.disk_atomic.proofs.Replaced.{not_yet, renamed_differ, replaced_run}
+use Rattle.disk_atomic.proofs.Replaced.{not_yet, renamed_only, replaced_run}
 use Rattle.disk_atomic.proofs.Whole.{some_is_there}
 use Rattle.disk_atomic.proofs.replacing.replace_file.Given as given
 use Rattle.disk_atomic.proofs.replacing.replace_file.Goals.{After-rename}
@@ -36,7 +36,7 @@ moments g c =
     let path = c.args.path.now in
     let staged = c.in_ok-stage_file.ensures in
     replaced_run path c.args.staging.now c.args.bytes.now (g.D.Disk.state c.args.disk.now) (g.D.Disk.state c.stage_file.new.disk) (g.D.Disk.state c.rename.new.self) c.requires.other
-    c.stage_file.ensures.changes staged.staged (staged.named path c.requires.path_in) c.rename.ensures.time c.rename.ensures.crash
+    c.stage_file.ensures.changes staged.staged (staged.named path c.requires.path_in) c.rename.ensures.changes
 
 renamed : (g : given.Over) (c : After-rename g) → ChangesOnly (λ m. (m ≡ c.args.staging.now) ⊎ (m ≡ c.args.path.now)) (g.D.Disk.state c.args.disk.now) (g.D.Disk.state c.rename.new.self)
 renamed g c =
@@ -48,15 +48,8 @@ renamed g c =
     let d1 = g.D.Disk.state c.stage_file.new.disk in
     let d2 = g.D.Disk.state c.rename.new.self in
     let staged = c.in_ok-stage_file.ensures in
-    let now = c.rename.ensures in
-    then_only both d0 d1 d2 (wider few both d0 d1 (λ m is. inl is) c.stage_file.ensures.changes) (record {
-      seen = λ m out. now.beside m (λ e. out (inl e)) (λ e. out (inr e));
-      named = now.named;
-      flushed = now.flushed;
-      alone = now.alone;
-      honest = now.time.honest;
-      any_moment = renamed_differ path staging c.args.bytes.now d1 d2 staged.staged (staged.named path c.requires.path_in) now.time now.crash;
-    })
+    then_only both d0 d1 d2 (wider few both d0 d1 (λ m is. inl is) c.stage_file.ensures.changes)
+    (renamed_only path staging c.args.bytes.now d1 d2 staged.staged (staged.named path c.requires.path_in) c.rename.ensures.changes)
 
 pub returns-in_err-rename-clause-any_moment : goal.returns-in_err-rename-clause-any_moment
 returns-in_err-rename-clause-any_moment g c = moments g (goal.at.returns-in_err-rename-clause-any_moment g c).After-rename

@@ -3,7 +3,7 @@ use Rattle.std.proofs.lemmas.List.Elements.{AllWithin-from_all, AllWithin-none}
 use Rattle.disk_io.specs.Steps.{TornMaking}
 use Rattle.disk_atomic.specs.Changes.{ChangesOnly}
 use Rattle.disk_atomic.specs.Outgoing.{AreApart, IsStagingOne, IsMade, IsStagingNamed}
-use Rattle.disk_atomic.proofs.Changes.{only_call, only_start, then_only}
+use Rattle.disk_atomic.proofs.Changes.{only_path, only_start, then_only}
 use Rattle.disk_atomic.proofs.Each.{ahead, among, behind, here}
 use Rattle.disk_atomic.proofs.Packets.{apart_back, At, staging_one, made_stays, named_stays, nobody}
 use Rattle.disk_atomic.proofs.staged.make_files.Given as given
@@ -32,7 +32,7 @@ made g c =
     let e = g.D.Disk.state c.create.new.self in
     let now = c.create.ensures in
     let x = get_or packets i z in
-    only_call (At x) d e x.staging.now TornMaking refl (here (IsStagingNamed d) packets i z lt c.packets.invariant.named) now.beside now.crash now.named now.flushed now.alone now.time
+    only_path (At x) d e x.staging.now TornMaking refl (here (IsStagingNamed d) packets i z lt c.packets.invariant.named) now.changes
 
 pub packets-preserved : goal.packets-preserved
 packets-preserved g c =

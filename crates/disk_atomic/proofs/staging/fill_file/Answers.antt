@@ -2,7 +2,7 @@ use Rattle.std.proofs.Common.{◌≡◌, ◌∙◌, ℕ, List, length, refl}
 use Rattle.std.proofs.lemmas.Result.{on_ok_weaker}
 use Rattle.disk_io.specs.Steps.{TornWrite}
 use Rattle.disk_atomic.specs.Changes.{ChangesOnly}
-use Rattle.disk_atomic.proofs.Changes.{only_call, only_nothing, then_only}
+use Rattle.disk_atomic.proofs.Changes.{only_bytes, only_nothing, then_only}
 use Rattle.disk_atomic.proofs.Whole.{written_whole}
 use Rattle.disk_atomic.proofs.staging.fill_file.Given as given
 use Rattle.disk_atomic.proofs.staging.fill_file.Goals.{After-write_at}
@@ -12,8 +12,7 @@ written : (g : given.Over) (c : After-write_at g) → ChangesOnly (λ m. m ≡ c
 written g c =
     let path = c.args.path.now in
     let now = c.write_at.ensures in
-    only_call (λ (m : List ℕ). m ≡ path) (g.D.Disk.state c.args.disk.now) (g.D.Disk.state c.write_at.new.self) path (TornWrite 0 (length c.args.bytes.now)) refl c.requires.named
-    now.beside now.crash (λ m other. now.named m (λ h. h)) now.flushed (λ m other. now.alone m (λ h. h)) now.time
+    only_bytes (λ (m : List ℕ). m ≡ path) (g.D.Disk.state c.args.disk.now) (g.D.Disk.state c.write_at.new.self) path (TornWrite 0 (length c.args.bytes.now)) refl c.requires.named now.changes
 
 pub returns-in_err-write_at-clause-changes : goal.returns-in_err-write_at-clause-changes
 returns-in_err-write_at-clause-changes g c = written g (goal.at.returns-in_err-write_at-clause-changes g c).After-write_at
@@ -34,7 +33,7 @@ returns-clause-filled g c =
     on_ok_weaker c.sync.result
     (λ flushed. record {
       seen = quiet.seen path ∙ written_whole (d0.seen path) (d1.seen path) c.args.bytes.now c.requires.empty c.write_at.ensures.there c.in_ok-write_at.ensures.written;
-      named = quiet.named path (λ h. h) (c.write_at.ensures.named path (λ h. h) c.requires.named);
+      named = quiet.named path (λ h. h) (c.write_at.ensures.changes.named path (λ h. h) c.requires.named);
       flushed = flushed;
     })
     c.sync.ensures.durable

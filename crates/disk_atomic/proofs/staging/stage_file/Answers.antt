@@ -2,7 +2,7 @@ use Rattle.std.proofs.Common.{◌≡◌, ◌∙◌, ℕ, List, refl}
 use Rattle.std.proofs.lemmas.Result.{on_ok_weaker}
 use Rattle.disk_io.specs.Steps.{TornMaking}
 use Rattle.disk_atomic.specs.Changes.{ChangesOnly}
-use Rattle.disk_atomic.proofs.Changes.{only_call, only_nothing, then_only}
+use Rattle.disk_atomic.proofs.Changes.{only_nothing, only_path, then_only}
 use Rattle.disk_atomic.proofs.staging.stage_file.Given as given
 use Rattle.disk_atomic.proofs.staging.stage_file.Goals.{After-create, After-sync_folder_of-2}
 use Rattle.disk_atomic.proofs.staging.stage_file.Goals as goal
@@ -29,7 +29,7 @@ created g c =
     let d2 = g.D.Disk.state c.create.new.self in
     let now = c.create.ensures in
     then_only at d0 d1 d2 (only_nothing at d0 d1 c.sync_folder_of.ensures.quiet)
-    (only_call at d1 d2 path TornMaking refl (c.in_ok-sync_folder_of.ensures.durable path c.requires) now.beside now.crash now.named now.flushed now.alone now.time)
+    (only_path at d1 d2 path TornMaking refl (c.in_ok-sync_folder_of.ensures.durable path c.requires) now.changes)
 
 flushed : (g : given.Over) (c : After-sync_folder_of-2 g) → ChangesOnly (λ m. m ≡ c.args.path.now) (g.D.Disk.state c.args.disk.now) (g.D.Disk.state c.create.new.self)
     → ChangesOnly (λ m. m ≡ c.args.path.now) (g.D.Disk.state c.args.disk.now) (g.D.Disk.state c.sync_folder_of-2.new.disk)

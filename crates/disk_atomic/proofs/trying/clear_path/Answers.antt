@@ -1,7 +1,7 @@
 use Rattle.std.proofs.Common.{◌≡◌, ℕ, List, refl}
 use Rattle.disk_io.specs.Steps.{TornRemoval}
 use Rattle.disk_atomic.specs.Changes.{ChangesOnly}
-use Rattle.disk_atomic.proofs.Changes.{only_call, only_nothing, then_only}
+use Rattle.disk_atomic.proofs.Changes.{only_nothing, only_path, then_only}
 use Rattle.disk_atomic.proofs.trying.clear_path.Given as given
 use Rattle.disk_atomic.proofs.trying.clear_path.Goals.{After-remove}
 use Rattle.disk_atomic.proofs.trying.clear_path.Goals as goal
@@ -15,7 +15,7 @@ removed g c =
     let d2 = g.D.Disk.state c.remove.new.self in
     let now = c.remove.ensures in
     then_only at d0 d1 d2 (only_nothing at d0 d1 c.exists.ensures.quiet)
-    (only_call at d1 d2 path TornRemoval refl (c.exists.ensures.quiet.named path (λ h. h) c.requires.named) now.beside now.crash now.named now.flushed now.alone now.time)
+    (only_path at d1 d2 path TornRemoval refl (c.exists.ensures.quiet.named path (λ h. h) c.requires.named) now.changes)
 
 pub returns-in_err-remove-clause-changes : goal.returns-in_err-remove-clause-changes
 returns-in_err-remove-clause-changes g c = removed g (goal.at.returns-in_err-remove-clause-changes g c).After-remove

@@ -2,7 +2,7 @@ use Rattle.std.proofs.Common.{◌≡◌, ◌∙◌, inr, refl, subst, sym}
 use Rattle.std.specs.Prelude.{IsSome}
 use Rattle.disk_io.specs.Steps.{TornRemoval}
 use Rattle.disk_atomic.specs.Trying.{Tries}
-use Rattle.disk_atomic.proofs.Changes.{only_call}
+use Rattle.disk_atomic.proofs.Changes.{only_path}
 use Rattle.disk_atomic.proofs.Tried.{tries_flushed, tries_linked, tries_only, tries_then}
 use Rattle.disk_atomic.proofs.trying.try_link.Given as given
 use Rattle.disk_atomic.proofs.trying.try_link.Goals.{After-remove}
@@ -33,7 +33,7 @@ removed g c =
     tries_then trial from d0 d3 d4
     (tries_flushed trial from other d0 (g.D.Disk.state c.clear_path.new.disk) (g.D.Disk.state c.link_path.new.disk) c.clear_path.ensures.changes c.link_path.ensures.gives d3 c.sync_folder_of.ensures.quiet)
     (tries_only trial from other d3 d4
-    (only_call (λ m. m ≡ trial) d3 d4 trial TornRemoval refl (c.in_ok-sync_folder_of.ensures.durable trial c.requires.inside) now.beside now.crash now.named now.flushed now.alone now.time))
+    (only_path (λ m. m ≡ trial) d3 d4 trial TornRemoval refl (c.in_ok-sync_folder_of.ensures.durable trial c.requires.inside) now.changes))
 
 pub returns-in_err-clear_path-clause-tries : goal.returns-in_err-clear_path-clause-tries
 returns-in_err-clear_path-clause-tries g c =
@@ -64,7 +64,7 @@ returns-clause-tries g c = removed g (goal.at.returns-clause-tries g c).After-re
 
 pub returns-clause-gone : goal.returns-clause-gone
 returns-clause-gone g c is m inside other none =
-    c.remove.ensures.flushed m other (c.in_ok-sync_folder_of.ensures.gone m inside (sym (c.remove.ensures.beside m other) ∙ none))
+    c.remove.ensures.changes.flushed m other (c.in_ok-sync_folder_of.ensures.gone m inside (sym (c.remove.ensures.changes.beside m other) ∙ none))
 
 pub returns-clause-tried : goal.returns-clause-tried
 returns-clause-tried g c is =

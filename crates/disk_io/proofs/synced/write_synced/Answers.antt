@@ -10,8 +10,7 @@ returns-in_err-write_at-clause-any_moment g c =
     let old = g.D.Disk.state c.args.disk.now in
     let path = c.args.path.now in
     let torn = TornWrite c.args.at (length c.args.bytes.now) in
-    one_call old (g.D.Disk.state c.write_at.new.self) (ChangesFile old path torn) (ChangesFile-none old path torn (TornWrite-none c.args.at (length c.args.bytes.now)))
-    c.write_at.ensures.time c.write_at.ensures.crash
+    one_call old (g.D.Disk.state c.write_at.new.self) (ChangesFile old path torn) (ChangesFile-none old path torn (TornWrite-none c.args.at (length c.args.bytes.now))) c.write_at.ensures.changes (λ a f left step. step)
 
 pub returns-clause-any_moment : goal.returns-clause-any_moment
 returns-clause-any_moment g c =
@@ -20,5 +19,5 @@ returns-clause-any_moment g c =
     let path = c.args.path.now in
     let torn = TornWrite c.args.at (length c.args.bytes.now) in
     then_nothing old mid (g.D.Disk.state c.sync.new.self) (OneStepOn (ChangesFile old path torn) old)
-    (one_call old mid (ChangesFile old path torn) (ChangesFile-none old path torn (TornWrite-none c.args.at (length c.args.bytes.now))) c.write_at.ensures.time c.write_at.ensures.crash)
+    (one_call old mid (ChangesFile old path torn) (ChangesFile-none old path torn (TornWrite-none c.args.at (length c.args.bytes.now))) c.write_at.ensures.changes (λ a f left step. step))
     c.sync.ensures.quiet

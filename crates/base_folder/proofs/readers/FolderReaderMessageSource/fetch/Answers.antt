@@ -1,27 +1,25 @@
-use Rattle.std.proofs.Common.{◌≡◌, ◌∙◌, ◌<◌, [], ◌∷◌, length, refl, sym, ap, arith}
+use Rattle.std.proofs.Common.{◌≡◌, ◌∙◌, ◌<◌, length, refl, sym, arith}
 use Rattle.std.specs.Prelude.{slice_get}
-use Rattle.base_file.specs.Base.{Base}
 use Rattle.echo_filed.specs.Filed.{Filed}
 use Rattle.echo_filed.specs.Stored.{message_in}
 use Rattle.echo_filed.specs.declared.stored.Version.TheVariants.{Second}
 use Rattle.base_folder_store.specs.Opened.{held_by}
-use Rattle.base_folder_store.specs.State.{only_message}
 use Rattle.base_folder_store.proofs.Causes.{answers_error}
-use Rattle.base_folder_store.proofs.Seen.{fetched}
+use Rattle.base_folder_store.proofs.Seen.{message_at}
 use Rattle.base_folder.proofs.Readings.{looked_quiet, read_at, sees_quiet}
 use Rattle.base_folder.proofs.readers.FolderReaderMessageSource.fetch.Goals as goal
 
 pub read_vouched-requires-clause-legible : goal.read_vouched-requires-clause-legible
 read_vouched-requires-clause-legible g c honest = c.requires.ready.legible honest (omega (arith, c.requires.within))
 
-pub returns-in_err-alone-clause-fetched : goal.returns-in_err-alone-clause-fetched
-returns-in_err-alone-clause-fetched g c honest = λ base sees.
+pub returns-in_err-message-clause-fetched : goal.returns-in_err-message-clause-fetched
+returns-in_err-message-clause-fetched g c honest = λ base sees.
     let r = c.args.self.now in
     let d = g.D.Disk.state r.disk in
     let within : c.args.place < length base.messages = omega (arith, c.requires.within, sees.count) in
     let read = read_at g.H.Digest.keyed (held_by d r.folder) base sees.holds c.args.place within in
-    answers_error {T = Base} (λ (alone : Base). alone.messages ≡ message_in Second read.s ∷ []) (λ _. only_message r.alone ≡ slice_get base.messages c.args.place) _ c.from_residual.result c.from_residual.ensures.1
-    (c.in_err-alone.ensures.message honest read.s read.there read.digest)
+    answers_error {T = Filed} (λ (m : Filed). m ≡ message_in Second read.s) (λ _. r.message ≡ slice_get base.messages c.args.place) _ c.from_residual.result c.from_residual.ensures.1
+    (c.in_err-message.ensures.message honest read.s read.there read.digest)
 
 pub returns-clause-fetched : goal.returns-clause-fetched
 returns-clause-fetched g c honest = λ base sees.
@@ -29,11 +27,11 @@ returns-clause-fetched g c honest = λ base sees.
     let d = g.D.Disk.state r.disk in
     let within : c.args.place < length base.messages = omega (arith, c.requires.within, sees.count) in
     let read = read_at g.H.Digest.keyed (held_by d r.folder) base sees.holds c.args.place within in
-    fetched base.messages c.args.place c.in_ok-alone.alone within
-    (λ e. c.in_ok-alone.ensures.message honest read.s read.there read.digest ∙ ap (λ (m : Filed). m ∷ []) (sym (read.is e)))
+    let is = c.in_ok-message.ensures.message honest read.s read.there read.digest in
+    sym (message_at base.messages c.args.place c.in_ok-message.message within (λ e. read.is e ∙ sym is))
 
-pub returns-in_err-alone-clause-looks : goal.returns-in_err-alone-clause-looks
-returns-in_err-alone-clause-looks g c =
+pub returns-in_err-message-clause-looks : goal.returns-in_err-message-clause-looks
+returns-in_err-message-clause-looks g c =
     let r = c.args.self.now in
     let d = g.D.Disk.state r.disk in
     let e = g.D.Disk.state c.read_vouched.new.disk in

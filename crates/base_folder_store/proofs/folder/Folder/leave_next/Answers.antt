@@ -6,9 +6,9 @@ use Rattle.echo_filed.specs.declared.stored.Version.TheVariants.{Second}
 use Rattle.echo_filed.specs.Stubs.{is_stub}
 use Rattle.base_log.specs.Standing.{BaseBytes}
 use Rattle.base_log.proofs.Quiet.{base_quiet}
+use Rattle.base_file.specs.Alone.{IsStoredAlone}
 use Rattle.base_file.specs.Base.{Base}
 use Rattle.base_store.specs.Keys.{HasBytesOf, StandWhereTold, digest_at}
-use Rattle.base_folder_store.specs.Added.{IsStoredAlone}
 use Rattle.base_folder_store.specs.Answers.{IsStoredOf}
 use Rattle.base_folder_store.specs.Calls.{StagesOnly}
 use Rattle.base_folder_store.specs.Held.{HoldsBase}

@@ -5,8 +5,8 @@ use Rattle.base_folder_store.proofs.folder_store.FolderStore.expect.Given as goa
 
 abbrev pub invariant-keys : goal.invariant-keys
 invariant-keys g l = record {
-  looks : LooksOn (where_so (state_of (g.D.Disk.state l.fn.self.disk) g.H.Digest.keyed l.fn.self.folder l.fn.self.alone) (IsIndexed (g.D.Disk.state l.fn.self.disk) l.fn.self.folder l.fn.self.index))
-      (where_so (state_of (g.D.Disk.state l.self.disk) g.H.Digest.keyed l.self.folder l.self.alone) (IsIndexed (g.D.Disk.state l.self.disk) l.self.folder l.self.index));
+  looks : LooksOn (where_so (state_of (g.D.Disk.state l.fn.self.disk) g.H.Digest.keyed l.fn.self.folder l.fn.self.message) (IsIndexed (g.D.Disk.state l.fn.self.disk) l.fn.self.folder l.fn.self.index))
+      (where_so (state_of (g.D.Disk.state l.self.disk) g.H.Digest.keyed l.self.folder l.self.message) (IsIndexed (g.D.Disk.state l.self.disk) l.self.folder l.self.index));
   disk : l.self.disk ≡ l.fn.self.disk;
   folder : l.self.folder ≡ l.fn.self.folder;
 }

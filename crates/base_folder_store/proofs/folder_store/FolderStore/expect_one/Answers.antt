@@ -10,6 +10,6 @@ returns-clause-looks g c =
     let s = c.args.self.now in
     let d = g.D.Disk.state s.disk in
     let keyed = g.H.Digest.keyed in
-    let state = state_of d keyed s.folder s.alone in
-    looks_where state state (IsIndexed d s.folder s.index) (IsIndexed d s.folder c.expect.new.self) (looks d d keyed s.folder s.alone s.alone c.requires.0 (quiet_disk d))
+    let state = state_of d keyed s.folder s.message in
+    looks_where state state (IsIndexed d s.folder s.index) (IsIndexed d s.folder c.expect.new.self) (looks d d keyed s.folder s.message s.message c.requires.0 (quiet_disk d))
     (λ honest. c.expect.ensures (held_by d s.folder).keys (c.requires.1 honest))

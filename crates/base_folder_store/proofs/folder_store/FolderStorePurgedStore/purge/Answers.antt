@@ -39,8 +39,8 @@ returns-clause-either g c =
     let e = g.D.Disk.state c.purge.new.disk in
     let keyed = g.H.Digest.keyed in
     let now = c.purge.new.self in
-    may_commit_where (state_of d keyed s.folder s.alone) (state_of e keyed now s.alone) (IsIndexed d s.folder s.index) (IsIndexed e now c.new-index.result)
-    (may_commit d e keyed s.folder now s.alone s.alone c.purge.ensures.stays.path c.purge.ensures.run)
+    may_commit_where (state_of d keyed s.folder s.message) (state_of e keyed now s.message) (IsIndexed d s.folder s.index) (IsIndexed e now c.new-index.result)
+    (may_commit d e keyed s.folder now s.message s.message c.purge.ensures.stays.path c.purge.ensures.run)
 
 pub returns-clause-cause : goal.returns-clause-cause
 returns-clause-cause g c = record {

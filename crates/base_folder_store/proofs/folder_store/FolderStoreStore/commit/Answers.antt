@@ -12,8 +12,8 @@ returns-clause-committed g c =
     let keyed = g.H.Digest.keyed in
     let now = c.commit.new.self in
     let says = c.commit.ensures in
-    commits_where (state_of d keyed s.folder s.alone) (state_of e keyed now s.alone) (IsIndexed d s.folder s.index) (IsIndexed e now s.index) c.commit.result
-    (committed d e keyed s.folder now s.alone s.alone c.commit.result says.stays says.done says.run.outside)
+    commits_where (state_of d keyed s.folder s.message) (state_of e keyed now s.message) (IsIndexed d s.folder s.index) (IsIndexed e now s.index) c.commit.result
+    (committed d e keyed s.folder now s.message s.message c.commit.result says.stays says.done says.run.outside)
     (indexed_same d e s.folder now s.index c.commit.result says.done.same says.run.outside.honest c.requires.1)
 
 pub returns-clause-either : goal.returns-clause-either
@@ -23,8 +23,8 @@ returns-clause-either g c =
     let e = g.D.Disk.state c.commit.new.disk in
     let keyed = g.H.Digest.keyed in
     let now = c.commit.new.self in
-    may_commit_where (state_of d keyed s.folder s.alone) (state_of e keyed now s.alone) (IsIndexed d s.folder s.index) (IsIndexed e now s.index)
-    (may_commit d e keyed s.folder now s.alone s.alone c.commit.ensures.stays.path c.commit.ensures.run)
+    may_commit_where (state_of d keyed s.folder s.message) (state_of e keyed now s.message) (IsIndexed d s.folder s.index) (IsIndexed e now s.index)
+    (may_commit d e keyed s.folder now s.message s.message c.commit.ensures.stays.path c.commit.ensures.run)
 
 pub returns-clause-refused : goal.returns-clause-refused
 returns-clause-refused g c is =
@@ -33,5 +33,5 @@ returns-clause-refused g c is =
     let e = g.D.Disk.state c.commit.new.disk in
     let keyed = g.H.Digest.keyed in
     let now = c.commit.new.self in
-    nothing_where (state_of d keyed s.folder s.alone) (state_of e keyed now s.alone) (IsIndexed d s.folder s.index) (IsIndexed e now s.index)
-    (stages d e keyed s.folder now s.alone s.alone c.commit.ensures.stays.path (record { any_moment = λ honest. c.commit.ensures.refused honest is; outside = c.commit.ensures.run.outside }))
+    nothing_where (state_of d keyed s.folder s.message) (state_of e keyed now s.message) (IsIndexed d s.folder s.index) (IsIndexed e now s.index)
+    (stages d e keyed s.folder now s.message s.message c.commit.ensures.stays.path (record { any_moment = λ honest. c.commit.ensures.refused honest is; outside = c.commit.ensures.run.outside }))

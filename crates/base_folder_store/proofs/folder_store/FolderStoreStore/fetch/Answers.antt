@@ -1,14 +1,15 @@
-use Rattle.std.proofs.Common.{inl, Some, ◌∙◌, arith}
+use Rattle.std.proofs.Common.{◌≡◌, inl, Some, sym, ◌∙◌, arith}
+use Rattle.std.specs.Prelude.{slice_get}
 use Rattle.std.proofs.lemmas.Result.{err_from_is_err_and}
 use Rattle.base_file.specs.Base.{Base}
-use Rattle.base_folder_store.specs.Answers.{IsAloneOf}
+use Rattle.echo_filed.specs.Filed.{Filed}
 use Rattle.base_folder_store.specs.State.{IsIndexed, state_of, where_so}
 use Rattle.base_folder_store.specs.Opened.{held_by}
 use Rattle.base_folder_store.proofs.Bases.{told_where}
 use Rattle.base_folder_store.proofs.Causes.{handed_on}
 use Rattle.base_folder_store.proofs.Legible.{held_quiet, legible_open}
 use Rattle.base_folder_store.proofs.Indexed.{indexed_held}
-use Rattle.base_folder_store.proofs.Seen.{fetched, many_messages}
+use Rattle.base_folder_store.proofs.Seen.{many_messages}
 use Rattle.base_folder_store.proofs.Stated.{handed_cause, looks, none_there}
 use Rattle.base_folder_store.proofs.WhereSo.{looks_where}
 use Rattle.base_folder_store.proofs.folder_store.FolderStoreStore.fetch.Goals as goal
@@ -19,39 +20,39 @@ returns-then-place-count-clause-cause g c =
     let d = g.D.Disk.state s.disk in
     let keyed = g.H.Digest.keyed in
     let past = c.if-place-count.true in
-    let store = where_so (state_of d keyed s.folder s.alone) (IsIndexed d s.folder s.index) in
+    let store = where_so (state_of d keyed s.folder s.message) (IsIndexed d s.folder s.index) in
     none_there store (g.D.Disk.failures s.disk) c.args.place c.count.result c.requires.within
     (λ honest base holds. c.count.ensures ∙ many_messages keyed d s.folder base (c.requires.ready.0.opened honest) holds) (omega (arith, past))
 
-pub returns-in_err-alone-clause-cause : goal.returns-in_err-alone-clause-cause
-returns-in_err-alone-clause-cause g c =
+pub returns-in_err-message-clause-cause : goal.returns-in_err-message-clause-cause
+returns-in_err-message-clause-cause g c =
     let s = c.args.self.now in
     let d = g.D.Disk.state s.disk in
     let keyed = g.H.Digest.keyed in
     let p = err_from_is_err_and c.from_residual.result c.from_residual.ensures.1 in
     rw (p.1, p.2)
-    (handed_cause (where_so (state_of d keyed s.folder s.alone) (IsIndexed d s.folder s.index))
-    (where_so (state_of (g.D.Disk.state c.read.new.disk) keyed s.folder s.alone) (IsIndexed (g.D.Disk.state c.read.new.disk) s.folder s.index)) (λ (base : Base) (alone : Base). IsAloneOf base.messages c.args.place alone) (g.D.Disk.failures s.disk) (g.D.Disk.failures c.read.new.disk) c.in_err-alone.field-0.0
-    c.in_err-alone.ensures.cause (λ honest base holds.
-    let was = c.in_err-alone.ensures.quiet.honest honest in
-    c.in_err-alone.ensures.read honest base.messages (told_where keyed (held_by d s.folder) base holds) (c.requires.within was base holds)))
+    (handed_cause (where_so (state_of d keyed s.folder s.message) (IsIndexed d s.folder s.index))
+    (where_so (state_of (g.D.Disk.state c.read.new.disk) keyed s.folder s.message) (IsIndexed (g.D.Disk.state c.read.new.disk) s.folder s.index)) (λ (base : Base) (m : Filed). slice_get base.messages c.args.place ≡ Some m) (g.D.Disk.failures s.disk) (g.D.Disk.failures c.read.new.disk) c.in_err-message.field-0.0
+    c.in_err-message.ensures.cause (λ honest base holds.
+    let was = c.in_err-message.ensures.quiet.honest honest in
+    c.in_err-message.ensures.read honest base.messages (told_where keyed (held_by d s.folder) base holds) (c.requires.within was base holds)))
 
 pub returns-clause-fetched : goal.returns-clause-fetched
 returns-clause-fetched g c = λ honest base holds.
     let s = c.args.self.now in
     let d = g.D.Disk.state s.disk in
     let keyed = g.H.Digest.keyed in
-    let was = c.in_ok-alone.ensures.quiet.honest honest in
-    fetched base.messages c.args.place c.in_ok-alone.alone (c.requires.within was base holds) (c.in_ok-alone.ensures.read honest base.messages (told_where keyed (held_by d s.folder) base holds) (c.requires.within was base holds))
+    let was = c.in_ok-message.ensures.quiet.honest honest in
+    sym (c.in_ok-message.ensures.read honest base.messages (told_where keyed (held_by d s.folder) base holds) (c.requires.within was base holds))
 
-pub returns-in_err-alone-clause-looks : goal.returns-in_err-alone-clause-looks
-returns-in_err-alone-clause-looks g c =
+pub returns-in_err-message-clause-looks : goal.returns-in_err-message-clause-looks
+returns-in_err-message-clause-looks g c =
     let s = c.args.self.now in
     let d = g.D.Disk.state s.disk in
     let e = g.D.Disk.state c.read.new.disk in
     let keyed = g.H.Digest.keyed in
-    looks_where (state_of d keyed s.folder s.alone) (state_of e keyed s.folder s.alone) (IsIndexed d s.folder s.index) (IsIndexed e s.folder s.index)
-    (looks d e keyed s.folder s.alone s.alone c.requires.ready.0 c.read.ensures.quiet) (λ honest. indexed_held d e s.folder s.folder s.index (held_quiet d e s.folder c.read.ensures.quiet) (c.requires.ready.1 (c.read.ensures.quiet.honest honest)))
+    looks_where (state_of d keyed s.folder s.message) (state_of e keyed s.folder s.message) (IsIndexed d s.folder s.index) (IsIndexed e s.folder s.index)
+    (looks d e keyed s.folder s.message s.message c.requires.ready.0 c.read.ensures.quiet) (λ honest. indexed_held d e s.folder s.folder s.index (held_quiet d e s.folder c.read.ensures.quiet) (c.requires.ready.1 (c.read.ensures.quiet.honest honest)))
 
 pub returns-clause-looks : goal.returns-clause-looks
 returns-clause-looks g c =
@@ -59,11 +60,11 @@ returns-clause-looks g c =
     let d = g.D.Disk.state s.disk in
     let e = g.D.Disk.state c.read.new.disk in
     let keyed = g.H.Digest.keyed in
-    looks_where (state_of d keyed s.folder s.alone) (state_of e keyed s.folder (Some c.in_ok-alone.alone)) (IsIndexed d s.folder s.index) (IsIndexed e s.folder s.index)
-    (looks d e keyed s.folder s.alone (Some c.in_ok-alone.alone) c.requires.ready.0 c.read.ensures.quiet) (λ honest. indexed_held d e s.folder s.folder s.index (held_quiet d e s.folder c.read.ensures.quiet) (c.requires.ready.1 (c.read.ensures.quiet.honest honest)))
+    looks_where (state_of d keyed s.folder s.message) (state_of e keyed s.folder (Some c.in_ok-message.message)) (IsIndexed d s.folder s.index) (IsIndexed e s.folder s.index)
+    (looks d e keyed s.folder s.message (Some c.in_ok-message.message) c.requires.ready.0 c.read.ensures.quiet) (λ honest. indexed_held d e s.folder s.folder s.index (held_quiet d e s.folder c.read.ensures.quiet) (c.requires.ready.1 (c.read.ensures.quiet.honest honest)))
 
 pub read-requires-clause-legible : goal.read-requires-clause-legible
 read-requires-clause-legible g c honest = legible_open (g.D.Disk.state c.args.self.now.disk) c.args.self.now.folder (c.requires.ready.0.opened honest)
 
-pub returns-in_err-alone-clause-many : goal.returns-in_err-alone-clause-many
-returns-in_err-alone-clause-many g c is = inl (inl (c.in_err-alone.ensures.many (handed_on _ _ c.from_residual.result c.from_residual.ensures.1 is)))
+pub returns-in_err-message-clause-many : goal.returns-in_err-message-clause-many
+returns-in_err-message-clause-many g c is = inl (inl (c.in_err-message.ensures.many (handed_on _ _ c.from_residual.result c.from_residual.ensures.1 is)))

@@ -27,7 +27,7 @@ returns-clause-cause g c =
     let d = g.D.Disk.state s.disk in
     let keyed = g.H.Digest.keyed in
     let e = g.D.Disk.state c.find.new.disk in
-    read_cause (where_so (state_of d keyed s.folder s.alone) (IsIndexed d s.folder s.index)) (where_so (state_of e keyed s.folder s.alone) (IsIndexed e s.folder c.find.new.index)) (λ (base : Base) (found : Bool). found ≡ list_any (has_id c.args.msgid.now) base.messages) (g.D.Disk.failures s.disk) (g.D.Disk.failures c.find.new.disk) c.find.result c.find.ensures.cause
+    read_cause (where_so (state_of d keyed s.folder s.message) (IsIndexed d s.folder s.index)) (where_so (state_of e keyed s.folder s.message) (IsIndexed e s.folder c.find.new.index)) (λ (base : Base) (found : Bool). found ≡ list_any (has_id c.args.msgid.now) base.messages) (g.D.Disk.failures s.disk) (g.D.Disk.failures c.find.new.disk) c.find.result c.find.ensures.cause
     (λ honest base holds. c.find.ensures.found honest base.messages (told_where keyed (held_by d s.folder) base holds)
     (id_digest keyed (held_by d s.folder) base c.args.msgid.now c.digest-digest.result holds c.digest-digest.ensures))
 
@@ -40,8 +40,8 @@ returns-clause-looks g c =
     let d = g.D.Disk.state s.disk in
     let e = g.D.Disk.state c.find.new.disk in
     let keyed = g.H.Digest.keyed in
-    looks_where (state_of d keyed s.folder s.alone) (state_of e keyed s.folder s.alone) (IsIndexed d s.folder s.index) (IsIndexed e s.folder c.find.new.index)
-    (looks d e keyed s.folder s.alone s.alone c.requires.0 c.find.ensures.quiet)
+    looks_where (state_of d keyed s.folder s.message) (state_of e keyed s.folder s.message) (IsIndexed d s.folder s.index) (IsIndexed e s.folder c.find.new.index)
+    (looks d e keyed s.folder s.message s.message c.requires.0 c.find.ensures.quiet)
     (λ honest. indexed_held d e s.folder s.folder c.find.new.index (held_quiet d e s.folder c.find.ensures.quiet) (c.find.ensures.indexed honest))
 
 pub returns-clause-many : goal.returns-clause-many

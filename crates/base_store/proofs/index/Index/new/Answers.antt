@@ -1,4 +1,4 @@
-use Rattle.std.proofs.Common.{◌≡◌, ◌*◌, ◌/◌, ℕ, List, [], ◌++◌, length, sym, ap, arith}
+use Rattle.std.proofs.Common.{ℕ, List, ◌++◌, length, sym, ap, arith}
 use Rattle.base_store.proofs.Indexed.{no_chains}
 use Rattle.base_store.proofs.index.Index.new.Goals as goal
 

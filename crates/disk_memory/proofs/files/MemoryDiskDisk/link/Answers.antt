@@ -13,17 +13,5 @@ returns-clause-taken c = link_taken c.args.self.now.steps.items c.link.new.disk.
 pub returns-clause-kept : goal.returns-clause-kept
 returns-clause-kept c = link_kept c.args.self.now.steps.items c.link.new.disk.steps.items c.args.from.now c.args.to.now c.link.result c.link.ensures.adds
 
-pub returns-clause-beside : goal.returns-clause-beside
-returns-clause-beside c = (link_effect c.args.self.now.steps.items c.link.new.disk.steps.items c.args.from.now c.args.to.now c.link.result c.link.ensures.adds).beside
-
-pub returns-clause-crash : goal.returns-clause-crash
-returns-clause-crash c = (link_effect c.args.self.now.steps.items c.link.new.disk.steps.items c.args.from.now c.args.to.now c.link.result c.link.ensures.adds).crash
-
-pub returns-clause-named : goal.returns-clause-named
-returns-clause-named c = (link_effect c.args.self.now.steps.items c.link.new.disk.steps.items c.args.from.now c.args.to.now c.link.result c.link.ensures.adds).named
-
-pub returns-clause-flushed : goal.returns-clause-flushed
-returns-clause-flushed c = (link_effect c.args.self.now.steps.items c.link.new.disk.steps.items c.args.from.now c.args.to.now c.link.result c.link.ensures.adds).flushed
-
-pub returns-clause-alone : goal.returns-clause-alone
-returns-clause-alone c = (link_effect c.args.self.now.steps.items c.link.new.disk.steps.items c.args.from.now c.args.to.now c.link.result c.link.ensures.adds).alone
+pub returns-clause-changes : goal.returns-clause-changes
+returns-clause-changes c = link_effect c.args.self.now.steps.items c.link.new.disk.steps.items c.args.from.now c.args.to.now c.link.result c.link.ensures.adds

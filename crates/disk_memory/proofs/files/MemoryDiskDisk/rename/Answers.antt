@@ -10,14 +10,5 @@ returns-clause-gone c = renaming_gone c.rename.result c.args.self.now.steps.item
 pub returns-clause-kept : goal.returns-clause-kept
 returns-clause-kept c = renaming_kept c.rename.result c.args.self.now.steps.items c.rename.new.disk.steps.items c.args.from.now c.args.to.now c.requires.other c.rename.ensures.adds
 
-pub returns-clause-beside : goal.returns-clause-beside
-returns-clause-beside c = (renaming_effect c.rename.result c.args.self.now.steps.items c.rename.new.disk.steps.items c.args.from.now c.args.to.now c.requires.other c.rename.ensures.adds).beside
-
-pub returns-clause-crash : goal.returns-clause-crash
-returns-clause-crash c = (renaming_effect c.rename.result c.args.self.now.steps.items c.rename.new.disk.steps.items c.args.from.now c.args.to.now c.requires.other c.rename.ensures.adds).crash
-
-pub returns-clause-named : goal.returns-clause-named
-returns-clause-named c = (renaming_effect c.rename.result c.args.self.now.steps.items c.rename.new.disk.steps.items c.args.from.now c.args.to.now c.requires.other c.rename.ensures.adds).named
-
-pub returns-clause-alone : goal.returns-clause-alone
-returns-clause-alone c = (renaming_effect c.rename.result c.args.self.now.steps.items c.rename.new.disk.steps.items c.args.from.now c.args.to.now c.requires.other c.rename.ensures.adds).alone
+pub returns-clause-changes : goal.returns-clause-changes
+returns-clause-changes c = renaming_effect c.rename.result c.args.self.now.steps.items c.rename.new.disk.steps.items c.args.from.now c.args.to.now c.requires.other c.rename.ensures.adds

@@ -1,0 +1,111 @@
+-- One message by itself: which bytes are one, and which message they are.
+use Rattle.std.proofs.Common.{◌≡◌, ℕ, ◌<◌, not, nat_lt, Bool, true, false, List, [], ◌++◌, length, refl, sym, ap, subst, ◌∙◌, Some, None, arith, if◌then◌else◌}
+use Rattle.std.proofs.lemmas.Bool.{and_parts, cond-false, cond-true, or_from, or_parts, true≢false}
+use Rattle.std.proofs.lemmas.List.{append-nil}
+use Rattle.echo_packet.specs.Header.{AreBytes}
+use Rattle.echo_filed.specs.Filed.{Filed, IsFiled}
+use Rattle.echo_filed.specs.Fields.{StopsIn}
+use Rattle.echo_filed.specs.Stored.{IsStored, Stored, has_tag, is_short, is_short_enough, message_in, stored_bytes}
+use Rattle.echo_filed.specs.declared.stored.Version.TheVariants.{Second}
+use Rattle.echo_filed.proofs.StoredFields.{stopped_unread, stored_again, stored_in}
+use Rattle.base_file.specs.Alone.{IsStoredAlone, MayStandAlone, cursor_alone}
+use Rattle.base_file.specs.BaseFile.{has_wrong_form, has_wrong_last, has_wrong_sender, has_wrong_string, is_damaged, is_other_kind, stored_at}
+use Rattle.base_file.specs.Loading.{is_wrong}
+use Rattle.base_file.proofs.Saved.{not_damaged, size_at, stored_says}
+use Rattle.base_file.proofs.SavedAgain.{stored_at_back}
+use Rattle.base_file.proofs.Verdicts.{known_damaged, wrong_damaged}
+
+-- a message in front of bytes, and what follows it, are the only ones
+only_front : (s t : Stored) (rest more : List ℕ) → IsStored Second s → IsStored Second t → stored_bytes Second s ++ rest ≡ stored_bytes Second t ++ more → (s ≡ t) × (rest ≡ more)
+only_front s t rest more size size' same =
+    let one : Some (s, rest) ≡ Some (t, more) = sym (stored_again Second s rest size) ∙ ap (stored_in Second) same ∙ stored_again Second t more size' in
+    let here : Stored × List ℕ = (s, rest) in
+    let there : Stored × List ℕ = (t, more) in
+    let pair : here ≡ there = cc (one) in
+    (ap (λ (p : Stored × List ℕ). p.0) pair, ap (λ (p : Stored × List ℕ). p.1) pair)
+
+-- bytes are stored in one way
+pub only_stored : (s t : Stored) → IsStored Second s → IsStored Second t → stored_bytes Second s ≡ stored_bytes Second t → s ≡ t
+only_stored s t size size' same = (only_front s t [] [] size size' (ap (λ (bs : List ℕ). bs ++ []) same)).0
+
+-- and are one message
+pub only_message : (m n : Filed) (bytes : List ℕ) → IsStoredAlone m bytes → IsStoredAlone n bytes → m ≡ n
+only_message m n bytes one other =
+    sym one.is ∙ ap (message_in Second) (only_stored one.s other.s one.size other.size (sym one.same ∙ other.same)) ∙ other.is
+
+-- a message that was judged alone
+pub read_alone : (s : Stored) (m : Filed) (bytes : List ℕ) (cursor : ℕ) → IsStored Second s → bytes ≡ stored_bytes Second s → cursor ≡ cursor_alone s → is_wrong Second cursor 0 s ≡ false → m ≡ message_in Second s
+    → IsStoredAlone m bytes
+read_alone s m bytes cursor size same at right is = record {
+  s = s;
+  size = size;
+  alone = known_damaged Second (cursor_alone s) 0 [] s m false refl (ap (λ (n : ℕ). is_wrong Second n 0 s) (sym at) ∙ right) is refl;
+  is = sym is;
+  same = same;
+}
+
+-- bytes of a message that is wrong are no message
+pub none_wrong : (s : Stored) (bytes : List ℕ) (cursor : ℕ) → IsStored Second s → bytes ≡ stored_bytes Second s → cursor ≡ cursor_alone s → is_wrong Second cursor 0 s ≡ true
+    → (m : Filed) → IsStoredAlone m bytes → ⊥
+none_wrong s bytes cursor size same at wrong m alone =
+    let one : s ≡ alone.s = only_stored s alone.s size alone.size (sym same ∙ alone.same) in
+    let right : MayStandAlone s = subst MayStandAlone (sym one) alone.alone in
+    true≢false (sym (wrong_damaged Second (cursor_alone s) 0 [] s refl (ap (λ (n : ℕ). is_wrong Second n 0 s) (sym at) ∙ wrong)) ∙ right)
+
+-- nor are bytes behind which others follow
+pub none_longer : (s : Stored) (bytes rest : List ℕ) → IsStored Second s → bytes ≡ stored_bytes Second s ++ rest → 0 < length rest → (m : Filed) → IsStoredAlone m bytes → ⊥
+none_longer s bytes rest size same more m alone =
+    let none : rest ≡ [] = (only_front s alone.s rest [] size alone.size (sym same ∙ alone.same ∙ sym (append-nil (stored_bytes Second alone.s)))).1 in
+    omega (arith, more, ap length none)
+
+-- nor those that end inside one
+pub none_cut : (bytes : List ℕ) → AreBytes bytes → StopsIn Second bytes → (m : Filed) → IsStoredAlone m bytes → ⊥
+none_cut bytes are stops m alone =
+    let read : stored_in Second bytes ≡ Some (alone.s, []) =
+    ap (stored_in Second) (alone.same ∙ sym (append-nil (stored_bytes Second alone.s))) ∙ stored_again Second alone.s [] alone.size in
+    let none : None ≡ Some (alone.s, []) = sym (stopped_unread Second bytes are stops) ∙ read in
+    absurd (cc (none))
+
+true_of_not : (b : Bool) → not b ≡ false → b ≡ true
+true_of_not true h = refl
+true_of_not false h = absurd (true≢false h)
+
+-- the form that a message of a base has alone
+form_alone : (s : Stored) (cursor place : ℕ) (tagged : Bool) → has_tag Second s.kind ≡ tagged → has_wrong_form Second cursor place s ≡ false → has_wrong_form Second (if tagged then 1 else 0) 0 s ≡ false
+form_alone s cursor place true is right =
+    let m = message_in Second s in
+    let short : is_short Second cursor place m ≡ true =
+    true_of_not (is_short Second cursor place m) (sym (cond-true (has_tag Second s.kind) (not (is_short Second cursor place m)) (is_short Second cursor place m) is) ∙ right) in
+    let scanned : is_short Second 1 0 m ≡ true = (and_parts (nat_lt place cursor) (is_short Second 1 0 m) short).1 in
+    cond-true (has_tag Second s.kind) (not (is_short Second 1 0 m)) (is_short Second 1 0 m) is ∙ ap not scanned
+form_alone s cursor place false is right =
+    cond-false (has_tag Second s.kind) (not (is_short Second 0 0 (message_in Second s))) (is_short Second 0 0 (message_in Second s)) is
+
+-- a message of a base may stand alone
+pub stands_alone : (s : Stored) (cursor : ℕ) (earlier : List Filed) → is_damaged Second cursor earlier s ≡ false → MayStandAlone s
+unfolding is_damaged
+stands_alone s cursor earlier h =
+    let p1 = or_parts (is_other_kind Second s.kind) _ h in
+    let p2 = or_parts (has_wrong_sender s) _ p1.1 in
+    let p3 = or_parts (has_wrong_string s) _ p2.1 in
+    let p4 = or_parts (has_wrong_last Second s) _ p3.1 in
+    let p5 = or_parts (has_wrong_form Second cursor (length earlier) s) _ p4.1 in
+    or_from (is_other_kind Second s.kind) _ p1.0
+    (or_from (has_wrong_sender s) _ p2.0
+    (or_from (has_wrong_string s) _ p3.0
+    (or_from (has_wrong_last Second s) _ p4.0
+    (or_from (has_wrong_form Second (cursor_alone s) 0 s) _ (form_alone s cursor (length earlier) (has_tag Second s.kind) refl p5.0) refl))))
+
+-- a message, as it is saved in front of a base
+pub saved_alone : (m : Filed) (cursor : ℕ) → IsFiled m → is_short_enough (stored_at cursor 0 m) ≡ true → IsStoredAlone m (stored_bytes Second (stored_at cursor 0 m))
+saved_alone m cursor filed room = record {
+  s = stored_at cursor 0 m;
+  size = size_at cursor 0 m filed room;
+  alone = stands_alone (stored_at cursor 0 m) cursor [] (not_damaged cursor [] m filed refl);
+  is = stored_says cursor 0 m filed.is_echo;
+  same = refl;
+}
+
+-- which is how it is stored
+pub alone_again : (s : Stored) → IsStored Second s → MayStandAlone s → stored_at (cursor_alone s) 0 (message_in Second s) ≡ s
+alone_again s size alone = stored_at_back (cursor_alone s) [] s size alone

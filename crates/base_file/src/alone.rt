@@ -1,0 +1,39 @@
+//! One message by itself, read from its own bytes.
+ghost use Rattle.std.specs.Prelude.{◌≡◌, if◌then◌else◌, IfOk};
+ghost use Rattle.echo_filed.specs.Stored.{has_tag};
+ghost use Rattle.echo_filed.specs.declared.stored.Version.TheVariants.{Second};
+ghost use Rattle.base_file.specs.Alone.{IsReadAlone};
+
+use crate::judging::sound_message;
+use disk_io::{Broken, are_bytes};
+use echo_filed::{Filed, Version, has_tag, read_stored};
+use std::alloc::{AllocError, Global};
+
+// The cursor of a base file with only a message of this first byte.
+fn cursor_alone(kind: u8) -> usize
+    ensures { result ≡ (if has_tag Second kind then 1 else 0) }
+{
+    usize::from(has_tag(Version::Second, kind))
+}
+
+/// The message of these stored bytes, judged as `load` judges the only message of a base file. It counts as scanned if
+/// it has tag and id instead of the text. None if it is damaged, cut or followed by more bytes.
+pub fn read_message(alloc: Global, bytes: &[u8]) -> Result<Option<Filed>, AllocError>
+    ensures { IfOk result (IsReadAlone bytes.now) }
+{
+    are_bytes(bytes);
+    let mut rest = bytes;
+    let stored = match read_stored(alloc, &mut rest, Version::Second) {
+        Ok(stored) => stored,
+        Err(Broken::Memory) => return Err(AllocError),
+        Err(_) => return Ok(None),
+    };
+    if !rest.is_empty() {
+        return Ok(None);
+    }
+    let cursor = cursor_alone(stored.kind);
+    let Some((message, _)) = sound_message(alloc, Version::Second, cursor, 0, stored)? else {
+        return Ok(None);
+    };
+    Ok(Some(message))
+}
