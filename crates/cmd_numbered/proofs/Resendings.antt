@@ -1,5 +1,5 @@
 -- A packet that is made again, as an answer.
-use Rattle.std.proofs.Common.{◌≡◌, ℕ, zero, suc, ◌<◌, ◌++◌, List, [], ◌∷◌, Option, Some, None, Result, Ok, Err, ◌∙◌, inl, inr, refl, subst, arith, slice_get, length}
+use Rattle.std.proofs.Common.{◌≡◌, ℕ, zero, suc, ◌<◌, ◌++◌, List, [], ◌∷◌, Option, Some, Result, Ok, Err, ◌∙◌, inl, inr, refl, subst, arith, slice_get, length}
 use Rattle.base_file.specs.Base.{Base}
 use Rattle.base_folder.proofs.Fetchings.{never_read}
 use Rattle.echo_addr.specs.declared.address.Address.{Address}

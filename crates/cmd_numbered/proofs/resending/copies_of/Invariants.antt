@@ -1,6 +1,5 @@
 -- The copies of the messages so far.
-use Rattle.std.proofs.Common.{◌≡◌, ◌≤◌, ◌-◌, ◌++◌, take, drop, length}
-use Rattle.std.specs.Prelude.{min}
+use Rattle.std.proofs.Common.{◌≡◌, ◌≤◌, ◌-◌, ◌++◌, take, drop}
 use Rattle.base_file.specs.Base.{Base}
 use Rattle.model_steps.specs.Resending.{resent}
 use Rattle.echo_toss.proofs.Resendings.{copies_of}
