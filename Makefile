@@ -61,11 +61,14 @@ edits: toolchain
 	$(call prove,$(or $(only),$(notdir $(wildcard edits/*))))
 	scripts/edits.sh $(only)
 
+# Replaces a table in a document. Arguments: the script that prints it, the word of its marks, the document.
+put_table = $(1) | sed -i -e '/^<!-- $(2) -->/,/^<!-- end of $(2) -->/{//!d}' -e '/^<!-- $(2) -->/r /dev/stdin' $(3)
+
 edit-table:
-	scripts/edit_table.sh | sed -i -e '/^<!-- edits -->/,/^<!-- end of edits -->/{//!d}' -e '/^<!-- edits -->/r /dev/stdin' docs/PROOFS.md
+	$(call put_table,scripts/edit_table.sh,edits,docs/PROOFS.md)
 
 crate-table:
-	scripts/crate_table.sh | sed -i -e '/^<!-- crates -->/,/^<!-- end of crates -->/{//!d}' -e '/^<!-- crates -->/r /dev/stdin' docs/ARCHITECTURE.md
+	$(call put_table,scripts/crate_table.sh,crates,docs/ARCHITECTURE.md)
 
 times: toolchain
 	@mkdir -p bin

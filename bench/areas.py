@@ -15,6 +15,7 @@ sys.path.insert(0, os.path.join(TOP, "trials"))
 import files
 import making
 import nets
+from contents import write
 
 
 def put_net(folder, areas, count):
@@ -26,9 +27,9 @@ def put_net(folder, areas, count):
         tags = ["GROUP.AREA.%d" % area for area in range(areas)]
         chosen.shuffle(tags)
         path = os.path.join(folder, "%d.links" % number)
-        paths.append(files.put(path, making.link_file(nets.address(number), [(tag, links) for tag in tags])))
+        paths.append(write(path, making.link_file(nets.address(number), [(tag, links) for tag in tags])))
     chosen.shuffle(paths)
-    return files.put(os.path.join(folder, "names"), "".join(path + "\n" for path in paths).encode())
+    return write(os.path.join(folder, "names"), "".join(path + "\n" for path in paths).encode())
 
 
 def seconds(wanted, *words):

@@ -20,6 +20,7 @@ sys.path.insert(0, os.path.join(TOP, "trials"))
 import making
 import nets
 import running
+from contents import write
 
 PROGRAM = os.environ.get("ECHONET", os.path.join(TOP, "bin", "echonet"))
 ROUNDS = 3
@@ -27,18 +28,11 @@ SIZES = ["star", 100000, "chain", 100000, "tree", 100000, "polygons", 100000, "p
          "links", 80000, "again", 1, "again", 100000, "postings", 100000, "rounds", 1000]
 
 
-def put(path, content):
-    """Writes a file, and returns its path."""
-    with open(path, "wb") as file:
-        file.write(content)
-    return path
-
-
 def put_net(folder, links):
     """Writes the link files of a net, and a list of their paths. Returns the list."""
     names, _ = nets.write_net(folder, links)
     paths = [os.path.join(folder, name) for name in names]
-    return put(os.path.join(folder, "names"), "".join(path + "\n" for path in paths).encode())
+    return write(os.path.join(folder, "names"), "".join(path + "\n" for path in paths).encode())
 
 
 def runs(wanted, *words):
@@ -71,7 +65,7 @@ def check(make):
 def links(areas_of):
     """Those of a row for one link file with such areas."""
     def row(top, size):
-        path = put(os.path.join(top, "one.links"), making.link_file(nets.address(0), areas_of(size)))
+        path = write(os.path.join(top, "one.links"), making.link_file(nets.address(0), areas_of(size)))
         return ["cat", path], [PROGRAM, "links", path]
     return row
 
@@ -80,7 +74,7 @@ def replay(systems, lines_of):
     """Those of a row for such a script, on a tree of ten."""
     def row(top, size):
         names = put_net(os.path.join(top, "net"), tree(systems))
-        script = put(os.path.join(top, "script"), "".join(lines_of(size)).encode())
+        script = write(os.path.join(top, "script"), "".join(lines_of(size)).encode())
         return ["cat", script], [PROGRAM, "replay", "--links-from", names, script]
     return row
 

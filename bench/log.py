@@ -15,24 +15,13 @@ import time
 TOP = os.path.dirname(os.path.dirname(os.path.abspath(__file__)))
 sys.path.insert(0, os.path.join(TOP, "trials"))
 import making
+from contents import read, write
 
 PROGRAM = os.environ.get("ECHONET", os.path.join(TOP, "bin", "echonet"))
 ROUNDS = 3
 RECORD = 50
 BODY = 100
 STAMP = "2026-07-03T12:34:56"
-
-
-def write(path, content):
-    """Writes a file."""
-    with open(path, "wb") as file:
-        file.write(content)
-
-
-def read(path):
-    """The bytes of a file."""
-    with open(path, "rb") as file:
-        return file.read()
 
 
 def make_folder(place, count):

@@ -1,7 +1,7 @@
 #!/usr/bin/env bash
-# A story of three systems on real files: postings, scans, tosses in any order and twice, a refused
-# packet, purges and a reply. Each line that the program prints, and the bytes of the first files, are
-# compared with what the formats and rules in docs give, worked out by hand. Word: the program.
+# A story of three systems on real files: postings, scans, tosses in any order and twice, a refused packet, purges and
+# a reply. It compares each printed line, and the bytes of the first files, with the formats and rules in docs, worked
+# out by hand. Argument: the program.
 set -eu
 cd "$(dirname "$0")/.."
 . scripts/checks.sh
@@ -10,8 +10,8 @@ place=$(mktemp -d)
 trap 'rm -rf "$place"' EXIT
 cd "$place"
 
-# Runs the program. Words: what happens, the status, what is printed on standard output, and on standard
-# error, and the words of the program.
+# Runs the program. Arguments: the title, the status, standard output, standard error, and the arguments of the
+# program.
 run() {
   local what=$1 status=$2 out=$3 fault=$4 got=0
   shift 4
@@ -21,8 +21,8 @@ run() {
   same "$what: fault" "$fault" "$(cat fault.txt)"
 }
 
-# Posts to TEST at the moment of the story. Words: what happens, status, output, fault, body, system, to,
-# from, subject, serial, further options.
+# Posts to TEST at the time of the story. Arguments: the title, status, output, fault, body, system, to, from,
+# subject, serial, further options.
 posting() {
   local what=$1 status=$2 out=$3 fault=$4 body=$5 system=$6 to=$7 from=$8 subject=$9 serial=${10}
   shift 10
@@ -31,19 +31,19 @@ posting() {
     --subject "$subject" --serial "$serial" --at "$moment" "$@" "$system.links" "$system.base" < body.txt
 }
 
-scanning() { # what happens, output, system
+scanning() { # title, output, system
   run "$1" 0 "$2" "" scan --at "$moment" "$3.links" "$3.base" "$3"
 }
 
-tossing() { # what happens, output, system, packets
+tossing() { # title, output, system, packets
   run "$1" 0 "$2" "" toss "$3.links" "$3.base" "${@:4}"
 }
 
-purging() { # what happens, how many, system
+purging() { # title, how many, system
   run "$1" 0 "purged $2" "" purge "$3.links" "$3.base"
 }
 
-# Lists a base. Words: what happens, the lines, the words of `list`. A program without `list` is spared.
+# Lists a base. Arguments: the title, the lines, the arguments of `list`. A program without `list` is spared.
 has_list=yes
 "$program" list --help > /dev/null 2>&1 || has_list=no
 listing() {
@@ -65,8 +65,8 @@ printf 'SYSTEM 1:10/3\nNAME Gamma\nAREA TEST 1:10/2\n' > three.links
 
 run "the area is in order" 0 "yes TEST 3 systems 2 links" "" check TEST one.links two.links three.links
 
-# The first posting. The numbers; first byte, sender, DateTime; names and subject; the text's length and
-# its five lines: 16 + 27 + 11 + 82 bytes.
+# The first posting. The numbers; first byte, sender, DateTime; names and subject; the text's length and its five
+# lines: 16 + 27 + 11 + 82 bytes.
 posting "Ann posts" 0 "posted TEST 1:10/1 00000001" "" Hello one All Ann Hi 00000001
 base=$(hexadecimal '4543484f42415332 00000000 01000000
   00 000000000000 3033204a756c203236202031323a33343a353600
@@ -112,7 +112,7 @@ same "the packet" "$(hexadecimal '0100 0200 ea07 0600 0300 0c00 2200 3800 0000 0
 scanning "Alpha scans again" "" one
 same "no packet more" "1.10.2.0.pkt" "$(ls one)"
 
-# It is for 1:10/2. Gamma refuses it, and its base is an empty one.
+# It is for 1:10/2. Gamma refuses it, and its base is empty.
 run "Gamma tosses what is not for it" 2 "$(tally 0 0)" "echonet: C1 NotForUs 1:10/2" \
   toss three.links three.base $first
 same "an empty base" 4543484f424153320000000000000000 "$(digits three.base)"
@@ -123,7 +123,7 @@ run "Beta tosses a cut packet" 2 "$(tally 0 0)" "echonet: P1 Truncated at 96" to
 tossing "Beta tosses it" "$(tally 1 0)" two $first
 tossing "Beta tosses it again" "$(tally 0 1)" two $first
 
-# Two bytes more in SEEN-BY, two in PATH.
+# Two more bytes in SEEN-BY, two in PATH.
 scanning "Beta scans" "packet 1:10/3 1 messages 216 bytes" two
 run "what Beta sends" 0 "packet 1:10/2 to 1:10/3 at 2026-07-03 12:34:56 product 0 serial 0
 password 0000000000000000
@@ -141,7 +141,7 @@ origin  * Origin: Alpha (1:10/1)
 seen 3 path 2 dropped 0
 end 1 messages, 216 bytes" "" show two/1.10.3.0.pkt
 
-# A second posting. Its packet comes before the first one, which comes again.
+# A second posting. Its packet is tossed before the first one, which is tossed again.
 posting "Ann posts again" 0 "posted TEST 1:10/1 00000002" "" Hello one All Ann Hi 00000002
 scanning "Alpha scans for the second" "packet 1:10/2 1 messages 212 bytes" one
 tossing "Beta tosses both, the later first" "$(tally 1 0)
@@ -162,7 +162,7 @@ purging "Alpha purges again" 0 one
 posting "a purged serial again" 2 "" "echonet: B4 KnownSerial" Hello one All Ann Hi 00000001
 
 # A reply. Text: 10 + 24 + 24 + 7 + 12 + 26 + 16 + 12 = 131; packet: 58 + 14 + 20 + 4 + 4 + 7 + 132 + 2.
-# What Gamma received from its one link goes to nobody.
+# Gamma sends what it received from its only link to no system.
 posting "Cid replies" 0 "posted TEST 1:10/3 00000001" "" "Hi Ann" three Ann Cid "Re: Hi" 00000001 \
   --reply "1:10/1 00000001"
 scanning "Gamma scans" "packet 1:10/2 1 messages 241 bytes" three
@@ -188,12 +188,12 @@ end 1 messages, 245 bytes" "" show $reply
 tossing "Alpha tosses the reply" "$(tally 1 0)" one $reply
 tossing "Alpha tosses it again" "$(tally 0 1)" one $reply
 
-# The reply waits at Alpha, so a purge leaves it; a scan has nobody to send it to; then it is purged.
+# The reply waits at Alpha, so a purge leaves it. A scan has no system to send it to. Then it is purged.
 purging "Alpha purges while it waits" 0 one
 scanning "Alpha scans the reply" "" one
 purging "Alpha purges the reply" 1 one
 
-# Packets of long ago come to a purged base.
+# Old packets are tossed onto a purged base.
 purging "Beta purges" 3 two
 tossing "packets of long ago" "$(tally 0 1)
 $(tally 0 1)
@@ -201,8 +201,8 @@ $(tally 0 1)" two $first three/1.10.2.0.pkt one/1.10.2.1.pkt
 scanning "Beta has nothing to send" "" two
 scanning "Gamma has nothing to send" "" three
 
-# The last message of each: posted and scanned, and purged; and the second of Gamma, which came with the
-# first scan of Beta.
+# The last message of each: posted and scanned, and purged. Also the second of Gamma, which came with the first scan
+# of Beta.
 listing "the reply where it was posted" "message 2 area TEST posted
 date 03 Jul 26  12:34:56\\x00
 to Ann

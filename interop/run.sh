@@ -87,7 +87,7 @@ post_echonet() {
   cat > body.txt
   "$program" post --area "$2" --to "$3" --from "$4" --subject "$5" --serial "$6" --at "$7" \
     "${reply[@]}" "$1/links" "$1/base" < body.txt > posted.txt
-  same "a posting at $1 is told" "posted $2 $id" "$(cat posted.txt)"
+  same "a posting at $1 is printed" "posted $2 $id" "$(cat posted.txt)"
   date=$(LC_ALL=C date -u -d "$7Z" '+%d %b %y  %H:%M:%S')
   perl "$here/mail.pl" posted "$2" "$id" "${8:-}" "$4" "$3" "$5" "$date" \
     "--- echonet" " * Origin: $name (1:10/$number)" < body.txt >> "expected/$1"

@@ -44,7 +44,7 @@ type_it() {
     good=$((good + 1))
   else
     bad=$((bad + 1))
-    printf 'DIFFERS: %s\n  told:\n%s\n  printed:\n%s\n' "$command" "$expected" "$(cat "$place/printed")"
+    printf 'DIFFERS: %s\n  expected:\n%s\n  printed:\n%s\n' "$command" "$expected" "$(cat "$place/printed")"
   fi
   command=
   expected=
@@ -61,5 +61,5 @@ while IFS= read -r line; do
   esac
 done < "$document"
 type_it
-echo "$good commands printed what is told, $bad did not"
+echo "$good commands printed what the document says, $bad did not"
 [ $bad -eq 0 ]

@@ -64,7 +64,7 @@ for command in $commands; do
   heading=$(sed -n 's/^\.SS //p' <<< "$part")
   options=$(help_options "$help")
   same "$command: options in the heading" "$options" "$(heading_options "$heading" || true)"
-  same "$command: options told" "$options" "$(page_options "$part")"
+  same "$command: options described" "$options" "$(page_options "$part")"
   # An option has brackets in the heading if the usage line leaves it out.
   same "$command: options that may be left out" "$(left_out "$help" "$options")" \
     "$(grep -oE '\[--[a-z-]+' <<< "$heading" | tr -d '[' | sort || true)"

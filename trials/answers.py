@@ -18,6 +18,7 @@ import tempfile
 
 import export
 import making
+from contents import PROGRAM
 
 CODECS = {
     "ASCII": "ascii", "CP437": "cp437", "CP850": "cp850", "CP866": "cp866", "CP1251": "cp1251", "KOI8-R": "koi8_r",
@@ -28,8 +29,6 @@ LETTERS = {
     "LATIN-1": "éÿþ¼", "UTF-8": "éЖ中\U0001f600"}
 FORMS = (("us-ascii", "7bit"), ("utf-8", "8bit"), ("utf-8", "quoted-printable"), ("utf-8", "base64"),
          ("iso-8859-1", "quoted-printable"), ("koi8-r", "8bit"), ("windows-1251", "base64"), ("cp866", "8bit"))
-TOP = os.path.dirname(os.path.dirname(os.path.abspath(__file__)))
-PROGRAM = os.environ.get("ECHONET", os.path.join(TOP, "bin", "echonet"))
 LINKS = making.link_file((1, 10, 1), [("TEST", [(1, 10, 2)])])
 MARKS = ",:;()@\"\\"
 LONGEST_NAME, LONGEST_SUBJECT, MOST = 35, 71, 20

@@ -14,18 +14,14 @@ import tempfile
 import making
 import running
 import topologies
+from contents import PROGRAM, write
 
-TOP = os.path.dirname(os.path.dirname(os.path.abspath(__file__)))
-PROGRAM = os.environ.get("ECHONET", os.path.join(TOP, "bin", "echonet"))
 COMMANDS = ((("check",), b""), (("why",), b"; "), (("picture",), b"// "), (("picture", "--why"), b"// "))
 
 
 def put(folder, name, content):
     """Writes a file, and returns its path."""
-    path = os.path.join(folder, name)
-    with open(path, "wb") as file:
-        file.write(content)
-    return path
+    return write(os.path.join(folder, name), content)
 
 
 def assumed_file(system, tag, told):

@@ -68,7 +68,7 @@ for ((number = 0; number < times; number++)); do
   esac
 done
 expect "of two scans into one folder one ends well, not $both times another number" [ $both = 0 ]
-expect "the packet that stands is that of the scan that ended well, and the other waits ($wrong wrong)" [ $wrong = 0 ]
+expect "the packet is that of the scan that ended well, and the other waits ($wrong wrong)" [ $wrong = 0 ]
 echo "two stations scanned into one folder $times times; $late times the name was taken behind the other's base"
 if [ $kind = folders ]; then
   finish beside
@@ -89,7 +89,7 @@ if command -v strace > /dev/null; then
   run strace -o calls -s 16 "$program" scan --at $stamp 1.links 1.base out
   expect "a scan's calls: $(order)" [ "$(order)" = \
     "line flush make flush make owner owner mode flush rename flush link flush unlink flush end" ]
-  expect "files beside are made for the owner alone" [ "$(grep -c 'O_EXCL.*0600)' calls)" = 2 ]
+  expect "only the owner may read staging files" [ "$(grep -c 'O_EXCL.*0600)' calls)" = 2 ]
 else
   echo "strace is not installed: no order of calls"
 fi

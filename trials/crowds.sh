@@ -92,6 +92,6 @@ packets=$(ls out*/1.10.3.*.pkt)
 expect "the link tosses them" eval "'$program' toss 3.links 3.base $(echo $packets) > said"
 expect "each was sent once" [ "$(awk '{ known += $4 } END { print known + 0 }' said)" = 0 ]
 expect "the link has each once" ids_are 3.base want
-expect "nothing is left beside" is_none base.*.new out*/*.new
+expect "no staging file is left" is_none base.*.new out*/*.new
 echo "$((processes * (each + 50))) messages by $((2 * processes + 4)) processes, $(echo $packets | wc -w) scans with packets"
 finish crowds

@@ -62,7 +62,7 @@ if [ "$(id -u)" = 0 ]; then chown ftn "$ftn/inb/cut.pkt"; fi
 unit
 expect "the unit fails where a packet is put aside" [ $? = 1 ]
 expect "each packet has its line" [ "$(cut -d ' ' -f 2 "$ftn/log" | sort | uniq -c | xargs)" = "1 aside 20 came 1 sent" ]
-expect "the reason is beside the packet" [ "$(ls "$ftn/bad" | xargs)" = "cut.pkt cut.pkt.why" ]
+expect "the reason is in a file of its own" [ "$(ls "$ftn/bad" | xargs)" = "cut.pkt cut.pkt.why" ]
 wait_for has_come
 expect "the neighbour has all" [ "$(has one/base)" = "end 25 messages, 0 waiting" ]
 expect "nothing is left on its way" [ -z "$(on_way)" ]

@@ -16,14 +16,13 @@ import tempfile
 
 import making
 import reading
+from contents import PROGRAM, TOP
 
 CHARSETS = {
     b"ASCII": "ASCII", b"CP437": "CP437", b"CP850": "CP850", b"CP866": "CP866", b"CP1251": "CP1251",
     b"KOI8-R": "KOI8-R", b"LATIN-1": "ISO-8859-1", b"UTF-8": "UTF-8"}
 OLD_NAMES = {b"IBMPC": b"CP437", b"+7_FIDO": b"CP866"}
 LOST = "\ufffd"
-TOP = os.path.dirname(os.path.dirname(os.path.abspath(__file__)))
-PROGRAM = os.environ.get("ECHONET", os.path.join(TOP, "bin", "echonet"))
 MOST = 500
 DATES = ((making.DATE, "03 Jul 2026 12:34:56 -0000"), (b"29 Feb 80  00:00:00\0", "29 Feb 1980 00:00:00 -0000"),
          (b"31 Dec 99  23:59:59\0", "31 Dec 1999 23:59:59 -0000"), (b"03 \n\n\n 26  12:34:56\0", None),

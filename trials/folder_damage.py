@@ -15,8 +15,9 @@ import sys
 import tempfile
 
 import making
-from folder_station import (COMMANDS, MOMENT, content_of, converted, copy_of, expect, filled_station, finish, is_orderly,
-                            new_station, put, run)
+from contents import content_of, write
+from folder_station import (COMMANDS, MOMENT, converted, copy_of, expect, filled_station, finish, is_orderly,
+                            new_station, run)
 
 
 def small_station(folder):
@@ -25,11 +26,11 @@ def small_station(folder):
     os.mkdir(os.path.join(folder, "base"))
     scan = ("scan", "--at", MOMENT, "links", "base", "out")
     plain = making.text(b"TEST", [b"No id", b" * Origin: Two (1:10/2)"], [(10, 1), (10, 2)], [(10, 2)])
-    put(os.path.join(folder, "last.pkt"), making.packet(
+    write(os.path.join(folder, "last.pkt"), making.packet(
         making.UPLINK, making.OWN, [making.packed(making.UPLINK, making.OWN, plain)]))
     for number in (0, 1):
-        put(os.path.join(folder, "%d.pkt" % number), making.plain_packet([number], 20))
-    put(os.path.join(folder, "new.pkt"), making.plain_packet(range(1, 4), 20))
+        write(os.path.join(folder, "%d.pkt" % number), making.plain_packet([number], 20))
+    write(os.path.join(folder, "new.pkt"), making.plain_packet(range(1, 4), 20))
     for words in (("toss", "links", "base", "0.pkt"), scan, ("purge", "links", "base"), ("toss", "links", "base", "1.pkt"),
                   scan, ("toss", "links", "base", "last.pkt")):
         ended = run(folder, *words)
@@ -92,7 +93,7 @@ def each_byte(step, folder):
             for change in (0x01, 0x20, 0xff):
                 what = "byte %d of %s changed by %02x" % (at, name, change)
                 place = copy_of(station, os.path.join(folder, "place"))
-                put(os.path.join(place, "base", name), content[:at] + bytes([content[at] ^ change]) + content[at + 1:])
+                write(os.path.join(place, "base", name), content[:at] + bytes([content[at] ^ change]) + content[at + 1:])
                 answers += read_spoiled(what, place, name, keys)
                 change_spoiled(what, place, [commands[number % len(commands)]])
                 number += 1
@@ -121,7 +122,7 @@ def by_chance(count, folder):
         if deed == "remove":
             os.remove(path)
         else:
-            put(path, bytes(content))
+            write(path, bytes(content))
         what = "%s at %d of %s" % (deed, at, name)
         read_spoiled(what, place, name, keys)
         change_spoiled(what, place, [("export", "base"), *COMMANDS.values()])

@@ -19,8 +19,9 @@ import sys
 import tempfile
 
 import making
-from folder_station import (COMMANDS, PROGRAM, converted, copy_of, expect, filled_station, finish, is_orderly,
-                            new_station, packets_in, run)
+from contents import PROGRAM
+from folder_station import (COMMANDS, converted, copy_of, expect, filled_station, finish, is_orderly, new_station,
+                            packets_in, run)
 
 CHANGES = ("fsync", "fdatasync", "ftruncate", "link", "linkat", "unlink", "unlinkat", "rename", "pwrite64")
 

@@ -1,14 +1,12 @@
-"""Shared by the trials of base folders: the program, stations, runs, the base file of a base, and counts of what
-held."""
+"""Shared by the trials of base folders: stations, runs, the base file of a base, and counts of what held."""
 import os
 import shutil
 import subprocess
 import sys
 
 import making
+from contents import PROGRAM, content_of, write
 
-TOP = os.path.dirname(os.path.dirname(os.path.abspath(__file__)))
-PROGRAM = os.path.realpath(os.environ.get("ECHONET", os.path.join(TOP, "bin", "echonet")))
 MOMENT = "2000-01-01T00:00:00"
 AREAS = [("TEST", [making.UPLINK, *making.DOWNLINKS]), ("OTHER", [making.UPLINK])]
 HELD = {True: 0, False: 0}
@@ -19,21 +17,6 @@ def expect(what, held):
     HELD[bool(held)] += 1
     if not held:
         print("failed: " + what, file=sys.stderr, flush=True)
-
-
-def content_of(path):
-    """The bytes of a file, or None."""
-    try:
-        with open(path, "rb") as file:
-            return file.read()
-    except (FileNotFoundError, IsADirectoryError):
-        return None
-
-
-def put(path, content):
-    """Writes a file."""
-    with open(path, "wb") as file:
-        file.write(content)
 
 
 def run(folder, *words, given=b"", before=()):
@@ -68,9 +51,9 @@ def converted(folder, base="base"):
 def new_station(folder):
     """The files of a station without a base."""
     os.makedirs(os.path.join(folder, "out"))
-    put(os.path.join(folder, "links"), making.link_file(making.OWN, AREAS, "Alpha"))
-    put(os.path.join(folder, "faulty.links"), b"FOO\n")
-    put(os.path.join(folder, "other.links"), making.link_file(making.UPLINK, [("TEST", [making.OWN])]))
+    write(os.path.join(folder, "links"), making.link_file(making.OWN, AREAS, "Alpha"))
+    write(os.path.join(folder, "faulty.links"), b"FOO\n")
+    write(os.path.join(folder, "other.links"), making.link_file(making.UPLINK, [("TEST", [making.OWN])]))
     return folder
 
 
@@ -79,8 +62,8 @@ def filled_station(folder):
     new_station(folder)
     os.mkdir(os.path.join(folder, "base"))
     for number, first in enumerate((0, 6, 12)):
-        put(os.path.join(folder, "%d.pkt" % number), making.plain_packet(range(first, first + 6), 100))
-    put(os.path.join(folder, "new.pkt"), making.plain_packet(range(14, 24), 100))
+        write(os.path.join(folder, "%d.pkt" % number), making.plain_packet(range(first, first + 6), 100))
+    write(os.path.join(folder, "new.pkt"), making.plain_packet(range(14, 24), 100))
     steps = (("toss", "links", "base", "0.pkt"), ("scan", "--at", MOMENT, "links", "base", "out"),
              ("purge", "links", "base"), ("toss", "links", "base", "1.pkt"),
              ("scan", "--at", MOMENT, "links", "base", "out"), ("toss", "links", "base", "2.pkt"))

@@ -17,8 +17,8 @@ import sys
 import tempfile
 
 import making
-from folder_station import (AREAS, COMMANDS, MOMENT, PROGRAM, content_of, converted, expect, filled_station, finish,
-                            new_station, packets_in, put, run)
+from contents import PROGRAM, content_of, write
+from folder_station import COMMANDS, MOMENT, converted, expect, filled_station, finish, new_station, packets_in, run
 
 
 class Pair:
@@ -42,7 +42,7 @@ class Pair:
     def put_both(self, name, content):
         """The same file for both."""
         for folder in (self.file, self.folder):
-            put(os.path.join(folder, name), content)
+            write(os.path.join(folder, name), content)
 
     def some_serial(self):
         """Mostly a new serial."""
@@ -175,10 +175,10 @@ def beside(folder):
         counts = []
         while changes.poll() is None:
             ended = run(station, "list", "base")
-            expect("list beside others: %r" % (ended,), ended[0] == 0)
+            expect("list while others run: %r" % (ended,), ended[0] == 0)
             counts.append(int(re.search(rb"end (\d+) messages", ended[1])[1]) if ended[0] == 0 else 0)
             base = converted(station)
-            expect("convert beside others: %r" % (base[:3],), isinstance(base, bytes))
+            expect("convert while others run: %r" % (base[:3],), isinstance(base, bytes))
             if isinstance(base, bytes):
                 count, waiting, scanned = moment_of(base)
                 counts.append(count)
@@ -200,7 +200,7 @@ def others(folder):
     expect("nothing has changed", converted(station) == held)
     stranger = os.path.join(station, "stranger")
     os.mkdir(stranger)
-    put(os.path.join(stranger, "notes"), b"x")
+    write(os.path.join(stranger, "notes"), b"x")
     for words in (("list", "stranger"), *([*words[:-2], "links", "stranger"] for words in
                                           (COMMANDS["post"], COMMANDS["purge"]))):
         ended = run(station, *words)

@@ -71,7 +71,7 @@ limit() {
   look_at_files "$1" "$status"
   if [ "$most" -gt $(($2 * 1024)) ]; then
     expect "$1 at $2 blocks: one line and 3" ended_with_fault "$status" 3 fault "echonet: cannot use "
-    expect "$1: nothing left beside" is_none base.*.new out/*.new
+    expect "$1: no staging file is left" is_none base.*.new out/*.new
   fi
   # The signal of a file that grows too large may end the program if it is not ignored.
   start "$1"
@@ -96,7 +96,7 @@ start_again() {
     cp "$1.before" base
     expect "$1 again" eval "run_command $1 > /dev/null 2> fault"
     look_at_files "$1" 0
-    expect "$1 again: nothing left beside" is_none base.*.new out/*.new
+    expect "$1 again: no staging file is left" is_none base.*.new out/*.new
   fi
 }
 
@@ -117,7 +117,7 @@ fill() {
   fi
   expect "$1 with $2 kB left on the disk: one line and 3" ended_with_fault "$status" 3 fault "echonet: cannot use "
   expect "$1: the old base" base_is disk/base "$1.before"
-  expect "$1: nothing left beside" is_none disk/base.*.new disk/out/*.new
+  expect "$1: no staging file is left" is_none disk/base.*.new disk/out/*.new
   for packet in disk/out/*.pkt; do
     [ -e "$packet" ] || continue
     expect "$1: a whole packet" cmp -s "$packet" "$(basename "$packet")"

@@ -14,9 +14,8 @@ import time
 import growing
 import making
 import running
+from contents import PROGRAM, TOP
 
-TOP = os.path.dirname(os.path.dirname(os.path.abspath(__file__)))
-PROGRAM = os.environ.get("ECHONET", os.path.join(TOP, "bin", "echonet"))
 MOST_RATIO = 2.5
 # With less than these seconds a ratio means nothing.
 LEAST_SECONDS = 0.5

@@ -15,9 +15,8 @@ import laws
 import reading
 import running
 import small
+from contents import PROGRAM, TOP
 
-TOP = os.path.dirname(os.path.dirname(os.path.abspath(__file__)))
-PROGRAM = os.environ.get("ECHONET", os.path.join(TOP, "bin", "echonet"))
 EXAMPLES = os.path.join(TOP, "examples")
 SEED = "echonet"
 

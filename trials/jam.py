@@ -20,8 +20,8 @@ import zlib
 
 import export
 import making
+from contents import PROGRAM, read, write
 
-PROGRAM = export.PROGRAM
 ENDS = (".jhr", ".jdt", ".jdx", ".jlr")
 GONE, DELETED, ECHOMAIL, LOCAL, SENT = 0xffffffff, 1 << 31, 1 << 24, 1, 16
 MONTHS = "JanFebMarAprMayJunJulAugSepOctNovDec"
@@ -80,12 +80,6 @@ class Jam:
         """The count of active messages is that of the index."""
         if self.active != len(self.messages):
             sys.exit("active: %d, and not %d" % (self.active, len(self.messages)))
-
-
-def read(path):
-    """The bytes of a file."""
-    with open(path, "rb") as file:
-        return file.read()
 
 
 def is_pair(date, at):
@@ -159,8 +153,7 @@ def made(chance, number, ids):
 
 def write_base(path, messages):
     """Makes the base of these messages, of which the first were scanned."""
-    with open(path, "wb") as file:
-        file.write(making.base(sum(message.scanned for message in messages), [message.content for message in messages]))
+    write(path, making.base(sum(message.scanned for message in messages), [message.content for message in messages]))
 
 
 def run(path, base, first=0):
@@ -226,8 +219,7 @@ def contents(path):
 def put(path, files):
     """Makes the four files."""
     for end, content in zip(ENDS, files):
-        with open(path + end, "wb") as file:
-            file.write(content)
+        write(path + end, content)
 
 
 def stops(chance, before, after):

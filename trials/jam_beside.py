@@ -17,8 +17,8 @@ import threading
 import time
 
 import jam
+from contents import TOP
 
-TOP = os.path.dirname(os.path.dirname(os.path.abspath(__file__)))
 READER = os.path.join(TOP, "examples", "net", "reader.sh")
 OWN = 1 << 24
 

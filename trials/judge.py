@@ -8,9 +8,8 @@ from typing import NamedTuple
 
 import making
 import reading
+from contents import PROGRAM, read
 
-TOP = os.path.dirname(os.path.dirname(os.path.abspath(__file__)))
-PROGRAM = os.path.realpath(os.environ.get("ECHONET", os.path.join(TOP, "bin", "echonet")))
 LINKED = (making.UPLINK, *making.DOWNLINKS)
 LINKS = making.link_file(making.OWN, [("TEST", LINKED)], "Alpha")
 MSGID = re.compile(rb"\x01MSGID: [^\r]*\r")
@@ -64,8 +63,7 @@ def number_of(text):
 
 def content(*path):
     """The bytes of a file."""
-    with open(os.path.join(*path), "rb") as file:
-        return file.read()
+    return read(os.path.join(*path))
 
 
 def files_of(folder, end):

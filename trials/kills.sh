@@ -41,7 +41,7 @@ after_toss() {
   expect "the toss again" eval "toss > said 2> fault"
   expect "its tally" [ "$(cat said)" = "$want notecho 0 badtag 0 noarea 0 notlinked 0" ]
   expect "the base at the end" base_is base tossed.base
-  expect "nothing beside it" is_none base.*.new
+  expect "no staging file" is_none base.*.new
 }
 
 # The same for a scan. A packet with its name is whole, and its scan moved the cursor. The next scan names the other
@@ -56,7 +56,7 @@ after_scan() {
   done
   expect "the scan again" eval "scan > said 2> fault"
   expect "the base at the end" base_is base scanned.base
-  expect "nothing beside it" is_none base.*.new out/*.new
+  expect "no staging file" is_none base.*.new out/*.new
   expect "each packet once" [ "$(ls out | wc -l)" = 2 ]
   for link in 3 4; do
     for packet in out/1.10.$link.*; do

@@ -21,6 +21,7 @@ import shutil
 
 import making
 import reading
+from contents import content_of, write
 
 TALLY = re.compile(rb"filed (\d+) known (\d+) notecho (\d+) badtag (\d+) noarea (\d+) notlinked (\d+)\n")
 PACKET_LINE = re.compile(rb"packet (\S+) (\d+) messages (\d+) bytes\n")
@@ -41,17 +42,11 @@ class Trial:
 
     def put(self, name, content):
         """Writes a file."""
-        with open(self.path(name), "wb") as file:
-            file.write(content)
-        return self.path(name)
+        return write(self.path(name), content)
 
     def get(self, name):
         """The bytes of a file, or None."""
-        try:
-            with open(self.path(name), "rb") as file:
-                return file.read()
-        except FileNotFoundError:
-            return None
+        return content_of(self.path(name))
 
     def drop(self, *names):
         """Removes files."""
@@ -288,7 +283,7 @@ def check_all_areas(trial, paths, files):
     each = [trial.run("check", "--", tag.decode(), *paths) for tag in tags]
     every = trial.run("check", "--all", *paths)
     trial.holds("each area is checked", every.out == b"".join(one.out for one in each))
-    trial.holds("a no is told", every.status == max((one.status for one in each), default=0))
+    trial.holds("a no has status 1", every.status == max((one.status for one in each), default=0))
 
 
 def try_links(trial, files):
@@ -297,7 +292,7 @@ def try_links(trial, files):
     listed = trial.runner.run("links", "--areas", *paths)
     trial.holds("all faulty lines are listed", listed.out == b"".join(map(listed_links, paths, files)))
     is_faulty = any(reading.judge_links(content)[1] for content in files)
-    trial.holds("a fault is told", (listed.status, listed.fault) == (2 * is_faulty, b""))
+    trial.holds("a fault has status 2", (listed.status, listed.fault) == (2 * is_faulty, b""))
     checked = trial.run("check", "test", *paths)
     drawn = trial.run("picture", "test", *paths)
     trial.holds("both end alike", (checked.status, checked.fault) == (drawn.status, drawn.fault))

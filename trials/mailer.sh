@@ -106,7 +106,7 @@ for held in "$$ 2" "none 2"; do
 done
 touch -d '2 hours ago' $flow.bsy
 run scan
-expect "an old hold of nobody is taken over" [ "$status $(wc -l < $flow.flo)" = "0 3" ]
+expect "an old hold without a process is taken over" [ "$status $(wc -l < $flow.flo)" = "0 3" ]
 post Seventh
 sh -c 'echo $$' > $flow.bsy
 run scan
@@ -188,7 +188,7 @@ sed -i 's, 1:10/1,,' two/links
 for tool in grep awk; do printf '#!/bin/sh\necho "%s: memory exhausted" >&2\nexit 2\n' $tool > tools/$tool; done
 chmod +x tools/*
 run env PATH="$work/tools:$PATH" "$scripts/toss-inbound.sh" two
-expect "a packet stays where nothing can be told of it" [ "$status $(ls two/tossing | grep -c pkt)" = "2 1" ]
+expect "a packet stays if nothing is known of it" [ "$status $(ls two/tossing | grep -c pkt)" = "2 1" ]
 rm -rf tools
 cp links two/links
 run toss

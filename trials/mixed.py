@@ -14,7 +14,8 @@ import tempfile
 import threading
 import time
 
-from judge import LINKS, PROGRAM, Judge, Message, files_of, number_of, texts_of
+from contents import PROGRAM
+from judge import LINKS, Judge, Message, files_of, number_of, texts_of
 
 CHANCES = {"post": 8, "toss": 4, "scan": 4, "purge": 2, "list": 2, "mbox": 1, "convert": 1}
 # The commands of docs/OPERATORS.md, in both directions.

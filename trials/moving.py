@@ -17,10 +17,10 @@ import time
 import making
 import reading
 import stored
-from jam import PROGRAM, crashmail_settings, read
-from readers import expect, write
+from contents import PROGRAM, TOP, read, write
+from jam import crashmail_settings
+from readers import expect
 
-TOP = os.path.dirname(os.path.dirname(os.path.abspath(__file__)))
 MOVE = os.path.join(TOP, "examples", "move")
 OWN, LINKS, NOBODY = (1, 10, 2), ((1, 10, 1), (1, 10, 3)), (1, 10, 30000)
 AREAS = (b"JTEST", b"MTEST")

@@ -11,9 +11,8 @@ import tempfile
 
 import making
 import running
+from contents import PROGRAM, TOP
 
-TOP = os.path.dirname(os.path.dirname(os.path.abspath(__file__)))
-PROGRAM = os.environ.get("ECHONET", os.path.join(TOP, "bin", "echonet"))
 MOST_RATIO, LEAST_SECONDS = 2.5, 0.2
 
 

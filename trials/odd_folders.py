@@ -12,7 +12,8 @@ import subprocess
 import sys
 import tempfile
 
-from folder_station import COMMANDS, HELD, PROGRAM, content_of, filled_station, finish, is_orderly, packets_in, put
+from contents import PROGRAM, content_of, write
+from folder_station import COMMANDS, HELD, filled_station, finish, is_orderly, packets_in
 from judge import texts_of
 
 READING = {"list": ("list", "base"), "export": ("export", "base"), "convert": ("convert", "base", "made")}
@@ -112,7 +113,7 @@ class Odd:
         def spoil(base):
             os.remove(os.path.join(base, name))
             if content is not None:
-                put(os.path.join(base, name), content)
+                write(os.path.join(base, name), content)
         return spoil
 
     def other_kind(self, name, deed):
@@ -135,7 +136,7 @@ class Odd:
             shutil.rmtree(base)
             os.mkdir(base)
             for name, content in contents.items():
-                put(os.path.join(base, name), content)
+                write(os.path.join(base, name), content)
         return spoil
 
 

@@ -21,7 +21,7 @@ for file in bin/echonet share/man/man1/echonet.1 share/echonet/{post,reader,toss
   share/echonet/{jam-lock,printable.awk,echonet.service,echonet.timer,echonet.logrotate,settings} share/doc/echonet/{README,OPERATORS,FORMATS}.md \
   share/bash-completion/completions/echonet share/zsh/site-functions/_echonet \
   share/fish/vendor_completions.d/echonet.fish share/echonet/move/{links-from,packets.py}; do
-  check "$file stands there" "$([ -s "$root/one/usr/$file" ] && echo yes)" yes
+  check "$file is there" "$([ -s "$root/one/usr/$file" ] && echo yes)" yes
 done
 for folder in net nets; do
   check "examples/$folder" "$(diff -r "examples/$folder" "$root/one/usr/share/doc/echonet/examples/$folder" && echo same)" same

@@ -28,7 +28,8 @@ import jam
 import making
 import power
 import stored
-from judge import LINKS, PROGRAM, TOP, Judge, Message, content, files_of, number_of, packet_of, texts_of
+from contents import PROGRAM, TOP
+from judge import LINKS, Judge, Message, content, files_of, number_of, packet_of, texts_of
 
 NO_FLUSH = b"int fsync(int f) { (void)f; return 0; }\nint fdatasync(int f) { (void)f; return 0; }\n"
 

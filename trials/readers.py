@@ -15,6 +15,7 @@ import time
 
 import jam
 import stored
+from contents import read, write
 
 FIXED = 1024
 
@@ -37,12 +38,6 @@ def expect(what, got, wanted):
     """Ends the trial if something is not as it has to be."""
     if got != wanted:
         sys.exit("%s: %r, and not %r" % (what, got, wanted))
-
-
-def write(path, content):
-    """Makes a file, or writes over it."""
-    with open(path, "wb") as file:
-        file.write(content)
 
 
 def quiet(words, mask=0o022):
@@ -132,12 +127,12 @@ def try_zeros(place, base, messages):
         jam.put(path, [headers, texts, index + bytes(zeros), last])
         jam.write_base(base, some)
         jam.add(path, base, 0, [], len(some))
-        expect("the index", jam.read(path + ".jdx")[:len(index) + 8], index)
+        expect("the index", read(path + ".jdx")[:len(index) + 8], index)
         for bad in (index[:-8] + bytes(8), bytes(8) + index[8:], bytes(len(index))):
             files = [headers, texts, bad + bytes(zeros - zeros % 8), last]
             jam.put(path, files)
             expect("zeros", jam.run(path, base), (3, "", "echonet: cannot use %s\n" % path))
-            expect("what stands there", jam.contents(path), files)
+            expect("the files", jam.contents(path), files)
 
 
 def try_alone(place, base, messages):
@@ -145,7 +140,7 @@ def try_alone(place, base, messages):
     path = os.path.join(place, "alone")
     jam.write_base(base, [])
     jam.add(path, base, 0, [], 0)
-    fixed = jam.read(path + ".jhr")
+    fixed = read(path + ".jhr")
     jam.write_base(base, messages)
     for found in (fixed, b"", bytes(512), bytes(FIXED)):
         for left in ([], [".jdx"], [".jdx", ".jdt", ".jlr"]):
@@ -165,7 +160,7 @@ def try_alone(place, base, messages):
         if index is not None:
             write(path + ".jdx", index)
         expect("alone", jam.run(path, base), (3, "", "echonet: cannot use %s\n" % path))
-        expect("headers", jam.read(path + ".jhr"), found)
+        expect("headers", read(path + ".jhr"), found)
 
 
 def try_links(place, base, messages):
@@ -182,9 +177,9 @@ def try_links(place, base, messages):
                     shutil.copy(kept + end, path + end)
             target = kept + linked if is_there else os.path.join(place, "missing")
             os.symlink(target, path + linked)
-            content = jam.read(kept + linked)
+            content = read(kept + linked)
             expect("a link", jam.run(path, base), (3, "", "echonet: cannot use %s\n" % path))
-            expect("what it leads to", jam.read(kept + linked), content)
+            expect("what it leads to", read(kept + linked), content)
             expect("nothing is made", os.path.exists(os.path.join(place, "missing")), False)
 
 
@@ -226,7 +221,7 @@ def try_left(place, base, messages):
 def try_others(path, folder, base, messages):
     """What another user left stays, unless a file of this kind replaces it."""
     first, beside = os.path.join(folder, "2.msg"), os.path.join(folder, "2.msg.~msg~.new")
-    wanted = jam.read(first)
+    wanted = read(first)
     for content, status in ((b"anything", 3), (wanted[:50], 0), (b"", 0)):
         for name in os.listdir(folder):
             os.remove(os.path.join(folder, name))
@@ -237,7 +232,7 @@ def try_others(path, folder, base, messages):
     write(path + ".jhr.~jam~.new", b"anything")
     os.chown(path + ".jhr.~jam~.new", 65534, 65534)
     expect("left by another user", quiet(words_of("--jam", path, base)).stdout.decode(), exported(0, len(messages)))
-    expect("it stays", jam.read(path + ".jhr.~jam~.new"), b"anything")
+    expect("it stays", read(path + ".jhr.~jam~.new"), b"anything")
 
 
 def try_modes(place, base, messages):

@@ -14,8 +14,8 @@ import sys
 import tempfile
 from typing import NamedTuple
 
-TOP = os.path.dirname(os.path.dirname(os.path.abspath(__file__)))
-PROGRAM = os.environ.get("ECHONET", os.path.join(TOP, "bin", "echonet"))
+from contents import PROGRAM
+
 MOST_AREAS = 16000  # a link file has at most 1,048,576 bytes
 FOUR = ("1:10/1", "1:10/2", "1:10/3", "1:10/4")
 TWINS = ("1:10/1", "1:10/2", "2:10/1", "2:10/9")

@@ -25,9 +25,8 @@ import laws
 import making
 import running
 import topologies
+from contents import PROGRAM, TOP, content_of, write
 
-TOP = os.path.dirname(os.path.dirname(os.path.abspath(__file__)))
-PROGRAM = os.environ.get("ECHONET", os.path.join(TOP, "bin", "echonet"))
 REPLAY = os.environ.get("BENCH", os.path.join(TOP, "crates", "test_trials", "out", "test_trials"))
 MOMENT = "2000-01-01T00:00:00"
 EMPTY = making.base(0, [])
@@ -55,22 +54,6 @@ class Event(NamedTuple):
     packets: int
 
 
-def content_of(path):
-    """The bytes of a file, or None."""
-    try:
-        with open(path, "rb") as file:
-            return file.read()
-    except FileNotFoundError:
-        return None
-
-
-def put(path, content):
-    """Writes a file, and returns its path."""
-    with open(path, "wb") as file:
-        file.write(content)
-    return path
-
-
 def cursor_and_count(base):
     """The two numbers of a base file."""
     base = EMPTY if base is None else base
@@ -88,7 +71,7 @@ class Net:
         self.told = topologies.net(self.chance)
         self.addresses = [address for address, _, _ in self.told]
         self.tags = [[tag for tag, _ in areas] for _, _, areas in self.told]
-        self.links = [put(self.path("%d.links" % i), making.link_file(address, areas, name))
+        self.links = [write(self.path("%d.links" % i), making.link_file(address, areas, name))
                       for i, (address, name, areas) in enumerate(self.told)]
         for i in range(len(self.told)):
             os.mkdir(self.path("out.%d" % i))
@@ -142,7 +125,7 @@ class Net:
         fault = "B1 NoArea" if tag not in self.tags[i] else "B4 KnownSerial" if (i, serial) in self.posted else None
         out = self.run("post", "--area", given_tag, "--to", "All", "--from", "Sysop", "--subject", text, "--serial",
                        self.chance.choice((text, text.upper())), "--at", MOMENT, *self.station(i),
-                       fault=fault, given=put(self.path("body"), body + ending))
+                       fault=fault, given=write(self.path("body"), body + ending))
         if fault is None:
             self.posted.add((i, serial))
             self.need("post: %r" % out, out == b"posted %s %s %s\n" % (
@@ -206,7 +189,7 @@ class Net:
         packet = self.packets[k]
         if self.chance.random() < 0.9:
             return packet.path
-        return put(self.path("%d.long" % k), packet.content + self.chance.choice((b"\0", b"hello", packet.content)))
+        return write(self.path("%d.long" % k), packet.content + self.chance.choice((b"\0", b"hello", packet.content)))
 
     def tossed(self, i, files, fault, lines):
         """Runs `toss`, whose lines have to count what the base gained."""
@@ -227,7 +210,7 @@ class Net:
         k = self.chance.choice(own[-8:])
         packet = self.packets[k]
         cut = self.chance.randrange(len(packet.content))
-        self.tossed(i, [put(self.path("torn.pkt"), packet.content[:cut])], "P1 Truncated at ", 1)
+        self.tossed(i, [write(self.path("torn.pkt"), packet.content[:cut])], "P1 Truncated at ", 1)
         self.tossed(i, [packet.path], None, 1)
         self.counts["torn"] += 1
         self.delivered.add(k)
@@ -263,7 +246,7 @@ class Net:
         i = chance.choice([i for i, base in enumerate(self.bases) if base is not None])
         content = bytearray(self.bases[i])
         content[chance.randrange(len(content))] ^= chance.randint(1, 255)
-        put(self.station(i)[1], content)
+        write(self.station(i)[1], content)
         self.bases[i] = content_of(self.station(i)[1])
         last = self.events[-1]
         self.events[-1] = last._replace(what=last.what + " (spoiled)", bases=tuple(self.bases))
@@ -287,7 +270,7 @@ class Net:
 
     def script(self, count):
         """The file of the first so many lines."""
-        return put(self.path("script"), b"".join(line + b"\n" for line in self.lines[:count]))
+        return write(self.path("script"), b"".join(line + b"\n" for line in self.lines[:count]))
 
     def checked(self):
         """Counts the areas that are in order."""

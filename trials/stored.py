@@ -11,8 +11,9 @@ import sys
 
 import export
 import making
+from contents import PROGRAM
+from jam import write_base
 
-PROGRAM = export.PROGRAM
 AREA = b"AREA:TEST\r"
 
 
@@ -66,12 +67,6 @@ def made(chance, number, ids):
         1 if message.sender else 0, message.sender or (0, 0, 0), making.whole_body(message.written), message.to,
         message.by, message.subject, message.date)
     return message
-
-
-def write_base(path, messages):
-    """Makes the base of these messages, of which the first were scanned."""
-    with open(path, "wb") as file:
-        file.write(making.base(sum(message.scanned for message in messages), [message.content for message in messages]))
 
 
 def files_of(folder):

@@ -17,9 +17,8 @@ import tempfile
 import time
 
 import making
+from contents import PROGRAM, TOP
 
-TOP = os.path.dirname(os.path.dirname(os.path.abspath(__file__)))
-PROGRAM = os.environ.get("ECHONET", os.path.join(TOP, "bin", "echonet"))
 LINKS = making.link_file(making.OWN, [("TEST", [making.UPLINK, *making.DOWNLINKS])])
 MAIL = b"From: Ann\nTo: All\nSubject: Hi\nNewsgroups: TEST\n\nHello\n"
 LONGEST, MANY, MOST = 20, 60_000, 3

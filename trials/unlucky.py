@@ -21,7 +21,8 @@ import tempfile
 import threading
 import time
 
-from judge import LINKS, PROGRAM, Judge, Message, content, files_of, packet_of, texts_of
+from contents import PROGRAM, write
+from judge import LINKS, Judge, Message, content, files_of, packet_of, texts_of
 
 TRIED = []
 
@@ -220,12 +221,6 @@ def try_left(judge, folder):
                 judge.expect("%s does not stay" % path, is_there and os.lstat(os.path.join(folder, path)).st_ino == before.st_ino)
                 if is_there:
                     (os.rmdir if deed is os.mkdir else os.remove)(os.path.join(folder, path))
-
-
-def write(path, given):
-    """Makes a file."""
-    with open(path, "wb") as file:
-        file.write(given)
 
 
 def others(path):

@@ -21,9 +21,8 @@ import laws
 import making
 import reading
 import running
+from contents import PROGRAM, write
 
-TOP = os.path.dirname(os.path.dirname(os.path.abspath(__file__)))
-PROGRAM = os.environ.get("ECHONET", os.path.join(TOP, "bin", "echonet"))
 MOMENT = "2000-01-01T00:00:00"
 BROKEN = (b"V3", b"V5", b"V7", b"V8")
 COUNTS = ("nets", "yes", "again", "own", "never gets", "never rests", "no harm", "events")
@@ -58,10 +57,7 @@ class Net:
 
     def put(self, name, content):
         """Writes a file, and returns its path."""
-        path = os.path.join(self.folder, name)
-        with open(path, "wb") as file:
-            file.write(content)
-        return path
+        return write(os.path.join(self.folder, name), content)
 
     def base(self, i):
         """The base file of a system."""

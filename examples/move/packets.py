@@ -1,4 +1,5 @@
-"""What jam-to-packets and msg-to-packets share: their words, and a packet of type 2 (FTS-0001) on standard output."""
+"""Shared by jam-to-packets and msg-to-packets: their arguments, and a packet of type 2 (FTS-0001) on standard
+output."""
 import re
 import struct
 import sys
@@ -14,7 +15,7 @@ def end(status, line):
 
 
 def address_of(word):
-    """Zone, net and node of a word."""
+    """Zone, net and node of an address."""
     numbers = [int(number) for number in re.split("[:/]", word)] if re.fullmatch("[0-9]+:[0-9]+/[0-9]+", word) else [65536]
     if max(numbers) > 32767:
         end(4, "bad address %s, expected zone:net/node" % ascii(word))
@@ -22,7 +23,7 @@ def address_of(word):
 
 
 class Packet:
-    """A packet of one area. FROM, TO, TAG and the path of the base are the words of the command line."""
+    """A packet of one area. FROM, TO, TAG and the path of the base are the arguments of the command line."""
 
     def __init__(self, kind):
         if len(sys.argv) != 5:
@@ -44,7 +45,7 @@ class Packet:
         sys.stdout.buffer.write(content)
 
     def count(self, what):
-        """Counts something that the last line is to tell."""
+        """Counts something that the last line reports."""
         self.counts[what] = self.counts.get(what, 0) + 1
 
     def field(self, content, most):
@@ -67,7 +68,7 @@ class Packet:
         self.count("messages")
 
     def finish(self):
-        """Ends the packet, and tells the counts. The status is 1 where something is to be looked at."""
+        """Ends the packet, and reports the counts. The status is 1 if the operator should look at something."""
         self.write(b"\0\0")
         sys.stdout.buffer.flush()
         print("%s: %s" % (self.tag, ", ".join("%d %s" % (many, what) for what, many in self.counts.items())),

@@ -1,10 +1,10 @@
 #!/bin/sh
-# post.sh STATION AREA TO FROM SUBJECT [REPLY]: files a message, whose body is standard input. REPLY is the
-# MSGID of the message that is replied to.
+# post.sh STATION AREA TO FROM SUBJECT [REPLY]: files a message. Its body is standard input. REPLY is the MSGID of the
+# message that it answers.
 #
-# The moment is that of the clock (UTC). The serial is the clock's count of seconds, or the first after it that
-# no message has, so that a station that lost its base does not give out old serials again. The program
-# is `echonet` of the PATH, or the one that ECHONET names.
+# The time is that of the clock (UTC). The serial is the clock's count of seconds, or the first number after it that
+# no message has. So a station that lost its base does not use old serials again. The program is `echonet` of the
+# PATH, or the one that ECHONET names.
 set -eu
 LC_ALL=C
 

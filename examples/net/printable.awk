@@ -1,7 +1,8 @@
-# Writes a name so that a terminal only prints it. Its bytes come as decimal numbers. Controls, marks that turn
-# the direction of a line, and bytes that are no UTF-8 are written \xNN, and \ as \\ where any byte is.
+# Writes a name so that a terminal only prints it. Its bytes are decimal numbers. Controls, marks that change the
+# direction of a line, and bytes that are not UTF-8 are written as \xNN. If there is any such byte, \ is written as
+# \\.
 
-# How many bytes the character at i has: 0 where none begins there. Its number goes to `code`.
+# How many bytes the character at i has: 0 if none begins there. Its number goes to `code`.
 function width(i,    first, many, k) {
   first = byte[i]
   code = first

@@ -1,18 +1,22 @@
 #!/bin/sh
-# reader.sh STATION AREA DIR: lets a reader of the field, as GoldED, read and write an area in the folder DIR of
-# stored messages (N.msg).
-# reader.sh --jam STATION AREA PATH: lets it read and write the area in the JAM base PATH (PATH.jhr and so on). What an
-# editor wrote there is posted and marked as Sent. Then what is new in the base is added; PATH.next has the number of the
-# message with which the next run begins. A message that is refused stays, and the status is 2. With Python 3 it takes the
-# lock of JAM programs too (jam-lock), so that they may run beside it.
+# reader.sh STATION AREA DIR: lets a reader such as GoldED read and write an area in the folder DIR of stored messages
+# (N.msg).
+# reader.sh --jam STATION AREA PATH: the same in the JAM base PATH (PATH.jhr and so on).
 #
-# What an editor wrote there (Local, not Sent, and under no id of the base) is posted and then moves to DIR/posted;
-# what is refused goes to DIR/refused, with the fault and the note on it in NAME.why. Then what is new in the
-# base is added. DIR/next has the number of the message with which the next run begins. Runs may start at the same
-# moment: each waits for the one before it. Before a file is posted DIR/posting names it, and the serial that it gets:
-# where a run is stopped between posting a file and moving it, the next run finds that posting in the base, and moves
-# the file. A base that cannot be read ends the run before anything is posted. The program is `echonet` of the PATH, or
-# the one that ECHONET names.
+# In a folder it posts what an editor wrote (Local, not Sent, and under no id of the base), and moves it to
+# DIR/posted. A refused message goes to DIR/refused, with the fault and the note on it in NAME.why. Then the new
+# messages of the base are added. DIR/next has the number of the message with which the next run begins.
+#
+# Before a file is posted, DIR/posting names the file and its serial. If a run is stopped between posting a file and
+# moving it, the next run finds that posting in the base, and moves the file. If the base cannot be read, the run ends
+# before it posts anything.
+#
+# In a JAM base it posts what an editor wrote, and marks it as Sent. Then it adds the new messages of the base.
+# PATH.next has the number of the message with which the next run begins. A refused message stays, and the status is
+# 2. With Python 3 it also takes the lock of JAM programs (jam-lock), so that they may run at the same time.
+#
+# Runs may start at the same time: each waits for the one before it. The program is `echonet` of the PATH, or the one
+# that ECHONET names.
 set -eu
 LC_ALL=C
 export LC_ALL
@@ -50,7 +54,7 @@ run_locked() {
   fi
 }
 
-# Runs it, and passes on what it prints on standard error, but for the note that the area is still empty.
+# Runs it, and passes on its standard error, except the note that the area is still empty.
 run_noted() {
   ended=0
   run_locked "$@" 2> "$work/notes" || ended=$?
@@ -58,7 +62,8 @@ run_noted() {
   return $ended
 }
 
-# Adds what is new in the base. Words: the folder or the JAM base, the file with the number of the next message.
+# Adds the new messages of the base. Arguments: the folder or the JAM base, the file with the number of the next
+# message.
 add_new() {
   if [ ! -e "$station/base" ]; then return; fi
   from=0
@@ -89,8 +94,9 @@ folder=$(CDPATH='' cd -- "$3" && pwd)
 exec 9> "$folder/reader.lock"
 flock 9
 
-# Notes of each id of the area, in `heads`, with tabs between: the area, 1 where the message was posted here, the id,
-# addressee, author and subject, as `list` prints them. Where the base cannot be read the run ends as `list` does.
+# Writes a line for each id of the area to `heads`. It has, with tabs between: the area, 1 if the message was posted
+# here, the id, addressee, author and subject, as `list` prints them. If the base cannot be read, the run ends as
+# `list` does.
 read_base() {
   : > "$work/heads"
   if [ ! -e "$station/base" ]; then return; fi
@@ -108,7 +114,7 @@ read_base() {
   if [ "$listed" != 0 ]; then exit "${listed:-3}"; fi
 }
 
-# Whether an id of the area is as `grep` finds it with these words. Where that cannot be found out the run ends.
+# Whether `grep` with these arguments finds an id of the area. If that cannot be found out, the run ends.
 has_id() {
   found=0
   grep -q "$@" "$work/ids" || found=$?
@@ -122,8 +128,8 @@ id_of() {
     awk '/^\001MSGID:/ { sub(/^\001MSGID: */, ""); sub(/ *$/, ""); print; exit }' "$work/lines"
 }
 
-# Whether a stored message is Local and not Sent: bit 0 of its byte 187, bit 3 of its byte 186. The status is 2 where
-# it cannot be read.
+# Whether a stored message is Local and not Sent: bit 0 of its byte 187, bit 3 of its byte 186. The status is 2 if it
+# cannot be read.
 is_to_post() {
   od -An -v -tu1 -N188 "$1" > "$work/bytes" || return 2
   awk '
@@ -145,8 +151,8 @@ names_of() {
     END { print field(36, 36) "\t" field(0, 36) "\t" field(72, 72) }' "$work/bytes"
 }
 
-# Moves a file to a folder, under a name that is not taken there, which goes to `name`; it is there on the disk then.
-# Words: the file, the folder.
+# Moves a file to a folder, under a free name, which goes to `name`. Then the file is on the disk there. Arguments:
+# the file, the folder.
 put_aside() {
   mkdir -p "$2"
   name=${1##*/}
@@ -159,8 +165,8 @@ put_aside() {
   sync "$2" "$folder"
 }
 
-# The next serial to try: the clock's count of seconds, or the first after it that this run did not try and that the area
-# does not have.
+# The next serial to try: the clock's count of seconds, or the first after it that this run did not try and that the
+# area does not have.
 last=0
 next_serial() {
   number=$(date +%s)
@@ -173,7 +179,7 @@ next_serial() {
   last=$number
 }
 
-# Notes which file is posted, and under which serial; the note is on the disk before the posting. Word: the file.
+# Notes which file is posted, and under which serial. The note is on the disk before the posting. Argument: the file.
 mark() {
   printf '%s\n' "$serial" "${1##*/}" > "$folder/posting.new"
   sync "$folder/posting.new"
@@ -181,13 +187,13 @@ mark() {
   sync "$folder"
 }
 
-# Drops that note.
+# Removes that note.
 unmark() {
   rm -f "$folder/posting"
   sync "$folder"
 }
 
-# The area and the id of a posting in the area, by its serial and the names of a stored message. Words: both.
+# The area and the id of a posting in the area. Arguments: its serial, and the names of a stored message.
 posting_of() {
   SERIAL=$1 NAMES=$2 awk -F '\t' '
     $2 && substr($3, length($3) - 8) == " " ENVIRON["SERIAL"] && $4 "\t" $5 "\t" $6 == ENVIRON["NAMES"] {
@@ -196,7 +202,7 @@ posting_of() {
     }' "$work/heads"
 }
 
-# Moves the file that a stopped run was posting, where the base has that posting.
+# Moves the file that a stopped run was posting, if the base has that posting.
 finish_posting() {
   if [ ! -e "$folder/posting" ]; then return; fi
   serial='' file=''
@@ -212,7 +218,7 @@ finish_posting() {
   unmark
 }
 
-# Posts what an editor wrote. Where the base has a message with the serial, in any area (B4), the next one is tried.
+# Posts what an editor wrote. If the base has a message with the serial, in any area (B4), it tries the next serial.
 post_one() {
   status=2
   echo 'echonet: B4 ' > "$work/told"
@@ -241,8 +247,8 @@ post_one() {
   unmark
 }
 
-# Only what was changed since the last run began is looked at; two seconds before it, since file systems keep no
-# finer time. What cannot be read is looked at again by the next run.
+# It looks only at files that changed since two seconds before the last run began, since file systems keep no finer
+# time. The next run looks again at what cannot be read.
 touch -d '2 seconds ago' "$folder/seen.new"
 read_base
 cut -f 3 "$work/heads" > "$work/ids"

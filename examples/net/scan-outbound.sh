@@ -1,14 +1,15 @@
 #!/bin/sh
 # scan-outbound.sh STATION: makes the packets of the messages that wait, and hands them to the mailer.
 #
-# `scan` writes into STATION/scanned; what stands there as `*.pkt` is of a scan that moved the cursor, and a scan that
-# was stopped is brought to its end by the next one. Each packet then gets a new name of eight characters and `.pkt` in
-# STATION/packets, and a line in the flow file of its link: STATION/outbound for links of the own zone,
-# STATION/outbound.00z for those of zone z. STATION/settings may name other folders (station.sh). A link whose flow file
-# is held by the mailer (NAME.bsy) is left for the next run. Where the link file names no own address, nothing is handed
-# over. STATION/log gets a line for each packet that was. Runs may start at the same moment: each waits for the one
-# before it, and for the scan that one of them started, also where that run was killed. The program is `echonet` of the
-# PATH, or the one that ECHONET names.
+# `scan` writes into STATION/scanned. A file `*.pkt` there belongs to a scan that moved the cursor. The next scan
+# finishes a stopped one. Each packet then gets a new name of eight characters and `.pkt` in STATION/packets, and a
+# line in the flow file of its link. That is in STATION/outbound for links of the own zone, in STATION/outbound.00z
+# for those of zone z. STATION/settings may name other folders (station.sh).
+#
+# If the mailer holds a link (NAME.bsy), its packets wait for the next run. If the link file names no own address,
+# nothing is handed over. STATION/log gets a line for each packet that was handed over. Runs may start at the same
+# time: each waits for the one before it, and for its scan, even if that run was killed. The program is `echonet` of
+# the PATH, or the one that ECHONET names.
 set -eu
 LC_ALL=C
 export LC_ALL
@@ -25,15 +26,15 @@ exec 9> "$station/scan.lock"
 flock 9
 trap 'exit 3' HUP INT TERM
 
-# The own address, and nothing where the link file does not have just one.
+# The own address, or nothing if the link file does not have exactly one.
 own=$(awk '
   $1 == "SYSTEM" { sub(/\r$/, "", $2); address = $2; lines++ }
   END { if (lines == 1 && address ~ /^[0-9]+:[0-9]+\/[0-9]+$/) print address }' "$station/links")
 
-# A name that no packet of this station had before, in eight hexadecimal digits: the second, or the next
-# one, and a number of the own address added. Without that number two systems would give packets of one
-# second one name, and a mailer takes a packet of the same name, size and second for one that it has. The
-# last second stands in a file that is replaced at once, so that it is not forgotten whatever stops this.
+# A name that no packet of this station had before, in eight hexadecimal digits: the second, or the next one, plus a
+# number of the own address. Without that number two systems would give packets of one second the same name. A mailer
+# that has a packet with the same name, size and second does not accept another. The last second is in a file that is
+# replaced at once, so a stop does not lose it.
 new_name() {
   last=$(cat "$station/last-name" 2> /dev/null || true)
   number=$(date +%s) && sum=$(printf '%s' "$own" | cksum) || return 1
@@ -48,7 +49,7 @@ new_name() {
     mv "$station/last-name.new" "$station/last-name" && sync "$station" && echo "$name"
 }
 
-# The flow file of a packet's link, without its ending; the disk has its folder. Words: zone, net, node.
+# The flow file of a packet's link, without its ending. Its folder is on the disk then. Arguments: zone, net, node.
 flow_file() {
   folder=$outbound
   if [ "$1" -ne "${own%%:*}" ]; then folder=$folder.$(printf '%03x' "$1"); fi
@@ -58,8 +59,8 @@ flow_file() {
   printf '%s/%04x%04x\n' "$folder" "$2" "$3"
 }
 
-# A hold on a link is a file NAME.bsy with the number of the process that holds it. Whether one of somebody else was
-# left: its process runs no more, or it names none and is an hour old.
+# A hold on a link is a file NAME.bsy with the number of the process that holds it. This tests whether another process
+# left its hold: that process has ended, or the file names none and is an hour old.
 is_left() {
   owner=$(awk 'match($0, /[0-9]+/) { print substr($0, RSTART, RLENGTH); exit }' "$1" 2> /dev/null || true)
   if [ -n "$owner" ]; then
@@ -69,8 +70,8 @@ is_left() {
   fi
 }
 
-# Ends what a stopped run began. A power cut can leave a packet under its new name and under the old one, as on btrfs: that
-# one was handed over. Both folders are on the disk before a link is let go.
+# Finishes what a stopped run began. After a power cut, as on btrfs, a packet can have its new name and its old one.
+# It was handed over. Both folders are on the disk before a link is freed.
 end_left() {
   for packet in "$station"/scanned/*.pkt; do
     if [ -e "$packet" ] && [ -n "$(find "$packets" -samefile "$packet")" ]; then rm -f "$packet"; fi
@@ -78,8 +79,8 @@ end_left() {
   sync "$packets" "$station/scanned"
 }
 
-# Lets go the links that a stopped run of this station held, so that the mailer goes on. Our hold has a second name for as
-# long as it is held, and no other run holds a link while this one does. So what is in the file does not matter.
+# Frees the links that a stopped run of this station held, so that the mailer goes on. Our hold has a second name
+# while it is held, and no other run holds a link at the same time. So the content of the file does not matter.
 second_name="~$(printf '%s' "$own" | tr ':/' '..')~.hold"
 release_left() {
   for second in "$outbound"/*."$second_name" "$outbound".*/*."$second_name"; do
@@ -91,9 +92,9 @@ release_left() {
   done
 }
 
-# Holds a link; a hold that was left is taken over. The status is 1 where somebody else holds it, and 3 where
-# the disk fails. The hold has its number when it gets its name, and has it on the disk. Word: the flow file, without
-# its ending.
+# Holds a link, or takes over a hold that was left. The status is 1 if another process holds it, and 3 if the disk
+# fails. The hold has its number when it gets its name, and has it on the disk. Argument: the flow file, without its
+# ending.
 hold() {
   held=0
   second=$1.$second_name
@@ -107,10 +108,10 @@ hold() {
   return $held
 }
 
-# Lets it go.
+# Frees it.
 release() { rm -f "$flow.bsy" && rm -f "$second"; }
 
-# Prints a flow file and a line behind it. A last line without an end gets one first. Words: the file, the line.
+# Prints a flow file and then a line. A last line without an end gets one first. Arguments: the file, the line.
 with_line() {
   if [ -e "$1" ]; then
     cat "$1" && last=$(tail -c 1 "$1") || return 1
@@ -119,7 +120,7 @@ with_line() {
   printf '%s\n' "$2"
 }
 
-# Adds a line to a flow file, which is replaced whole, and is on the disk then. Words: the file, the line.
+# Adds a line to a flow file. The file is replaced whole, and is on the disk then. Arguments: the file, the line.
 add_line() {
   if with_line "$1" "$2" > "$1.new" && sync "$1.new" && mv "$1.new" "$1" && sync "${1%/*}"; then
     return 0
@@ -128,16 +129,16 @@ add_line() {
   return 1
 }
 
-# What `scan` printed of a packet, or its size where an earlier run scanned it. Words: its link, the packet.
+# The line of `scan` for a packet, or its size if an earlier run scanned it. Arguments: its link, the packet.
 counts_of() {
   bytes=$(($(wc -c < "$2")))
   counts=$(printf '%s\n' "$scanned" | sed -n "s,^packet $1 \([0-9]* messages $bytes bytes\)\$,\1,p")
   printf '%s\n' "${counts:-$bytes bytes}"
 }
 
-# Hands one packet to the mailer. The line comes first: whatever stops this, the packet is handed over by
-# a later run or stands under its new name. The disk has that name, and no longer the old one, before the link is let go,
-# since what the mailer sent must not be there again after a power cut. Who may read it is as the umask says.
+# Hands one packet to the mailer. The line is written first: whatever stops this, the packet is handed over by a later
+# run or has its new name. The disk has that name, and no longer the old one, before the link is freed. Otherwise a
+# packet that the mailer sent could be there again after a power cut. The umask says who may read it.
 hand_over() {
   name=$(basename "$1")
   zone=${name%%.*}
@@ -163,7 +164,7 @@ hand_over() {
   return $failed
 }
 
-# Says that there is no own address, and that is the status where the scan had none.
+# Reports that there is no own address. Its status counts if the scan had none.
 refuse_to_hand_over() {
   echo "scan-outbound.sh: no own address in $station/links: nothing is handed over" >&2
   if [ $status -eq 0 ]; then status=2; fi

@@ -1,10 +1,10 @@
-# What toss-inbound.sh and scan-outbound.sh share. They read this file with the station as their first word.
+# Shared by toss-inbound.sh and scan-outbound.sh. They source this file with the station as their first argument.
 #
-# It sets `station`, and the folders `inbound`, `outbound` and `packets`. Those are STATION/inbound and so on, or what
-# INBOUND, OUTBOUND and PACKETS are in the file STATION/settings, which is read as shell. A path there that does not
-# begin with / is below the station.
+# It sets `station`, and the folders `inbound`, `outbound` and `packets`. Those are STATION/inbound and so on, or
+# INBOUND, OUTBOUND and PACKETS of the file STATION/settings, which is read as shell. A path there that does not begin
+# with / is below the station.
 
-# Refuses a path that would break lines. Words: the path, and what it is of.
+# Refuses a path that would break lines. Arguments: the path, and its name in the fault.
 refuse_control() {
   case $1 in
     *[[:cntrl:]]*)
@@ -24,7 +24,7 @@ if [ -e "$station/settings" ] || [ -L "$station/settings" ]; then
   . "$station/settings"
 fi
 
-# A folder as a whole path. Words: its path, and which it is.
+# A folder as a whole path. Arguments: its path, and its name in the fault.
 whole_path() {
   refuse_control "$1" "$2"
   case $1 in
@@ -36,11 +36,11 @@ inbound=$(whole_path "${INBOUND:-inbound}" inbound)
 outbound=$(whole_path "${OUTBOUND:-outbound}" outbound)
 packets=$(whole_path "${PACKETS:-packets}" packets)
 
-# The moment, as UTC.
+# The time, as UTC.
 utc() { date -u +%Y-%m-%dT%H:%M:%SZ; }
 
-# Adds a line to STATION/log, behind `stamp` or else the moment. A log that cannot be written stops nothing: the run
-# goes on, and ends with `unlogged` where nothing else is amiss.
+# Adds a line to STATION/log, after `stamp` or else the time. If a log cannot be written, the run goes on, and ends
+# with `unlogged` if nothing else went wrong.
 unlogged=0
 stamp=''
 log() { printf '%s %s\n' "${stamp:-$(utc)}" "$1" >> "$station/log" || unlogged=3; }

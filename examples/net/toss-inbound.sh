@@ -1,16 +1,17 @@
 #!/bin/sh
 # toss-inbound.sh STATION: tosses the packets of the folder STATION/inbound.
 #
-# Each packet first goes to STATION/tossing, under a number, since the mailer keeps whatever name a link
-# gave it, and may bring another packet of that name. It is removed only after it was tossed whole. One
-# that is refused, has messages that are not for this system, cannot be read or wants more memory than
-# there is goes to STATION/bad, under the name that it came with, with the fault, the note on it and a
-# line for each message that was refused in NAME.why; those behind it are tossed. The status is 1 then. A
-# NAME.why whose packet is gone is removed by the next run. STATION/log gets a line for each packet that was tossed or
-# put aside. Where a disk fails, or the link file or the base is refused, the packets stay for the next run, and the
-# status is that of the program. STATION/settings may name another folder than STATION/inbound (station.sh). Runs may
-# start at the same moment: each waits for the one before it. The program is `echonet` of the PATH, or the one that
-# ECHONET names.
+# Each packet first goes to STATION/tossing, under a number. The mailer keeps the name that a link gave it, and may
+# bring another packet of that name. A packet is removed only after it was tossed whole.
+#
+# Some packets go to STATION/bad, under the name that they came with: refused ones, unreadable ones, those with
+# messages that are not for this system, and those that need more memory than there is. NAME.why gets the fault, the
+# note on it and a line for each refused message. The packets after it are tossed. The status is 1 then. A NAME.why
+# without its packet is removed by the next run. STATION/log gets a line for each packet that was tossed or put aside.
+#
+# If a disk fails, or the link file or the base is refused, the packets stay for the next run, and the status is that
+# of the program. STATION/settings may name another folder than STATION/inbound (station.sh). Runs may start at the
+# same time: each waits for the one before it. The program is `echonet` of the PATH, or the one that ECHONET names.
 set -eu
 LC_ALL=C
 export LC_ALL
@@ -40,10 +41,10 @@ clean_up() {
 trap clean_up EXIT
 trap 'exit 3' HUP INT TERM
 
-# Whether a file has this name, also where it is a link that leads nowhere.
+# Whether a file has this name, even if it is a link to nothing.
 is_there() { [ -e "$1" ] || [ -L "$1" ]; }
 
-# Removes the reasons whose packets are gone.
+# Removes the reasons without packets.
 remove_reasons() {
   for why in "$station"/bad/*.why; do
     if ! is_there "${why%.why}"; then rm -f "$why"; fi
@@ -60,8 +61,8 @@ next_number() {
   done
 }
 
-# Moves the packets of the mailer to numbers behind those that an earlier run left, each with the name
-# that it came with beside it. All names are on the disk before the first packet moves. Words: the packets.
+# Moves the packets of the mailer to numbers after those of an earlier run. NUMBER.name has the name that each came
+# with. All names are on the disk before the first packet moves. Arguments: the packets.
 take_in() {
   last=
   for packet in "$station"/tossing/*.pkt; do last=${packet##*/}; done
@@ -79,8 +80,8 @@ take_in() {
   done
 }
 
-# The name that a packet came with, or its number where that name is lost, goes to `came`. Only one with a line end in it
-# needs `cat`.
+# The name that a packet came with goes to `came`, or its number if that name is lost. Only a name with a line end in
+# it needs `cat`.
 name_of() {
   came=
   if [ -s "${1%.pkt}.name" ] && IFS= read -r came < "${1%.pkt}.name"; then came=$(cat "${1%.pkt}.name"); fi
@@ -93,7 +94,7 @@ show() {
   case $1 in *[!\ -~]*) shown=$(printf '%s' "$1" | od -An -v -tu1 | awk -f "$here/printable.awk") ;; esac
 }
 
-# The address in the header of a packet, or `-` where it has none.
+# The address in the header of a packet, or `-` if it has none.
 sender_of() {
   if [ -f "$1" ]; then
     # shellcheck disable=SC2046
@@ -106,9 +107,9 @@ sender_of() {
   echo -
 }
 
-# What `toss` prints, and its fault line, go to the file `told`, and the note on the fault to `note`. No text may
-# be much longer than what `post` takes: one that this system can just file would be too long for its links, with the
-# lines that a scan adds. Words: the file that lists the packets, and further options.
+# The lines of `toss` and its fault line go to the file `told`, and the note on the fault to `note`. No text may be
+# much longer than `post` allows: a scan adds lines, so a longer text would be too long for the links. Arguments: the
+# file that lists the packets, and further options.
 toss() {
   from=$1
   shift
@@ -120,10 +121,10 @@ toss() {
   return $tossed
 }
 
-# The lines of messages that were refused. One that was known is filed already.
+# The lines of refused messages. A known message is already filed.
 refused() { awk '/^message [0-9]+ at [0-9]+ / && $5 != "known"' "$told"; }
 
-# Whether all messages of the packets that were tossed are filed or were known. Word: how many packets.
+# Whether all messages of the tossed packets were filed or known. Argument: how many packets.
 all_filed() {
   awk -v packets="$1" '
     /^message [0-9]+ at [0-9]+ / { next }
@@ -132,7 +133,7 @@ all_filed() {
     END { exit other || whole != packets }' "$told"
 }
 
-# Notes a packet that was tossed whole, and removes it. Words: the packet, its counts.
+# Notes a packet that was tossed whole, and removes it. Arguments: the packet, its counts.
 done_with() {
   name_of "$1"
   show "$came"
@@ -140,8 +141,8 @@ done_with() {
   rm -f "$1" "${1%.pkt}.name"
 }
 
-# Puts a packet aside, under a name that is not taken yet. The reason is on the disk before the packet moves.
-# Words: the packet, the line that tells why, and the note on it.
+# Puts a packet aside, under a free name. The reason is on the disk before the packet moves. Arguments: the packet,
+# the line with the reason, and the note on it.
 put_aside() {
   name_of "$1"
   if [ ${#came} -gt 200 ]; then came=${1##*/}; fi
@@ -161,8 +162,8 @@ put_aside() {
   aside=1
 }
 
-# Whether a fault is the packet's, so that those behind it can be tossed. Memory is the packet's where the
-# base is read and written without it. Words: the packet, the status, the fault line.
+# Whether a fault is the packet's, so that those after it can be tossed. A lack of memory is the packet's if the base
+# can be read and written without it. Arguments: the packet, the status, the fault line.
 is_packets_own() {
   case $2:$3 in
     '2:echonet: P'[0-9]*' at '* | '2:echonet: C1 '*) return 0 ;;
@@ -199,7 +200,7 @@ if is_there "$1"; then take_in "$@"; fi
 set -- "$station"/tossing/*.pkt
 if ! is_there "$1"; then exit 0; fi
 
-# All at once, since each toss opens the base once; where anything is amiss, one by one.
+# All packets at once, since each toss opens the base once. If anything goes wrong, one by one.
 printf '%s\0' "$@" > "$list"
 if toss "$list" && all_filed $#; then
   cat "$told"

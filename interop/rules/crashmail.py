@@ -7,24 +7,13 @@ import time
 
 import making
 import reading
+from contents import read, write
 from judge import OWN, Packed
 
 HERE = os.path.dirname(os.path.abspath(__file__))
 FOLDERS = ("inbound", "outbound", "temp", "create", "packets", "write", "msg/netmail", "msg/bad")
 LONGEST = 300  # seconds
 LOCAL = 0x100  # the attribute of a message that was written here
-
-
-def read(path):
-    """The bytes of a file."""
-    with open(path, "rb") as file:
-        return file.read()
-
-
-def write(path, content):
-    """Makes a file."""
-    with open(path, "wb") as file:
-        file.write(content)
 
 
 def wait_for_second():

@@ -1,11 +1,12 @@
-"""A system of its own with echonet, with the same methods as crashmail.py."""
+"""A system of its own with echonet, with the methods of crashmail.py."""
 import glob
 import os
 import subprocess
 
 import making
 import reading
-from crashmail import LONGEST, read, write
+from contents import read, write
+from crashmail import LONGEST
 from judge import OWN, Packed
 
 REFUSED = 2  # the status if a packet was cut

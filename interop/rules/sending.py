@@ -2,7 +2,8 @@
 import os
 
 import making
-from crashmail import wait_for_second, within_a_second, write
+from contents import write
+from crashmail import wait_for_second, within_a_second
 from trying import FAR, ONE, OWN, SEEN, THREE, ZONES, message, net, new_id, trials_of, with_id
 
 TRIALS, trial = trials_of("sends once")

@@ -1,6 +1,8 @@
 -- The base file of a folder, message by message.
-use Rattle.std.proofs.Common.{◌≡◌, ◌∙◌, ◌<◌, ◌≤◌, ◌^◌, ◌++◌, ◌⊎◌, inl, inr, nat_lt, false, ℕ, ◌+◌, List, Some, length, take, sym, ap, arith, get_or}
-use Rattle.std.specs.List.{list_all}
+use Rattle.std.proofs.Common.{◌≡◌, ◌∙◌, ◌<◌, ◌≤◌, ◌^◌, ◌++◌, ◌⊎◌, inl, inr, nat_lt, false, ℕ, suc, ◌+◌, List, Option, Result, Ok, Err, Some, length, take, drop, refl, sym, ap, subst, arith, get_or}
+use Rattle.std.specs.Io.KnownBytes.{Appends}
+use Rattle.std.specs.List.{flat_map, list_all}
+use Rattle.std.proofs.KnownBytes.{Appends-trans}
 use Rattle.std.proofs.lemmas.Bool.{and_right}
 use Rattle.std.proofs.lemmas.List.{append-nil, append_assoc, take_all}
 use Rattle.std.proofs.lemmas.Option.{slice_get-get_or}
@@ -12,7 +14,11 @@ use Rattle.base_file.specs.Base.{Base}
 use Rattle.base_file.specs.BaseFile.{head_bytes, is_countable, saved_bytes, stored_at, stored_from}
 use Rattle.base_file.specs.declared.fault.BaseFault.{BaseFault}
 use Rattle.base_file.specs.declared.fault.BaseFault.TheVariants as fault
-use Rattle.base_file.proofs.SavedMessages.{all_more, not_countable, saved_parts, stored_all, too_long_here}
+use Rattle.base_file.proofs.SavedMessages.{all_more, all_parts, not_countable, saved_parts, stored_all, too_long_here}
+use Rattle.cmd_status.specs.Lines.{WritesFront}
+use Rattle.cmd_status.proofs.Lines.{front_more, front_sent}
+use Rattle.disk_io.specs.Device.{Sends}
+use Rattle.std.specs.Result.{OnErr}
 use Rattle.base_folder_store.proofs.Causes.{failed_since}
 use Rattle.base_folder_store.proofs.Looked.{some_message}
 use Rattle.base_folder.specs.AsFile.{IsFileFault, IsMessageFault}
@@ -26,7 +32,7 @@ unfolding message_there
 there all i within = slice_get-get_or all i (some_message all i within) within
 
 -- the bytes of one message more
-pub stored_more : (cursor i : ℕ) (all : List Filed) (m : Filed) (head file bytes : List ℕ) → slice_get all i ≡ Some m → file ≡ head ++ stored_all cursor (take i all)
+stored_more : (cursor i : ℕ) (all : List Filed) (m : Filed) (head file bytes : List ℕ) → slice_get all i ≡ Some m → file ≡ head ++ stored_all cursor (take i all)
     → bytes ≡ stored_bytes Second (stored_at cursor i m) → file ++ bytes ≡ head ++ stored_all cursor (take (i + 1) all)
 stored_more cursor i all m head file bytes at before is =
     ap (λ (l : List ℕ). l ++ bytes) before
@@ -35,13 +41,77 @@ stored_more cursor i all m head file bytes at before is =
     ∙ ap (λ (l : List ℕ). head ++ l) (all_more cursor i all m at)
 
 -- all are as many as the entries
-pub stored_whole : (cursor i : ℕ) (all : List Filed) (file : List ℕ) → i ≡ length all → file ≡ head_bytes Second cursor (length all) ++ stored_all cursor (take i all) → file ≡ saved_bytes all cursor
+stored_whole : (cursor i : ℕ) (all : List Filed) (file : List ℕ) → i ≡ length all → file ≡ head_bytes Second cursor (length all) ++ stored_all cursor (take i all) → file ≡ saved_bytes all cursor
 stored_whole cursor i all file many is =
     is ∙ ap (λ (l : List Filed). head_bytes Second cursor (length all) ++ stored_all cursor l) (take_all i all (omega arith)) ∙ saved_parts cursor all
 
 -- none stand behind the head at first
-pub stored_none : (cursor : ℕ) (all : List Filed) (head : List ℕ) → head ≡ head_bytes Second cursor (length all) → head ≡ head_bytes Second cursor (length all) ++ stored_all cursor (take 0 all)
+stored_none : (cursor : ℕ) (all : List Filed) (head : List ℕ) → head ≡ head_bytes Second cursor (length all) → head ≡ head_bytes Second cursor (length all) ++ stored_all cursor (take 0 all)
 stored_none cursor all head is = is ∙ sym (append-nil (head_bytes Second cursor (length all)))
+
+-- the head, the messages before one, that one, and those behind it
+file_parts : (cursor i : ℕ) (all : List Filed) (m : Filed) → slice_get all i ≡ Some m
+    → (head_bytes Second cursor (length all) ++ stored_all cursor (take i all)) ++ (stored_bytes Second (stored_at cursor i m) ++ flat_map (stored_bytes Second) (stored_from cursor (i + 1) (drop (suc i) all)))
+    ≡ saved_bytes all cursor
+file_parts cursor i all m at =
+    let head = head_bytes Second cursor (length all) in
+    let later = flat_map (stored_bytes Second) (stored_from cursor (i + 1) (drop (suc i) all)) in
+    append_assoc head (stored_all cursor (take i all)) (stored_bytes Second (stored_at cursor i m) ++ later)
+    ∙ ap (λ (l : List ℕ). head ++ l) (all_parts cursor i all m at) ∙ saved_parts cursor all
+
+-- a beginning of the bytes was sent, if not all
+pub sent_begun : {A E : Type 0} (a b : Option (List ℕ)) (r : Result A E) (bytes : List ℕ) (m n : ℕ) → Sends a b r bytes m n → OnErr r (WritesFront bytes a b)
+sent_begun a b (Ok x) bytes m n sent = tt
+sent_begun a b (Err e) bytes m n sent = front_sent a b bytes m n sent
+
+-- a beginning of the head was sent
+pub head_begun : (a b : Option (List ℕ)) (cursor : ℕ) (all : List Filed) (head : List ℕ) → head ≡ head_bytes Second cursor (length all) → WritesFront head a b → WritesFront (saved_bytes all cursor) a b
+head_begun a b cursor all head is begun =
+    subst (λ (l : List ℕ). WritesFront l a b) (ap (λ (l : List ℕ). l ++ stored_all cursor all) is ∙ saved_parts cursor all)
+    (front_more a b head (stored_all cursor all) begun)
+
+-- the head was sent
+pub head_sent : (a b : Option (List ℕ)) (cursor : ℕ) (all : List Filed) (head : List ℕ) → head ≡ head_bytes Second cursor (length all) → Appends a b head
+    → Appends a b (head_bytes Second cursor (length all) ++ stored_all cursor (take 0 all))
+head_sent a b cursor all head is sent = subst (λ (l : List ℕ). Appends a b l) (stored_none cursor all head is) sent
+
+-- the messages before one were sent
+pub messages_begun : (a b : Option (List ℕ)) (cursor i : ℕ) (all : List Filed) (m : Filed) → slice_get all i ≡ Some m
+    → Appends a b (head_bytes Second cursor (length all) ++ stored_all cursor (take i all)) → WritesFront (saved_bytes all cursor) a b
+messages_begun a b cursor i all m at sent = record {
+  rest = stored_bytes Second (stored_at cursor i m) ++ flat_map (stored_bytes Second) (stored_from cursor (i + 1) (drop (suc i) all));
+  passed = record { went = head_bytes Second cursor (length all) ++ stored_all cursor (take i all); whole = sym (file_parts cursor i all m at); written = sent };
+}
+
+-- and a beginning of that one
+pub message_begun : (a b c : Option (List ℕ)) (cursor i : ℕ) (all : List Filed) (m : Filed) (bytes : List ℕ) → slice_get all i ≡ Some m
+    → Appends a b (head_bytes Second cursor (length all) ++ stored_all cursor (take i all)) → bytes ≡ stored_bytes Second (stored_at cursor i m) → WritesFront bytes b c → WritesFront (saved_bytes all cursor) a c
+message_begun a b c cursor i all m bytes at sent is begun =
+    let went = head_bytes Second cursor (length all) ++ stored_all cursor (take i all) in
+    let later = flat_map (stored_bytes Second) (stored_from cursor (i + 1) (drop (suc i) all)) in
+    let more = front_more b c (stored_bytes Second (stored_at cursor i m)) later (subst (λ (l : List ℕ). WritesFront l b c) is begun) in
+    record {
+      rest = more.rest;
+      passed = record {
+        went = went ++ more.passed.went;
+        whole = sym (file_parts cursor i all m at) ∙ ap (λ (l : List ℕ). went ++ l) more.passed.whole ∙ sym (append_assoc went more.passed.went more.rest);
+        written = Appends-trans a b c went more.passed.went sent more.passed.written;
+      };
+    }
+
+-- and all of it
+pub message_sent : (a b c : Option (List ℕ)) (cursor i : ℕ) (all : List Filed) (m : Filed) (bytes : List ℕ) → slice_get all i ≡ Some m
+    → Appends a b (head_bytes Second cursor (length all) ++ stored_all cursor (take i all)) → bytes ≡ stored_bytes Second (stored_at cursor i m) → Appends b c bytes
+    → Appends a c (head_bytes Second cursor (length all) ++ stored_all cursor (take (i + 1) all))
+message_sent a b c cursor i all m bytes at sent is more =
+    let head = head_bytes Second cursor (length all) in
+    let went = head ++ stored_all cursor (take i all) in
+    subst (λ (l : List ℕ). Appends a c l) (stored_more cursor i all m head went bytes at refl is) (Appends-trans a b c went bytes sent more)
+
+-- all were sent
+pub file_sent : (a b : Option (List ℕ)) (cursor i : ℕ) (all : List Filed) → i ≡ length all → Appends a b (head_bytes Second cursor (length all) ++ stored_all cursor (take i all)) → Appends a b (saved_bytes all cursor)
+file_sent a b cursor i all many sent =
+    subst (λ (l : List ℕ). Appends a b l) (stored_whole cursor i all (head_bytes Second cursor (length all) ++ stored_all cursor (take i all)) many refl) sent
 
 -- four bytes do not count so many messages
 pub too_many : (cursor : ℕ) (all : List Filed) → 2 ^ 32 ≤ length all → is_countable all cursor ≡ false

@@ -1,4 +1,5 @@
 pub mod Empties
+pub mod Distincts
 pub mod Files
 pub mod Fillings
 pub mod Lookings

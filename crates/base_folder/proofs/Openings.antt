@@ -1,5 +1,6 @@
 -- A folder that is opened after looks that change nothing.
-use Rattle.std.proofs.Common.{◌≡◌, ◌≢◌, ◌≤◌, ◌<◌, ◌∙◌, ℕ, Bool, List, inl, inr, ⊎_elim, sym, ap, subst, arith}
+use Rattle.std.proofs.Common.{◌≡◌, ◌≢◌, ◌≤◌, ◌<◌, ◌∙◌, ℕ, Bool, List, Result, Ok, Err, inl, inr, ⊎_elim, sym, ap, subst, arith}
+use Rattle.std.specs.Result.{IsErrAnd}
 use Rattle.std.specs.Prelude.{◌⊎◌}
 use Rattle.echo_addr.specs.declared.address.Address.{Address}
 use Rattle.std.proofs.lemmas.Bool.{cases_lt}
@@ -28,7 +29,10 @@ use Rattle.base_folder_store.specs.declared.folder.Folder.{Folder}
 use Rattle.base_folder_store.proofs.Claimed.{claimed_holds, claimed_open}
 use Rattle.base_folder_store.proofs.Bases.{opened_run}
 use Rattle.base_folder_store.proofs.Waits.{written_held}
-use Rattle.base_folder.specs.Ours.{IsMarkOfOther, IsOfOther, SameKey, number_of}
+use Rattle.base_folder.specs.Ours.{IsLeftAlone, IsMarkOfOther, IsNotOurs, IsOfOther, IsOtherOwner, SameKey, number_of}
+use Rattle.base_folder.specs.OpenError.{HasUnreadCause}
+use Rattle.base_folder.specs.declared.open_error.OpenError.{OpenError}
+use Rattle.base_folder.specs.declared.open_error.OpenError.TheVariants as unread
 use Rattle.base_folder.specs.Unopened.{HaveRoom, OpensOnly}
 use Rattle.base_folder.specs.Wrong.{IsToldBy}
 use Rattle.base_folder.proofs.Wrongs.{one_end}
@@ -93,6 +97,28 @@ pub told_other : (own : Address) (strange : Bool) (path : List ℕ) (files : Fil
 told_other own strange path files told address by ours other =
     let same = one_told strange (bytes_in (files (log_of path))) other.told told other.log by in
     not_other own told.mark address ours (subst (λ (t : CommitRecord). IsMarkOfOther own t.mark address) same other.mark)
+
+-- a folder that is another system's is refused, and nothing is changed
+pub other_left : (own : Address) (mark : FolderIdentity) (old new : DiskState) (e : OpenError) → ChangesNothing old new → IsOtherOwner own mark e → IsLeftAlone old new e
+other_left own mark old new (unread.NotOwner address) quiet is = quiet
+other_left own mark old new unread.Memory quiet is = tt
+other_left own mark old new unread.Device quiet is = tt
+other_left own mark old new unread.Raced quiet is = tt
+other_left own mark old new (unread.Wrong why) quiet is = quiet
+
+-- its log says so
+pub other_told : (own : Address) (strange : Bool) (path : List ℕ) (files : Files) (told : CommitRecord) (e : OpenError) → IsToldBy strange (bytes_in (files (log_of path))) told → IsOtherOwner own told.mark e → IsNotOurs own strange path files e
+other_told own strange path files told (unread.NotOwner address) log is = record { told = told; log = log; mark = is }
+other_told own strange path files told unread.Memory log is = absurd is
+other_told own strange path files told unread.Device log is = absurd is
+other_told own strange path files told unread.Raced log is = absurd is
+other_told own strange path files told (unread.Wrong why) log is = absurd is
+
+-- no device failed
+pub other_cause : {T : Type 0} (own : Address) (mark : FolderIdentity) (e : OpenError) (before now : ℕ) (r : Result T OpenError) → IsErrAnd r (λ x. x ≡ e) → before ≤ now → IsOtherOwner own mark e → HasUnreadCause before now r
+other_cause own mark e before now (Ok x) same later is = absurd same
+other_cause own mark e before now (Err x) same later is =
+    record { later = later; failed = λ was. let device : x ≡ unread.Device = cc (was) in absurd (subst (λ (y : OpenError). IsOtherOwner own mark y) (sym same ∙ device) is) }
 
 -- the files stand for the same before looks, and after them
 pub stood_before : (d e : DiskState) (path : List ℕ) (told : CommitRecord) → ChangesNothing d e → StandsFor path (base_at e path told) e.seen → StandsFor path (base_at d path told) d.seen

@@ -1,5 +1,5 @@
 -- A message that is read of a base folder is one of the base that the folder holds.
-use Rattle.std.proofs.Common.{◌≡◌, ◌∙◌, ◌<◌, ◌≤◌, ℕ, List, length, get_or, sym, ap, subst, arith, ⊎_elim}
+use Rattle.std.proofs.Common.{◌≡◌, ◌∙◌, ◌<◌, ◌≤◌, ℕ, List, length, get_or, refl, sym, ap, subst, arith, ⊎_elim}
 use Rattle.std.proofs.lemmas.Bool.{cases_lt}
 use Rattle.std.proofs.lemmas.List.{length-take}
 use Rattle.disk_io.specs.Disk.{DiskState, Honestly, bytes_in}
@@ -75,6 +75,10 @@ module _ (first count begin : ℕ) (within : first < count → begin ≡ first) 
 
   pub asked_from : begin < count → first ≤ begin
   asked_from below = ⊎_elim (λ (h : first < count). omega (arith, within h)) (λ (h : count ≤ first). absurd (omega (arith, behind h, below))) (cases_lt first count)
+
+-- no look
+pub looks_none : (a : SourceState) → LooksAt a a
+looks_none a = record { honest = λ h. h; ready = λ h. h; count = refl; holds = λ base h. h }
 
 -- one look after another
 pub looks_on : (old mid new : SourceState) → LooksAt old mid → LooksAt mid new → LooksAt old new

@@ -8,6 +8,8 @@ use Rattle.base_file.specs.declared.fault.BaseFault.TheVariants as fault
 use Rattle.base_store.specs.declared.store_error.StoreError.{StoreError}
 use Rattle.base_store.specs.declared.store_error.StoreError.TheVariants as error
 use Rattle.echo_filed.specs.Stored.{Stored, is_short_enough}
+use Rattle.base_folder.specs.declared.unsent.UnsentFile.{UnsentFile}
+use Rattle.base_folder.specs.declared.unsent.UnsentFile.TheVariants as unsent
 
 -- No memory, four bytes cannot count the parts of the base to be saved, or a read failed.
 abbrev pub IsFileFault : Base → ℕ → ℕ → BaseFault → Type 0
@@ -15,6 +17,11 @@ IsFileFault base before now fault.Memory = Unit {0}
 IsFileFault base before now fault.TooMany = is_countable base.messages base.cursor ≡ false
 IsFileFault base before now fault.Read = Failed before now
 IsFileFault base before now _ = ⊥
+
+-- One of these while the device that takes the file did not fail, or that device failed.
+abbrev pub IsSendFault : Base → ℕ → ℕ → ℕ → ℕ → UnsentFile → Type 0
+IsSendFault base before now old new (unsent.Messages why) = IsFileFault base before now why × (new ≡ old)
+IsSendFault base before now old new unsent.Device = Failed old new
 
 -- No memory, or four bytes do not count the message.
 abbrev pub IsTooLong : Stored → BaseFault → Type 0

@@ -31,6 +31,11 @@ pub record IsMarkOfOther (own : Address) (mark : FolderIdentity) (address : Addr
   pub other : mark.owner ≢ number_of own
   pub told : address ≡ address_of mark.owner
 
+-- That is why it is refused.
+abbrev pub IsOtherOwner : Address → FolderIdentity → OpenError → Type 0
+IsOtherOwner own mark (unread.NotOwner address) = IsMarkOfOther own mark address
+IsOtherOwner own mark _ = ⊥
+
 -- The digests are by the same key.
 pub record SameKey (old new : FolderIdentity) : Type 0 where
   pub first : new.first ≡ old.first

@@ -1,17 +1,21 @@
-//! The base file of messages that are read one by one.
-ghost use Rattle.std.specs.Prelude.{◌≡◌, ◌≤◌, ◌<◌, Some, slice_get, IfErr, IfOk};
+//! The base file of messages that are read one by one, written one by one.
+ghost use Rattle.std.specs.Prelude.{◌≡◌, ◌≤◌, ◌<◌, Some, slice_get, IfErr, IfOk, OnErr, OnOk};
+ghost use Rattle.std.specs.Io.KnownBytes.{Appends};
+ghost use Rattle.disk_io.specs.Device.{Failed};
 ghost use Rattle.base_file.specs.Base.{Base};
 ghost use Rattle.base_file.specs.BaseFile.{head_bytes, saved_bytes, stored_at};
 ghost use Rattle.echo_filed.specs.Filed.{Filed};
 ghost use Rattle.echo_filed.specs.Stored.{stored_as, stored_bytes};
 ghost use Rattle.echo_filed.specs.declared.stored.Version.TheVariants.{Second};
-ghost use Rattle.base_folder.specs.AsFile.{IsFileFault, IsMessageFault, IsTooLong, file_cause};
+ghost use Rattle.cmd_status.specs.Lines.{WritesFront};
+ghost use Rattle.base_folder.specs.AsFile.{IsFileFault, IsMessageFault, IsSendFault, IsTooLong, file_cause};
 ghost use Rattle.base_folder.specs.Source.{LooksAt};
 
 use crate::source::MessageSource;
+use crate::unsent::UnsentFile;
 use base_file::BaseFault;
 use base_store::StoreError;
-use disk_io::Watched;
+use disk_io::{Failure, Sink, Watched, send};
 use echo_filed::{Filed, is_short, is_short_enough, long_bytes, send_message};
 use std::alloc::{AllocError, Global};
 
@@ -92,6 +96,47 @@ fn stored_at<M: MessageSource>(
     }
 }
 
+// Sends these bytes.
+fn send_bytes<W: Sink>(file: &mut W, bytes: &[u8]) -> Result<(), Failure>
+    ensures bytes { OnOk result (Appends (W.contents file.old) (W.contents file.new) bytes.now) }
+    ensures begun { OnErr result (WritesFront bytes.now (W.contents file.old) (W.contents file.new)) }
+    ensures ok { OnOk result (W.failures file.new ≡ W.failures file.old) }
+    ensures err { OnErr result (Failed (W.failures file.old) (W.failures file.new)) }
+{
+    send(file, bytes, &mut 0)
+}
+
+/// Sends the base file of the same messages and the same cursor. One message at a time is in memory. At a fault a
+/// beginning of the file was sent, perhaps all of it.
+pub fn send_file<M: MessageSource, W: Sink>(
+    alloc: Global,
+    messages: &mut M,
+    file: &mut W,
+) -> Result<(), UnsentFile>
+    requires { (M.state messages.old).is_ready }
+    ensures file { (M.state messages.new).is_honest → (base : Base) → (M.state messages.old).holds base
+        → OnOk result (Appends (W.contents file.old) (W.contents file.new) (saved_bytes base.messages base.cursor)) }
+    ensures begun { (M.state messages.new).is_honest → (base : Base) → (M.state messages.old).holds base
+        → OnErr result (WritesFront (saved_bytes base.messages base.cursor) (W.contents file.old) (W.contents file.new)) }
+    ensures fault { (M.state messages.new).is_honest → (base : Base) → (M.state messages.old).holds base
+        → IfErr result (IsSendFault base (M.state messages.old).failures (M.state messages.new).failures (W.failures file.old) (W.failures file.new)) }
+    ensures ok { OnOk result (W.failures file.new ≡ W.failures file.old) }
+    ensures looks { LooksAt (M.state messages.old) (M.state messages.new) }
+{
+    let count = messages.count();
+    let cursor = messages.cursor();
+    if count > MOST || cursor > MOST {
+        return Err(UnsentFile::Messages(BaseFault::TooMany));
+    }
+    let head = head_of(alloc, cursor as u32, count as u32)?;
+    send_bytes(file, &head)?;
+    'messages: for i in 0..count {
+        let bytes = stored_at(alloc, messages, i, cursor)?;
+        send_bytes(file, &bytes)?;
+    }
+    Ok(())
+}
+
 /// The base file of the same messages and the same cursor, if all are read. If a message is damaged, that is the fault.
 pub fn file_of<M: MessageSource>(alloc: Global, messages: &mut M) -> Result<Vec<u8>, BaseFault>
     requires { (M.state messages.old).is_ready }
@@ -99,15 +144,10 @@ pub fn file_of<M: MessageSource>(alloc: Global, messages: &mut M) -> Result<Vec<
     ensures fault { (M.state messages.new).is_honest → (base : Base) → (M.state messages.old).holds base
         → IfErr result (IsFileFault base (M.state messages.old).failures (M.state messages.new).failures) }
 {
-    let count = messages.count();
-    let cursor = messages.cursor();
-    if count > MOST || cursor > MOST {
-        return Err(BaseFault::TooMany);
+    let mut file = Watched::new(Vec::new(alloc));
+    match send_file(alloc, messages, &mut file) {
+        Ok(()) => Ok(file.into_inner()),
+        Err(UnsentFile::Messages(fault)) => Err(fault),
+        Err(UnsentFile::Device) => Err(BaseFault::Memory),
     }
-    let mut file = head_of(alloc, cursor as u32, count as u32)?;
-    'messages: for i in 0..count {
-        let bytes = stored_at(alloc, messages, i, cursor)?;
-        file.extend_from_slice(&bytes)?;
-    }
-    Ok(file)
 }

@@ -7,11 +7,13 @@
 //! Begin with `opening` (a folder to be changed) and `looking` (a folder read without a change). `judging` has the
 //! contents of the log and the faults of a folder, `reading` those of its messages, `owning` its owner, and `open_error`
 //! the errors. `source` is the trait of messages that are read one by one; `readers` has the two kinds of base that meet
-//! it. `fetching` has the faults of a command that reads them, `as_file` makes a base file of them. `filling` adds the messages of another base. `laws` has what holds of
-//! the definitions.
+//! it, and `distinct` judges their keys. `fetching` has the faults of a command that reads them. `as_file` makes a base
+//! file of them, and `unsent` says why not. `filling` adds the messages of another base. `laws` has what holds of the
+//! definitions.
 #![tactic(auto)]
 
 mod as_file;
+mod distinct;
 mod fetching;
 mod filling;
 mod judging;
@@ -23,8 +25,10 @@ mod owning;
 mod readers;
 mod reading;
 mod source;
+mod unsent;
 
-pub use as_file::file_of;
+pub use as_file::{file_of, send_file};
+pub use distinct::Distinct;
 pub use fetching::fetch_message;
 pub use filling::fill;
 pub use judging::log_end;
@@ -32,7 +36,8 @@ pub use laws::an_empty_folder_is_an_empty_base;
 pub use looking::{LookedFolder, look};
 pub use open_error::OpenError;
 pub use opening::{open_base, open_own};
-pub use owning::{address_of, number_of};
+pub use owning::{address_of, judge_owner, number_of};
 pub use readers::{BaseReader, FolderReader, read_folder};
 pub use reading::{ReadingProgress, begin_at};
 pub use source::MessageSource;
+pub use unsent::UnsentFile;

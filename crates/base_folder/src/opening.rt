@@ -13,7 +13,7 @@ ghost use Rattle.base_folder.specs.Wrong.{IsSound};
 
 use crate::judging::judged;
 use crate::open_error::OpenError;
-use crate::owning::{address_of, claim_for, number_of};
+use crate::owning::{claim_for, judge_owner};
 use base_folder_store::Folder;
 use disk_io::Disk;
 use echo_addr::Address;
@@ -71,11 +71,7 @@ pub fn open_own<D: Disk>(
     ensures cause { HasUnreadCause (D.failures disk.old) (D.failures disk.new) result }
 {
     let log = judged(alloc, disk, path, strange)?;
-    let owner = log.end.told.mark.owner;
-    let number = number_of(own);
-    if owner != 0 && owner != number {
-        return Err(OpenError::NotOwner(address_of(owner)));
-    }
+    judge_owner(log.end.told.mark, own)?;
     let mut folder = Folder::open(alloc, disk, path, &log)?;
     claim_for(&mut folder, own, key.0, key.1);
     Ok(folder)

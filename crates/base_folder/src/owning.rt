@@ -1,8 +1,9 @@
 //! The owner of a base folder.
-ghost use Rattle.std.specs.Prelude.{◌≡◌, ◌<◌, ◌⊎◌};
+ghost use Rattle.std.specs.Prelude.{◌≡◌, ◌<◌, ◌⊎◌, IfErr, OnOk};
 ghost use Rattle.base_folder_store.specs.Owned.{IsUnclaimed, with_mark};
-ghost use Rattle.base_folder.specs.Ours.{IsOurs, SameKey, address_of, number_of};
+ghost use Rattle.base_folder.specs.Ours.{IsOtherOwner, IsOurs, SameKey, address_of, number_of};
 
+use crate::open_error::OpenError;
 use base_folder_store::Folder;
 use base_log::FolderIdentity;
 use echo_addr::Address;
@@ -24,6 +25,18 @@ pub fn address_of(number: u64) -> Address
         net: (number / 0x1_0000 % 0x1_0000) as u16,
         node: (number % 0x1_0000) as u16,
     }
+}
+
+/// Whether a folder of this owner is free for the system with this address: it is `NotOwner` if another one has it.
+pub fn judge_owner(mark: FolderIdentity, own: Address) -> Result<(), OpenError>
+    ensures ours { OnOk result ((mark.owner ≡ 0) ⊎ (mark.owner ≡ number_of own)) }
+    ensures other { IfErr result (IsOtherOwner own mark) }
+{
+    let owner = mark.owner;
+    if owner == 0 || owner == number_of(own) {
+        return Ok(());
+    }
+    Err(OpenError::NotOwner(address_of(owner)))
 }
 
 /// Claims the folder for this system if it has no owner, and keeps that from the next commit on. A folder without

@@ -1,10 +1,12 @@
 //! A base in memory, and a base folder, as sources of messages.
-ghost use Rattle.std.specs.Prelude.{◌≡◌, IfOk};
+ghost use Rattle.std.specs.Prelude.{◌≡◌, ◌⊎◌, IfErr, IfOk, Some};
 ghost use Rattle.disk_io.specs.Disk.{Honestly};
 ghost use Rattle.base_file.specs.Base as model;
 ghost use Rattle.base_folder_store.specs.Held.{HoldsBase, StandsForBase};
 ghost use Rattle.base_folder_store.specs.Opened.{held_by};
 ghost use Rattle.base_folder_store.specs.Vouched.{IsLookedAt};
+ghost use Rattle.cmd_status.specs.Ended.{IsOutOfMemory};
+ghost use Rattle.cmd_status.specs.Inputs.{IsBaseFault, IsBaseGiven};
 
 use crate::looking::look;
 use crate::open_error::OpenError;
@@ -13,6 +15,7 @@ use crate::source::MessageSource;
 use base_file::Base;
 use base_folder_store::Folder;
 use base_store::{Digest, StoreError};
+use cmd_status::Fault;
 use disk_io::Disk;
 use echo_filed::Filed;
 use std::alloc::Global;
@@ -27,10 +30,15 @@ pub struct BaseReader<S: BuildHasher> {
 }
 
 impl<S: BuildHasher> BaseReader<S> {
-    pub fn new(base: Base<S>) -> BaseReader<S>
-        ensures { result.base ≡ base }
+    /// The messages of this base file.
+    pub fn read<'a>(alloc: Global, file: &[u8], hasher: S) -> Result<BaseReader<S>, Fault<'a>>
+    where
+        S: Drop,
+        ensures ok { IfOk result (λ messages. IsBaseGiven (Some file.now) messages.base.messages messages.base.cursor) }
+        ensures err { IfErr result (λ fault. IsOutOfMemory fault ⊎ IsBaseFault (Some file.now) fault) }
     {
-        BaseReader { base, place: 0 }
+        let base = Base::load(alloc, &mut &*file, hasher)?;
+        Ok(BaseReader { base, place: 0 })
     }
 }
 

@@ -2,8 +2,10 @@
 ghost use Rattle.std.specs.Prelude.{IfOk};
 
 use crate::{Messages, Progress, folder_fault, folder_path, output_fault, read_file};
-use base_file::{Base, BaseFault};
-use base_folder::{BaseReader, FolderReader, MessageSource, file_of, read_folder};
+use base_file::BaseFault;
+use base_folder::{
+    BaseReader, FolderReader, MessageSource, OpenError, file_of, log_end, read_folder,
+};
 use base_store::SipDigest;
 use cmd_status::Fault;
 use disk_system::{RealDisk, Unknown, flush_path};
@@ -81,8 +83,7 @@ pub fn load_base<'a>(
 ) -> Result<BaseReader<RandomState>, Fault<'a>> {
     let hasher = RandomState::new(rt).map_err(|_| Fault::Base(BaseFault::Read))?;
     let bytes = read_file(rt, base, usize::MAX)?;
-    let loaded = Base::load(rt.alloc(), &mut bytes.as_slice(), hasher)?;
-    Ok(BaseReader::new(loaded))
+    BaseReader::read(rt.alloc(), &bytes, hasher)
 }
 
 /// Reads the base with this path: a file, or the messages of a folder.
@@ -101,10 +102,36 @@ pub fn base_bytes<'a>(rt: &HostRuntime, base: &'a str) -> Result<Vec<u8>, Fault<
         return read_file(rt, base, usize::MAX);
     }
     let mut messages = look_into(rt, base, 0, None)?;
-    match file_of(rt.alloc(), &mut messages) {
-        Err(BaseFault::Read) => Err(Fault::CannotUse(base)),
-        Err(fault) => Err(Fault::Base(fault)),
-        Ok(bytes) => Ok(bytes),
+    file_of(rt.alloc(), &mut messages).map_err(|fault| messages_fault(fault, base))
+}
+
+/// Why the messages of the base with this path were not read as a base file.
+pub fn messages_fault(fault: BaseFault, base: &str) -> Fault<'_> {
+    match fault {
+        BaseFault::Read => Fault::CannotUse(base),
+        fault => Fault::Base(fault),
+    }
+}
+
+/// Whether nothing was ever committed in the folder, and all its files can belong to a base folder.
+pub fn is_unused<'a>(rt: &HostRuntime, base: &'a str) -> Result<bool, Fault<'a>> {
+    let strange = is_strange(rt, base)?;
+    let path = folder_path(rt, base)?;
+    is_unused_at(rt, base, path.as_str(), strange)
+}
+
+// The same. The files have `path` before their names.
+fn is_unused_at<'a>(
+    rt: &HostRuntime,
+    base: &'a str,
+    path: &str,
+    strange: bool,
+) -> Result<bool, Fault<'a>> {
+    let mut disk = RealDisk::new(rt, Unknown);
+    match log_end(rt.alloc(), &mut disk, path.as_bytes(), strange) {
+        Ok(end) => Ok(end.gate == 0),
+        Err(OpenError::Wrong(_)) => Ok(false),
+        Err(why) => Err(why.fault(base)),
     }
 }
 

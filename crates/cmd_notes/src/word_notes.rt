@@ -2,7 +2,6 @@
 
 use crate::notes::{Met, is_there, tell};
 use crate::reasons::{LongField, Reason, WordForm, WrongWord};
-use base_file::Base;
 use base_folder::{BaseReader, MessageSource, fetch_message};
 use cmd_input::{is_folder, load_base, look_into, read_file};
 use cmd_status::{Fault, number_of};
@@ -130,8 +129,7 @@ fn none_in_file(rt: &HostRuntime, path: &str, tag: &[u8]) -> Option<bool> {
         return Some(false);
     }
     let hasher = RandomState::new(rt).ok()?;
-    let base = Base::load(rt.alloc(), &mut &*bytes, hasher).ok()?;
-    let mut messages = BaseReader::new(base);
+    let mut messages = BaseReader::read(rt.alloc(), &bytes, hasher).ok()?;
     lacks_area(&mut messages, path, tag)
 }
 

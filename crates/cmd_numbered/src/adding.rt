@@ -7,8 +7,7 @@ ghost use Rattle.cmd_numbered.specs.JamAdded.{IsJamExport, JamAnswers, added_at,
 ghost use Rattle.cmd_numbered.specs.Reading.{AnswersReading};
 
 use crate::numbering::is_exported;
-use crate::reading::messages_of;
-use base_folder::{MessageSource, fetch_message};
+use base_folder::{BaseReader, MessageSource, fetch_message};
 use cmd_status::Fault;
 use echo_filed::Filed;
 use echo_jam::{Jam, has_id, is_same, push_jam};
@@ -61,7 +60,7 @@ pub fn export_jam<'a, S: BuildHasher + Drop>(
 ) -> Result<JamExport, Fault<'a>>
     ensures { JamAnswers area.now first jam.entry.headers.now jam.entry.index.now jam.entry.last jam.entry.text.now jam.entry.end base.now result }
 {
-    let mut messages = messages_of(alloc, base, hasher)?;
+    let mut messages = BaseReader::read(alloc, base, hasher)?;
     export_jam_of(alloc, area, first, jam, "", &mut messages)
 }
 

@@ -8,8 +8,7 @@ ghost use Rattle.echo_text.specs.Ids.{id_of};
 ghost use Rattle.cmd_numbered.specs.Finding.{AnsweredAnswers, IsAnswered, IsPostedAs, PostedAnswers, answered_as, charset_of, has_id, has_words, is_found_as, label_name, last_at};
 ghost use Rattle.cmd_numbered.specs.Reading.{AnswersReading};
 
-use crate::reading::messages_of;
-use base_folder::{MessageSource, fetch_message};
+use base_folder::{BaseReader, MessageSource, fetch_message};
 use cmd_status::Fault;
 use echo_addr::{Address, Items, is_blank};
 use echo_charset::Charset;
@@ -36,7 +35,7 @@ pub fn find_answered<'a, S: BuildHasher + Drop>(
 ) -> Result<Option<Answered>, Fault<'a>>
     ensures { AnsweredAnswers id.now base.now result }
 {
-    let mut messages = messages_of(alloc, base, hasher)?;
+    let mut messages = BaseReader::read(alloc, base, hasher)?;
     find_answered_of(alloc, id, "", &mut messages)
 }
 
@@ -139,7 +138,7 @@ pub fn is_posted<'a, S: BuildHasher + Drop>(
 ) -> Result<bool, Fault<'a>>
     ensures { PostedAnswers words.entry base.now result }
 {
-    let mut messages = messages_of(alloc, base, hasher)?;
+    let mut messages = BaseReader::read(alloc, base, hasher)?;
     is_posted_of(alloc, words, "", &mut messages)
 }
 

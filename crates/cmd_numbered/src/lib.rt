@@ -6,15 +6,14 @@
 //! and names the message from which the next export begins.
 //!
 //! Begin with `numbering` (which files are made), `adding` (what is added to a JAM base) and `resending`. `finding` looks
-//! for a message by its id: one that a mail answers, or one that an editor wrote and that was posted before. `reading`
-//! has the messages of a base file. `names` reads the number in a file's name, and `telling` has the lines at the end.
+//! for a message by its id: one that a mail answers, or one that an editor wrote and that was posted before. `names` reads
+//! the number in a file's name, and `telling` has the lines at the end.
 #![tactic(auto)]
 
 mod adding;
 mod finding;
 mod names;
 mod numbering;
-mod reading;
 mod resending;
 mod telling;
 
@@ -24,5 +23,5 @@ pub use finding::{
 };
 pub use names::{is_left, number_in};
 pub use numbering::{Exported, MessageFile, export_files, export_files_of};
-pub use resending::resend;
+pub use resending::{resend, resend_of};
 pub use telling::{refuse_message, tell_added, tell_cuts, tell_exported, tell_refused};

@@ -9,8 +9,7 @@ ghost use Rattle.cmd_numbered.specs.Numbered.{ExportAnswers, IsExport, before_nu
 ghost use Rattle.cmd_numbered.specs.Reading.{AnswersReading};
 
 use crate::names::file_name;
-use crate::reading::messages_of;
-use base_folder::{MessageSource, fetch_message};
+use base_folder::{BaseReader, MessageSource, fetch_message};
 use cmd_status::Fault;
 use echo_addr::Items;
 use echo_filed::{Filed, is_stub};
@@ -47,7 +46,7 @@ pub fn export_files<'a, S: BuildHasher + Drop>(
 ) -> Result<Exported, Fault<'a>>
     ensures { ExportAnswers area.now first greatest (option_copied last.entry) base.now result }
 {
-    let mut messages = messages_of(alloc, base, hasher)?;
+    let mut messages = BaseReader::read(alloc, base, hasher)?;
     export_files_of(alloc, area, first, greatest, last, "", &mut messages)
 }
 

@@ -15,7 +15,7 @@ use Rattle.cmd_status.specs.Ended.{CannotPrint, IsBegun, IsDone, PassesAll}
 use Rattle.cmd_status.specs.Lines.{PassesOn, WritesFront}
 use Rattle.cmd_status.proofs.Lines.{begun_after, begun_more, none_added, passed_more, sent_after}
 use Rattle.cmd_show.specs.Exporting.{IsExported, is_exported, sought_count, sought_lost, sought_text, sought_texts, state_of}
-use Rattle.cmd_show.specs.Fetching.{AnswersReading}
+use Rattle.cmd_show.specs.Fetching.{PrintsReading}
 use Rattle.cmd_show.proofs.Pushed.{begun_within}
 
 -- the text of a message, where the texts of more are those of fewer and that of one more
@@ -152,7 +152,7 @@ module _ (form : Form) (area : Option (List ℕ)) (first : ℕ) (purged : Bool) 
 
       -- standard output failed at last
       pub unexported : (path : List ℕ) (before after : ℕ) (fault : Fault) → WritesFront kept mid.contents new.contents → CannotPrint mid.failures new.failures fault
-          → AnswersReading (IsExported form area first purged base) path before after old new (Err fault)
+          → PrintsReading (IsExported form area first purged base) path before after old new (Err fault)
       unexported path before after fault begun failed = (
         inl (inl (subst (λ (n : ℕ). CannotPrint n new.failures fault) once failed)),
         record {

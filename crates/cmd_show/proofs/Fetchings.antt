@@ -5,7 +5,7 @@ use Rattle.base_folder.proofs.Fetchings.{never_read, read_since}
 use Rattle.cmd_status.specs.declared.fault.Fault.{Fault}
 use Rattle.cmd_status.specs.Devices.{Output}
 use Rattle.cmd_status.specs.Ended.{Answers, AnswersInPieces}
-use Rattle.cmd_show.specs.Fetching.{AnswersReading, StopsReading}
+use Rattle.cmd_show.specs.Fetching.{PrintsReading, StopsReading}
 
 -- it stops the command, where standard output did not fail
 pub stops_reading : (path : List ℕ) (first before now printed after : ℕ) (fault : Fault) → first ≤ before → after ≡ printed → IsUnread path before now fault → StopsReading path first now printed after fault
@@ -14,7 +14,7 @@ stops_reading path first before now printed after fault less same (inr read) = i
 
 -- what a command answers of messages in memory, of which no read fails
 module _ {A : Type 0} (P Q : List ℕ → A → Type 0) (refused : Fault → Type 0) (path : List ℕ) (old new : Output) (gives : (lines : List ℕ) (answer : A) → P lines answer → Q lines answer) where
-  pub in_pieces : (result : Result A Fault) → AnswersReading P path 0 0 old new result → AnswersInPieces Q refused old new result
+  pub in_pieces : (result : Result A Fault) → PrintsReading P path 0 0 old new result → AnswersInPieces Q refused old new result
   in_pieces (Ok answer) done = record { lines = done.lines; right = gives done.lines answer done.right; written = done.written; flushed = done.flushed }
   in_pieces (Err fault) (inl stops, begun) =
       inl (stops, record { lines = begun.lines; answer = begun.answer; right = gives begun.lines begun.answer begun.right; begun = begun.begun })

@@ -15,7 +15,7 @@ use Rattle.cmd_status.specs.Ended.{CannotPrint, IsBegun, IsDone, PassesAll}
 use Rattle.cmd_status.specs.Lines.{PassesOn, WritesFront}
 use Rattle.cmd_status.proofs.Lines.{begun_after, begun_more, front_more, none_added, passed_more, sent_after}
 use Rattle.cmd_print.specs.declared.list_form.ListForm.{ListForm}
-use Rattle.cmd_show.specs.Fetching.{AnswersReading}
+use Rattle.cmd_show.specs.Fetching.{PrintsReading}
 use Rattle.cmd_show.specs.Listing.{IsListed}
 use Rattle.cmd_print.specs.BaseListed.{asked_text, base_text, is_of_area, listed_text, messages_text, total_text}
 use Rattle.cmd_show.proofs.Entries.{range_more}
@@ -129,7 +129,7 @@ module _ (form : ListForm) (area asked : Option (List ℕ)) (first : ℕ) (base 
 
   -- standard output failed at last
   pub base_unlisted : (path : List ℕ) (before after : ℕ) (fault : Fault) → WritesFront lines mid.contents new.contents → CannotPrint mid.failures new.failures fault
-      → AnswersReading (IsListed form area first base) path before after old new (Err fault)
+      → PrintsReading (IsListed form area first base) path before after old new (Err fault)
   base_unlisted path before after fault begun failed = (
     inl (inl (subst (λ (n : ℕ). CannotPrint n new.failures fault) once failed)),
     record {

@@ -10,6 +10,6 @@ abbrev pub StopsReading : List ℕ → ℕ → ℕ → ℕ → ℕ → Fault →
 StopsReading path before after printed now fault = Stops printed now fault ⊎ (CannotRead path before after fault × (now ≡ printed))
 
 -- The answer of such a command: a right one, or it was stopped after a beginning of the lines.
-abbrev pub AnswersReading : {A : Type 0} → (List ℕ → A → Type 0) → List ℕ → ℕ → ℕ → Output → Output → Result A Fault → Type 0
-AnswersReading IsRight path before after old new (Ok right) = IsDone IsRight old new right
-AnswersReading IsRight path before after old new (Err fault) = StopsReading path before after old.failures new.failures fault × IsBegun IsRight old new
+abbrev pub PrintsReading : {A : Type 0} → (List ℕ → A → Type 0) → List ℕ → ℕ → ℕ → Output → Output → Result A Fault → Type 0
+PrintsReading IsRight path before after old new (Ok right) = IsDone IsRight old new right
+PrintsReading IsRight path before after old new (Err fault) = StopsReading path before after old.failures new.failures fault × IsBegun IsRight old new

@@ -11,7 +11,6 @@ ghost use Rattle.cmd_status.specs.Ended.{Answers};
 ghost use Rattle.echo_filed.specs.Filed as filed;
 
 use crate::exporting::state_of;
-use crate::listing::base_read;
 use base_folder::{BaseReader, MessageSource, fetch_message};
 use cmd_print::push_base_total;
 use cmd_status::{Fault, Status, print_rest};
@@ -43,8 +42,7 @@ pub fn list_areas<'a, S: BuildHasher + Drop, W: Sink>(
 ) -> Result<Status, Fault<'a>>
     ensures { ListAreasAnswers base.now (output_of W.contents W.failures W.holds out.old) (output_of W.contents W.failures W.holds out.new) result }
 {
-    let base = base_read(alloc, base, hasher)?;
-    let mut messages = BaseReader::new(base);
+    let mut messages = BaseReader::read(alloc, base, hasher)?;
     list_areas_of(alloc, "", &mut messages, out)
 }
 

@@ -5,9 +5,9 @@ ghost use Rattle.cmd_status.specs.Devices.{output_of};
 ghost use Rattle.cmd_status.specs.Ended.{Stops};
 ghost use Rattle.cmd_status.specs.Lines.{PassesOn, WritesFront};
 ghost use Rattle.cmd_show.specs.Exporting.{ExportAnswers, IsExported, is_exported, is_sought, lost_line, sought_count, sought_lost, sought_text, sought_texts, state_of};
-ghost use Rattle.cmd_show.specs.Fetching.{AnswersReading, StopsReading};
+ghost use Rattle.cmd_show.specs.Fetching.{PrintsReading, StopsReading};
 
-use crate::listing::{base_read, is_of_area, upper_tag};
+use crate::listing::{is_of_area, upper_tag};
 use base_folder::{BaseReader, MessageSource, begin_at, fetch_message};
 use cmd_status::{Fault, pass_on, print_rest};
 use disk_io::Sink;
@@ -50,8 +50,7 @@ pub fn export<'a, S: BuildHasher + Drop, W: Sink>(
 ) -> Result<u128, Fault<'a>>
     ensures { ExportAnswers asked.now.form (option_copied asked.now.area) asked.now.first asked.now.purged base.now (output_of W.contents W.failures W.holds out.old) (output_of W.contents W.failures W.holds out.new) result }
 {
-    let base = base_read(alloc, base, hasher)?;
-    let mut messages = BaseReader::new(base);
+    let mut messages = BaseReader::read(alloc, base, hasher)?;
     export_messages(alloc, asked, "", &mut messages, out)
 }
 
@@ -66,7 +65,7 @@ pub fn export_messages<'a, M: MessageSource, W: Sink>(
 ) -> Result<u128, Fault<'a>>
     requires { (M.state messages.old).is_ready }
     ensures { (M.state messages.new).is_honest → (base : model.Base) → (M.state messages.old).holds base
-        → AnswersReading (IsExported asked.now.form (option_copied asked.now.area) asked.now.first asked.now.purged base) path.now (M.state messages.old).failures (M.state messages.new).failures
+        → PrintsReading (IsExported asked.now.form (option_copied asked.now.area) asked.now.first asked.now.purged base) path.now (M.state messages.old).failures (M.state messages.new).failures
         (output_of W.contents W.failures W.holds out.old) (output_of W.contents W.failures W.holds out.new) result }
 {
     let area = upper_tag(alloc, asked.area)?;

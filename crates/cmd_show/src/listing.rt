@@ -1,16 +1,14 @@
 //! The command `list`: the messages of a base.
-ghost use Rattle.std.specs.Prelude.{◌≡◌, ◌⊎◌, ◌++◌, IfErr, IfOk, Some, OnOk, OnErr, length, option_copied, option_map};
+ghost use Rattle.std.specs.Prelude.{◌≡◌, ◌++◌, IfErr, IfOk, OnOk, OnErr, length, option_copied, option_map};
 ghost use Rattle.base_file.specs.Base as model;
 ghost use Rattle.cmd_status.specs.Devices.{output_of};
 ghost use Rattle.echo_links.specs.Links.{upper};
 ghost use Rattle.cmd_print.specs.BaseListed.{asked_text, is_asked, is_of_area, messages_text};
-ghost use Rattle.cmd_show.specs.Fetching.{AnswersReading, StopsReading};
+ghost use Rattle.cmd_show.specs.Fetching.{PrintsReading, StopsReading};
 ghost use Rattle.cmd_show.specs.Listing.{IsListed, ListAnswers};
-ghost use Rattle.cmd_status.specs.Ended.{IsOutOfMemory, Stops};
-ghost use Rattle.cmd_status.specs.Inputs.{IsBaseFault, IsBaseGiven};
+ghost use Rattle.cmd_status.specs.Ended.{Stops};
 ghost use Rattle.cmd_status.specs.Lines.{PassesOn, WritesFront};
 
-use base_file::Base;
 use base_folder::{BaseReader, MessageSource, begin_at, fetch_message};
 use cmd_print::{ListForm, push_base_total, push_listed};
 use cmd_status::{Fault, Status, pass_on, print_rest};
@@ -48,8 +46,7 @@ pub fn list<'a, S: BuildHasher + Drop, W: Sink>(
 ) -> Result<Status, Fault<'a>>
     ensures { ListAnswers asked.now.form (option_copied asked.now.area) asked.now.first base.now (output_of W.contents W.failures W.holds out.old) (output_of W.contents W.failures W.holds out.new) result }
 {
-    let base = base_read(alloc, base, hasher)?;
-    let mut messages = BaseReader::new(base);
+    let mut messages = BaseReader::read(alloc, base, hasher)?;
     list_messages(alloc, asked, "", &mut messages, out)
 }
 
@@ -64,7 +61,7 @@ pub fn list_messages<'a, M: MessageSource, W: Sink>(
 ) -> Result<Status, Fault<'a>>
     requires { (M.state messages.old).is_ready }
     ensures { (M.state messages.new).is_honest → (base : model.Base) → (M.state messages.old).holds base
-        → AnswersReading (IsListed asked.now.form (option_copied asked.now.area) asked.now.first base) path.now (M.state messages.old).failures (M.state messages.new).failures
+        → PrintsReading (IsListed asked.now.form (option_copied asked.now.area) asked.now.first base) path.now (M.state messages.old).failures (M.state messages.new).failures
         (output_of W.contents W.failures W.holds out.old) (output_of W.contents W.failures W.holds out.new) result }
 {
     let area = upper_tag(alloc, asked.area)?;
@@ -80,18 +77,6 @@ pub fn list_messages<'a, M: MessageSource, W: Sink>(
     push_base_total(&mut lines, count, count.saturating_sub(scanned))?;
     print_rest(&mut lines, out)?;
     Ok(Status::Good)
-}
-
-/// The base of the file.
-pub(crate) fn base_read<'a, S: BuildHasher + Drop>(
-    alloc: Global,
-    base: &[u8],
-    hasher: S,
-) -> Result<Base<S>, Fault<'a>>
-    ensures ok { IfOk result (λ b. IsBaseGiven (Some base.now) b.messages b.cursor) }
-    ensures err { IfErr result (λ fault. IsOutOfMemory fault ⊎ IsBaseFault (Some base.now) fault) }
-{
-    Ok(Base::load(alloc, &mut &*base, hasher)?)
 }
 
 /// The tag in capital letters, if one is given.

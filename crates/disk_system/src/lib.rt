@@ -29,4 +29,7 @@ pub use real_disk::RealDisk;
 pub use staging::{Access, access_of, check_left, give_access, make_new};
 pub use start::{NoFiles, Start, Unknown};
 pub use trace::{Call, Trace};
-pub use writing::{NewFile, OutputFault, create_file, flush_folder, flush_path, target_of};
+pub use writing::{
+    NewFile, OutputFault, StagedFile, begin_file, create_file, drop_file, flush_folder, flush_path,
+    name_file, target_of,
+};

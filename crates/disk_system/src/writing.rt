@@ -10,7 +10,7 @@ use crate::staging::{make_staging, staging_name};
 use disk_io::{Failure, Sink, Watched, send};
 use std::alloc::{AllocError, Global};
 use std::fs::OpenFile;
-use std::io::{ErrorKind, Write};
+use std::io::ErrorKind;
 use std::rt::Files;
 use std::{fs, io};
 
@@ -57,25 +57,65 @@ impl From<io::Error> for OutputFault {
     }
 }
 
-/// Makes a file of these bytes. If the path exists, that is a fault, and it stays. It does not flush the
-/// folder: `flush_folder` does, once for many files.
+/// A new file that has no name yet. Its bytes go to a staging file.
+#[derive(Drop)]
+pub struct StagedFile<F> {
+    /// The staging file, to be written.
+    pub device: Watched<F>,
+    staging: String,
+}
+
+/// Begins a new file for this path. Files of its kind begin with `start`. The temporary name has `own`, as in `NewFile`.
+pub fn begin_file<R: Files>(
+    alloc: Global,
+    files: &R,
+    path: &str,
+    own: &str,
+    start: &[u8],
+) -> Result<StagedFile<R::File>, OutputFault> {
+    let staging = staging_name(alloc, path, own)?;
+    let file = make_staging(alloc, files, staging.as_str(), start)?;
+    Ok(StagedFile {
+        device: Watched::new(file),
+        staging,
+    })
+}
+
+/// Flushes a file that was written to the disk, and gives it its name. If the path exists, that is a fault, and it
+/// stays. It does not flush the folder: `flush_folder` does, once for many files.
+pub fn name_file<R: Files>(
+    files: &R,
+    staged: StagedFile<R::File>,
+    path: &str,
+) -> Result<(), OutputFault> {
+    let StagedFile { device, staging } = staged;
+    let done = match device.into_inner().sync_all() {
+        Ok(()) => give_new_name(files, staging.as_str(), path),
+        Err(error) => Err(OutputFault::from(error)),
+    };
+    tidied(files, staging.as_str(), done)
+}
+
+/// Removes a file that was not written whole.
+pub fn drop_file<R: Files>(files: &R, staged: StagedFile<R::File>) {
+    let _ = fs::remove_file(files, staged.staging.as_str());
+}
+
+/// Makes a file of these bytes. If the path exists, that is a fault, and it stays. It does not flush the folder.
 pub fn create_file<R: Files>(
     alloc: Global,
     files: &R,
     new: NewFile<'_>,
 ) -> Result<(), OutputFault> {
-    let staging = staging_name(alloc, new.path, new.own)?;
-    let file = make_staging(
-        alloc,
-        files,
-        staging.as_str(),
-        start_of(new.bytes, new.known_by),
-    )?;
-    let done = match write_flushed(file, new.bytes) {
-        Ok(()) => give_new_name(files, staging.as_str(), new.path),
-        failed => failed,
-    };
-    tidied(files, staging.as_str(), done)
+    let start = start_of(new.bytes, new.known_by);
+    let mut staged = begin_file(alloc, files, new.path, new.own, start)?;
+    match put_bytes(&mut staged.device, new.bytes) {
+        Ok(()) => name_file(files, staged, new.path),
+        Err(fault) => {
+            drop_file(files, staged);
+            Err(fault)
+        }
+    }
 }
 
 /// Flushes a folder to the disk, so that a power cut removes no name from it.
@@ -111,14 +151,6 @@ fn folder_of(path: &str) -> &str {
 fn give_new_name<R: Files>(files: &R, staging: &str, path: &str) -> Result<(), OutputFault> {
     fs::hard_link(files, staging, path)?;
     fs::remove_file(files, staging)?;
-    Ok(())
-}
-
-// Writes a file that was just made, and flushes it to the disk.
-fn write_flushed<F: Write + OpenFile + Drop>(file: F, bytes: &[u8]) -> Result<(), OutputFault> {
-    let mut device = Watched::new(file);
-    put_bytes(&mut device, bytes)?;
-    device.into_inner().sync_all()?;
     Ok(())
 }
 

@@ -1,14 +1,14 @@
-use Rattle.std.proofs.Common.{◌≡◌, ◌∙◌, ◌⊎◌, inl, inr, ap, refl, sym, subst}
+use Rattle.std.proofs.Common.{◌≡◌, ◌∙◌, ◌⊎◌, ⊎_elim, inl, inr, ap, refl, sym, subst}
 use Rattle.base_log.specs.Standing.{base_at}
 use Rattle.base_log.specs.declared.log.End.{End}
 use Rattle.base_log.specs.declared.log.CommitRecord.{CommitRecord}
 use Rattle.base_folder_store.specs.Opened.{path_of}
 use Rattle.base_folder_store.specs.declared.folder.Folder.{Folder}
-use Rattle.base_folder.specs.Ours.{number_of}
-use Rattle.base_folder.proofs.Openings.{claimed_committed, claimed_named, claimed_opened, claimed_same, log_since, looked_only, opened_holds, opened_only, told_other}
+use Rattle.base_folder.specs.Ours.{IsLeftAlone, IsNotOurs, number_of}
+use Rattle.base_folder.proofs.Lookings.{err_is}
+use Rattle.base_folder.proofs.Openings.{claimed_committed, claimed_named, claimed_opened, claimed_same, log_since, looked_only, opened_holds, opened_only, other_cause, other_left, other_told, told_other}
 use Rattle.base_folder.proofs.Wrongs.{sound_by}
 use Rattle.base_folder.proofs.opening.open_own.Goals as goal
-use Rattle.base_folder.proofs.opening.open_own.Goals.{else-owner-ne0-via-then-owner-ne0+else-owner-number, else-owner-ne0-via-else-owner-ne0}
 
 pub open-requires-clause-alone : goal.open-requires-clause-alone
 open-requires-clause-alone g c honest = λ m inside. c.judged.ensures.quiet.alone m (λ h. h) (c.requires (c.judged.ensures.quiet.honest honest) m inside)
@@ -25,13 +25,31 @@ pub claim_for-requires : goal.claim_for-requires
 claim_for-requires g c =
     let own = c.args.own in
     subst (λ (t : CommitRecord). (t.mark.owner ≡ 0) ⊎ (t.mark.owner ≡ number_of own)) (sym (c.in_ok-folder.ensures.fresh.settled ∙ ap (λ (e : End). e.told) c.in_ok-folder.ensures.end))
-    (elim c.else-owner-ne0.branch [
-      | else-owner-ne0-via-then-owner-ne0+else-owner-number w ↦ inr (w.if-owner-number.false ∙ c.number_of-number.ensures.number)
-      | else-owner-ne0-via-else-owner-ne0 w ↦ inl w.if-owner-ne0.false
-    ])
+    c.in_ok-judge_owner.ensures.ours
 
-pub returns-then-owner-number-clause-run : goal.returns-then-owner-number-clause-run
-returns-then-owner-number-clause-run g c = looked_only c.args.path.now (g.D.Disk.state c.args.disk.now) (g.D.Disk.state c.judged.new.disk) c.judged.ensures.quiet
+pub returns-in_err-judge_owner-clause-run : goal.returns-in_err-judge_owner-clause-run
+returns-in_err-judge_owner-clause-run g c = looked_only c.args.path.now (g.D.Disk.state c.args.disk.now) (g.D.Disk.state c.judged.new.disk) c.judged.ensures.quiet
+
+pub returns-in_err-judge_owner-clause-refused : goal.returns-in_err-judge_owner-clause-refused
+returns-in_err-judge_owner-clause-refused g c = λ honest.
+    let old = g.D.Disk.state c.args.disk.now in
+    let new = g.D.Disk.state c.judged.new.disk in
+    let e = c.in_err-judge_owner.field-0.0 in
+    err_is (IsLeftAlone old new) e c.from_residual-in_err-judge_owner.result c.from_residual-in_err-judge_owner.ensures.1 (other_left c.args.own c.in_ok-log.log.end.told.mark old new e c.judged.ensures.quiet c.in_err-judge_owner.ensures.other)
+
+pub returns-in_err-judge_owner-clause-wrong : goal.returns-in_err-judge_owner-clause-wrong
+returns-in_err-judge_owner-clause-wrong g c = λ honest.
+    let own = c.args.own in
+    let path = c.args.path.now in
+    let files = (g.D.Disk.state c.args.disk.now).seen in
+    let told = c.in_ok-log.log.end.told in
+    let e = c.in_err-judge_owner.field-0.0 in
+    err_is (IsNotOurs own c.args.strange path files) e c.from_residual-in_err-judge_owner.result c.from_residual-in_err-judge_owner.ensures.1
+    (other_told own c.args.strange path files told e (record { end = c.in_ok-log.log.end; log = c.in_ok-log.ensures.folder honest; is = refl }) c.in_err-judge_owner.ensures.other)
+
+pub returns-in_err-judge_owner-clause-cause : goal.returns-in_err-judge_owner-clause-cause
+returns-in_err-judge_owner-clause-cause g c =
+    other_cause c.args.own c.in_ok-log.log.end.told.mark c.in_err-judge_owner.field-0.0 _ _ c.from_residual-in_err-judge_owner.result c.from_residual-in_err-judge_owner.ensures.1 c.judged.ensures.cause.later c.in_err-judge_owner.ensures.other
 
 pub returns-in_err-folder-clause-run : goal.returns-in_err-folder-clause-run
 returns-in_err-folder-clause-run g c =
@@ -71,10 +89,7 @@ returns-clause-other g c honest address other =
     let own = c.args.own in
     let told = c.in_ok-log.log.end.told in
     told_other own c.args.strange c.args.path.now (g.D.Disk.state c.args.disk.now).seen told address (record { end = c.in_ok-log.log.end; log = c.in_ok-log.ensures.folder h1; is = refl })
-    (elim c.else-owner-ne0.branch [
-      | else-owner-ne0-via-then-owner-ne0+else-owner-number w ↦ inr (w.if-owner-number.false ∙ c.number_of-number.ensures.number)
-      | else-owner-ne0-via-else-owner-ne0 w ↦ inl w.if-owner-ne0.false
-    ]) other
+    c.in_ok-judge_owner.ensures.ours other
 
 pub returns-clause-own : goal.returns-clause-own
 returns-clause-own g c =
@@ -90,13 +105,12 @@ returns-clause-own g c =
       path = ap (λ (x : Folder). path_of x) only ∙ fresh.path;
       ours = c.claim_for.ensures.ours.owner;
       drawn = λ none.
-          elim c.else-owner-ne0.branch [
-            | else-owner-ne0-via-then-owner-ne0+else-owner-number w ↦
-                inr (ap (λ (x : Folder). x.end.told.mark.owner) only ∙ ap (λ (e : End). e.told.mark.owner) end ∙ w.if-owner-number.false ∙ c.number_of-number.ensures.number)
-            | else-owner-ne0-via-else-owner-ne0 w ↦
-                inl (c.claim_for.ensures.drawn (record {
-                  owner = ap (λ (t : CommitRecord). t.mark.owner) fresh.settled ∙ ap (λ (e : End). e.told.mark.owner) end ∙ w.if-owner-ne0.false;
-                  keys = sym (ap (λ (x : Folder). x.keys) only) ∙ none;
-                }))
-          ];
+          ⊎_elim
+          (λ (free : c.in_ok-log.log.end.told.mark.owner ≡ 0). inl (c.claim_for.ensures.drawn (record {
+            owner = ap (λ (t : CommitRecord). t.mark.owner) fresh.settled ∙ ap (λ (e : End). e.told.mark.owner) end ∙ free;
+            keys = sym (ap (λ (x : Folder). x.keys) only) ∙ none;
+          })))
+          (λ (ours : c.in_ok-log.log.end.told.mark.owner ≡ number_of c.args.own).
+          inr (ap (λ (x : Folder). x.end.told.mark.owner) only ∙ ap (λ (e : End). e.told.mark.owner) end ∙ ours))
+          c.in_ok-judge_owner.ensures.ours;
     }

@@ -1,5 +1,4 @@
-use Rattle.std.proofs.Common.{Some, ap}
-use Rattle.base_file.specs.Base.{Base}
+use Rattle.std.proofs.Common.{Some, refl}
 use Rattle.cmd_status.specs.Devices.{output_of}
 use Rattle.cmd_status.specs.Inputs.{IsBaseFault}
 use Rattle.cmd_show.specs.AreasListed.{AreAreasListed, AreListed}
@@ -8,9 +7,8 @@ use Rattle.cmd_show.proofs.area_counts.list_areas.Goals as goal
 
 pub returns : goal.returns
 returns g c =
-    let base = c.in_ok-base.base in
-    let same = c.new-messages.ensures in
+    let base = c.in_ok-messages.messages.base in
     at_once (AreListed base) (AreAreasListed c.args.base.now) (IsBaseFault (Some c.args.base.now)) _
     (output_of g.W.Write.contents g.W.Sink.failures g.W.Sink.holds c.args.out.now) (output_of g.W.Write.contents g.W.Sink.failures g.W.Sink.holds c.list_areas_of.new.out)
-    (λ lines status is. record { base = base; given = c.in_ok-base.ensures.ok; listed = is })
-    c.list_areas_of.result (c.list_areas_of.ensures tt base (ap (λ (b : Base). b.messages) same, ap (λ (b : Base). b.cursor) same))
+    (λ lines status is. record { base = base; given = c.in_ok-messages.ensures.ok; listed = is })
+    c.list_areas_of.result (c.list_areas_of.ensures tt base (refl, refl))

@@ -1,17 +1,15 @@
-use Rattle.base_file.specs.Base.{Base}
 use Rattle.cmd_status.specs.Devices.{output_of}
 use Rattle.cmd_status.specs.Inputs.{IsBaseFault}
-use Rattle.std.proofs.Common.{Some, ap}
+use Rattle.std.proofs.Common.{Some, refl}
 use Rattle.cmd_show.specs.Listing.{IsBaseListed, IsListed}
 use Rattle.cmd_show.proofs.Fetchings.{in_pieces}
 use Rattle.cmd_show.proofs.listing.list.Goals as goal
 
 pub returns : goal.returns
 returns g c =
-    let base = c.in_ok-base.base in
+    let base = c.in_ok-messages.messages.base in
     let asked = c.args.asked.now in
-    let same = c.new-messages.ensures in
     in_pieces (IsListed asked.form _ asked.first base) (IsBaseListed asked.form _ asked.first c.args.base.now) (IsBaseFault (Some c.args.base.now)) _
     (output_of g.W.Write.contents g.W.Sink.failures g.W.Sink.holds c.args.out.now) (output_of g.W.Write.contents g.W.Sink.failures g.W.Sink.holds c.list_messages.new.out)
-    (λ lines status is. record { base = base; given = c.in_ok-base.ensures.ok; listed = is })
-    c.list_messages.result (c.list_messages.ensures tt base (ap (λ (b : Base). b.messages) same, ap (λ (b : Base). b.cursor) same))
+    (λ lines status is. record { base = base; given = c.in_ok-messages.ensures.ok; listed = is })
+    c.list_messages.result (c.list_messages.ensures tt base (refl, refl))

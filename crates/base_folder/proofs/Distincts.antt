@@ -1,0 +1,48 @@
+-- Messages of a base, of which no two have one key.
+use Rattle.std.proofs.Common.{◌≡◌, ◌∙◌, ◌<◌, ◌||◌, ℕ, suc, zero, Bool, true, false, List, [], ◌∷◌, Option, None, Some, take, refl, sym, ap, subst, arith}
+use Rattle.std.specs.Prelude.{option_map, slice_get}
+use Rattle.std.proofs.lemmas.Bool.{false≢true}
+use Rattle.std.proofs.lemmas.Option.{get_or_from_slice_get, slice_get_within}
+use Rattle.echo_filed.specs.Filed.{Filed, key_of, same_key}
+use Rattle.echo_filed.specs.declared.key.Key.{Key}
+use Rattle.echo_filed.proofs.Keys.{same_key_decides}
+use Rattle.base_file.specs.Base.{IsBase, is_known}
+use Rattle.base_folder_store.proofs.Stubbed.{new_at}
+
+-- the message of this number has the key
+abbrev pub HasKeyAt : List Filed → ℕ → Key → Type 0
+HasKeyAt all i key = option_map key_of (slice_get all i) ≡ Some key
+
+or_true : (b : Bool) → (b || true) ≡ true
+or_true true = refl
+or_true false = refl
+
+-- the messages up to a later one know it
+known_before : (all : List Filed) (key : Key) (i n : ℕ) → i < n → HasKeyAt all i key → is_known (take n all) key ≡ true
+known_before [] key i n less has = absurd (cc (has))
+known_before (m ∷ all) key i zero less has = absurd (omega (arith, less))
+known_before (m ∷ all) key zero (suc n) less has =
+    let same : key_of m ≡ key = cc (has) in
+    ap (λ (b : Bool). b || is_known (take n all) key) ((same_key_decides (key_of m) key).1 same)
+known_before (m ∷ all) key (suc i) (suc n) less has =
+    let later = known_before all key i n (omega (arith, less)) has in
+    ap (λ (b : Bool). same_key (key_of m) key || b) later ∙ or_true (same_key (key_of m) key)
+
+-- the message of this number
+message_of : (message : Option Filed) (key : Key) → option_map key_of message ≡ Some key → (m : Filed) × (message ≡ Some m) × (key_of m ≡ key)
+message_of None key has = absurd (cc (has))
+message_of (Some m) key has = let same : key_of m ≡ key = cc (has) in (m, refl, same)
+
+-- so no two messages have one key
+pub one_key : (all : List Filed) (cursor i j : ℕ) (key : Key) → IsBase all cursor → i < j → HasKeyAt all i key → HasKeyAt all j key → ⊥
+one_key all cursor i j key is less first second =
+    let found = message_of (slice_get all j) key second in
+    let m = found.0 in
+    let at = found.1 in
+    let within = slice_get_within all j m at in
+    let known = known_before all key i j less first in
+    let new = new_at [] all j m within is.new in
+    let unknown : is_known (take j all) key ≡ false =
+    subst (λ (k : Key). is_known (take j all) k ≡ false) found.2
+    (subst (λ (x : Filed). is_known (take j all) (key_of x) ≡ false) (get_or_from_slice_get all j m m at) new) in
+    absurd (false≢true (sym unknown ∙ known))

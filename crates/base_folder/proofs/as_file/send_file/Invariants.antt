@@ -1,0 +1,18 @@
+-- The head and the messages before this one were sent.
+use Rattle.std.proofs.Common.{◌≡◌, ◌≤◌, ◌++◌, length, take}
+use Rattle.std.specs.Io.KnownBytes.{Appends}
+use Rattle.base_file.specs.Base.{Base}
+use Rattle.base_file.specs.BaseFile.{head_bytes}
+use Rattle.base_file.proofs.SavedMessages.{stored_all}
+use Rattle.echo_filed.specs.declared.stored.Version.TheVariants.{Second}
+use Rattle.base_folder.specs.Source.{LooksAt}
+use Rattle.base_folder.proofs.as_file.send_file.Given as goal
+
+abbrev pub invariant-messages : goal.invariant-messages
+invariant-messages g l = record {
+  looks : LooksAt (g.M.MessageSource.state l.fn.messages) (g.M.MessageSource.state l.messages);
+  later : (g.M.MessageSource.state l.fn.messages).failures ≤ (g.M.MessageSource.state l.messages).failures;
+  sent : (g.M.MessageSource.state l.messages).is_honest → (base : Base) → (g.M.MessageSource.state l.fn.messages).holds base
+      → Appends (g.W.Write.contents l.fn.file) (g.W.Write.contents l.file) (head_bytes Second base.cursor (length base.messages) ++ stored_all base.cursor (take l.i base.messages));
+  failed : g.W.Sink.failures l.file ≡ g.W.Sink.failures l.fn.file;
+}
