@@ -1,20 +1,25 @@
 -- Why packets were not written.
-use Rattle.std.proofs.Common.{◌≤◌, ℕ, arith}
-use Rattle.std.specs.Prelude.{Bool, Err, IsErrOf, Ok}
+use Rattle.std.proofs.Common.{◌≡◌, ◌≤◌, ℕ, arith}
+use Rattle.std.specs.Prelude.{Err, IsErrOf, Ok}
+use Rattle.base_file.specs.Base.{Base}
+use Rattle.disk_io.specs.Device.{Failed}
 use Rattle.disk_io.specs.Runs.{HasCause}
 use Rattle.disk_io.specs.declared.disk_error.DiskError.{DiskError}
-use Rattle.disk_io.specs.declared.disk_error.DiskError.TheVariants as disk
-use Rattle.base_store.specs.Store.{HasStoreCause, StoreState}
+use Rattle.disk_atomic.specs.declared.placing_error.PlacingError.{PlacingError}
+use Rattle.disk_atomic.specs.declared.placing_error.PlacingError.TheVariants as placing
+use Rattle.base_store.specs.Store.{StoreState}
 use Rattle.base_store.specs.declared.store_error.StoreError.{StoreError}
 use Rattle.base_store.specs.declared.store_error.StoreError.TheVariants as store
 use Rattle.echo_toss.specs.Bounds.{IsFullWhenRead}
 use Rattle.station.proofs.Failures.{failed_wider}
 use Rattle.station.specs.Beneath.{HoldsAsBefore}
 use Rattle.station_scan.specs.Beneath.{IsFullOnWay}
-use Rattle.station_scan.specs.Publishing.{HasStageCause}
-use Rattle.station_scan.specs.Writing.{HasStopCause, stop_stays, stop_told}
-use Rattle.station_scan.specs.declared.writing.StageStop.{StageStop}
-use Rattle.station_scan.specs.declared.writing.StageStop.TheVariants.{OfDisk, OfStore}
+use Rattle.station_scan.specs.Publishing.{HasPublishCause}
+use Rattle.station_scan.specs.Writing.{HasStopCause, stop_told}
+use Rattle.station_scan.specs.declared.passing.PassStop.{PassStop}
+use Rattle.station_scan.specs.declared.passing.PassStop.TheVariants.{Placing, Reading}
+use Rattle.station_scan.specs.declared.publish_error.PublishError.{PublishError}
+use Rattle.station_scan.specs.declared.publish_error.PublishError.TheVariants.{Packets, Staging}
 
 -- a store that holds what one held that holds what this one held
 pub full_later : {S : Type 0} (state : S → StoreState) (s0 s1 : StoreState) → HoldsAsBefore s0 s1 → IsFullOnWay state s1 → IsFullOnWay state s0
@@ -28,74 +33,70 @@ full_later state s0 s1 holds way = record {
 pub full_read : {S : Type 0} (state : S → StoreState) (s0 : StoreState) → IsFullWhenRead state s0 → IsFullOnWay state s0
 full_read state s0 past = record { store = past.store; holds = record { ready = past.looks.ready; keeps = past.looks.keeps; committed = past.looks.committed }; full = past.full }
 
+-- why a pass stopped
 module _ {S : Type 0} (state : S → StoreState) (s0 s1 : StoreState) (f0 f1 : ℕ) where
   pub none_stops : {T : Type 0} (value : T) → f0 ≤ f1 → HasStopCause state s0 s1 f0 f1 (Ok value)
-  none_stops value later = record { later = later; of_disk = λ e. absurd (cc e); of_store = λ e. absurd (cc e); damaged = λ honest e. absurd (cc e); many = λ e. absurd (cc e) }
+  none_stops value later = record { later = later; placing = λ e. absurd (cc e); reading = λ e. absurd (cc e); damaged = λ honest e. absurd (cc e); many = λ e. absurd (cc e) }
 
-  pub disk_stops : {A T : Type 0} (cause : DiskError) → HasCause {T = A} f0 f1 (Err cause) → HasStopCause {T = T} state s0 s1 f0 f1 (Err (OfDisk cause))
-  disk_stops cause was = record { later = was.later; of_disk = λ e. was.failed (cc e); of_store = λ e. absurd (cc e); damaged = λ honest e. absurd (cc e); many = λ e. absurd (cc e) }
+  pub placing_stops : {T : Type 0} (cause : PlacingError) → f0 ≤ f1 → (cause ≡ placing.Device → Failed f0 f1) → HasStopCause {T = T} state s0 s1 f0 f1 (Err (Placing cause))
+  placing_stops cause later device = record {
+    later = later;
+    placing = λ e. device (let same : Placing cause ≡ Placing placing.Device = cc e in cc same);
+    reading = λ e. absurd (cc e);
+    damaged = λ honest e. absurd (cc e);
+    many = λ e. absurd (cc e);
+  }
 
-  pub store_stops : {A T : Type 0} (cause : StoreError) → HasStoreCause {T = A} s0 s1 f0 f1 (Err cause) → (IsErrOf {T = A} (Err cause) store.TooMany → IsFullWhenRead state s0) → HasStopCause {T = T} state s0 s1 f0 f1 (Err (OfStore cause))
-  store_stops cause was many = record {
-    later = was.later;
-    of_disk = λ e. absurd (cc e);
-    of_store = λ e. was.failed (cc e);
-    damaged = λ honest e. was.damaged honest (cc e);
-    many = λ e. full_read state s0 (many (cc e));
+  pub store_stops : {T : Type 0} (cause : StoreError) → f0 ≤ f1 → (cause ≡ store.Device → Failed f0 f1) → (s1.disk.is_honest → cause ≡ store.Damaged → (base : Base) → s0.keeps base → ⊥) → (cause ≡ store.TooMany → IsFullOnWay state s0)
+      → HasStopCause {T = T} state s0 s1 f0 f1 (Err (Reading cause))
+  store_stops cause later device damaged many = record {
+    later = later;
+    placing = λ e. absurd (cc e);
+    reading = λ e. device (let same : Reading cause ≡ Reading store.Device = cc e in cc same);
+    damaged = λ honest e. damaged honest (let same : Reading cause ≡ Reading store.Damaged = cc e in cc same);
+    many = λ e. many (let same : Reading cause ≡ Reading store.TooMany = cc e in cc same);
   }
 
 -- and then the staging files were removed, or were not
-module _ {S : Type 0} (state : S → StoreState) (s0 s1 s2 : StoreState) (f0 f1 f2 : ℕ) (run : s2.disk.is_honest → s1.disk.is_honest) where
-  pub told_cause : (stop : StageStop) → HasStopCause {T = Bool} state s0 s1 f0 f1 (Err stop) → f1 ≤ f2 → HasStageCause {T = Bool} state s0 s2 f0 f2 (Err (stop_told stop))
-  told_cause (OfDisk disk.Device) was more = record {
+module _ {S T : Type 0} (state : S → StoreState) (s0 s1 s2 : StoreState) (f0 f1 f2 : ℕ) (run : s2.disk.is_honest → s1.disk.is_honest) where
+  pub told_stop : (stop : PassStop) → HasStopCause {T = Unit {0}} state s0 s1 f0 f1 (Err stop) → f1 ≤ f2 → HasPublishCause {T = T} state s0 s2 f0 f2 (Err (stop_told stop))
+  told_stop (Placing cause) was more = record {
     later = omega (arith, was.later, more);
-    packets = λ e. failed_wider f0 f0 f1 f2 (omega arith) more (was.of_disk cc);
+    packets = λ e. failed_wider f0 f0 f1 f2 (omega arith) more (was.placing (cc e));
     staging = λ e. absurd (cc e);
+    base = λ e. absurd (cc e);
     reading = λ e. absurd (cc e);
+    damaged = λ honest e. absurd (cc e);
     unread = λ honest e. absurd (cc e);
     many = λ e. absurd (cc e);
-    free = λ e. cc e;
-    base = λ cause e. cc e;
+    full = λ e. absurd (cc e);
   }
-  told_cause (OfDisk disk.Memory) was more = record {
+  told_stop (Reading cause) was more = record {
     later = omega (arith, was.later, more);
     packets = λ e. absurd (cc e);
     staging = λ e. absurd (cc e);
-    reading = λ e. absurd (cc e);
-    unread = λ honest e. absurd (cc e);
-    many = λ e. absurd (cc e);
-    free = λ e. cc e;
-    base = λ cause e. cc e;
-  }
-  told_cause (OfStore cause) was more = record {
-    later = omega (arith, was.later, more);
-    packets = λ e. absurd (cc e);
-    staging = λ e. absurd (cc e);
-    reading = λ e. failed_wider f0 f0 f1 f2 (omega arith) more (was.of_store (cc e));
+    base = λ e. absurd (cc e);
+    reading = λ e. failed_wider f0 f0 f1 f2 (omega arith) more (was.reading (cc e));
+    damaged = λ honest e. absurd (cc e);
     unread = λ honest e. was.damaged (run honest) (cc e);
     many = λ e. was.many (cc e);
-    free = λ e. cc e;
-    base = λ why e. cc e;
+    full = λ e. absurd (cc e);
   }
 
-  pub stays_cause : (stop : StageStop) (left : DiskError) → HasStopCause {T = Bool} state s0 s1 f0 f1 (Err stop) → HasCause {T = Unit {0}} f1 f2 (Err left) → HasStageCause {T = Bool} state s0 s2 f0 f2 (Err (stop_stays stop left))
-  stays_cause (OfDisk cause) left was drop = record {
-    later = omega (arith, was.later, drop.later);
-    packets = λ e. absurd (cc e);
-    staging = λ e. failed_wider f0 f0 f1 f2 (omega arith) drop.later (was.of_disk (cc e));
-    reading = λ e. absurd (cc e);
-    unread = λ honest e. absurd (cc e);
-    many = λ e. absurd (cc e);
-    free = λ e. cc e;
-    base = λ why e. cc e;
-  }
-  stays_cause (OfStore cause) left was drop = record {
+  pub left_stop : (stop : PassStop) (left : DiskError) → HasStopCause {T = Unit {0}} state s0 s1 f0 f1 (Err stop) → HasCause {T = Unit {0}} f1 f2 (Err left) → HasPublishCause {T = T} state s0 s2 f0 f2 (Err (Staging left))
+  left_stop stop left was drop = record {
     later = omega (arith, was.later, drop.later);
     packets = λ e. absurd (cc e);
     staging = λ e. failed_wider f0 f1 f2 f2 was.later (omega arith) (drop.failed (cc e));
+    base = λ e. absurd (cc e);
     reading = λ e. absurd (cc e);
+    damaged = λ honest e. absurd (cc e);
     unread = λ honest e. absurd (cc e);
     many = λ e. absurd (cc e);
-    free = λ e. cc e;
-    base = λ why e. cc e;
+    full = λ e. absurd (cc e);
   }
+
+-- a path in use stopped the pass
+pub told_taken : (stop : PassStop) (why : PublishError) → why ≡ stop_told stop → IsErrOf {T = Unit {0}} (Err why) (Packets placing.Taken) → IsErrOf {T = Unit {0}} (Err stop) (Placing placing.Taken)
+told_taken (Placing cause) why is taken = cc (is, taken)
+told_taken (Reading cause) why is taken = absurd (cc (is, taken))

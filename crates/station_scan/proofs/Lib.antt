@@ -1,3 +1,4 @@
+mod Lists
 mod Names
 mod Found
 mod Lefts
@@ -12,6 +13,13 @@ mod Looked
 mod Through
 mod Written
 mod Causes
+mod Plans
+mod Grown
+mod Passes
+mod Files
+mod Besides
+mod Told
 mod Scans
+mod Puts
 mod Tries
 mod Runs

@@ -1,15 +1,17 @@
 -- A store that was looked through, before packets were sent out with its commit.
-use Rattle.std.proofs.Common.{◌≡◌, ◌⊎◌, inl, inr, ⊎_elim, ℕ, List, refl, subst}
+use Rattle.std.proofs.Common.{◌≡◌, ◌⊎◌, inl, inr, ⊎_elim, ◌∙◌, ℕ, List, refl, subst}
 use Rattle.std.specs.Prelude.{All, Err, Ok, OnOk, Result}
 use Rattle.disk_io.specs.Disk.{DiskState, Files}
 use Rattle.disk_io.specs.Runs.{ChangesNothing, LeavesOnly, OneStepOn}
 use Rattle.disk_io.proofs.Moments.{then_run, weaker_run}
 use Rattle.disk_atomic.specs.declared.finishing.Left.{Left}
+use Rattle.cmd_store.specs.declared.command_error.CommandError.{CommandError}
 use Rattle.model_steps.specs.PacketFiles.{PacketFile}
 use Rattle.station_scan.specs.Left.{IsLeftOf}
 use Rattle.station_scan.specs.Publishing.{IsOnDisk}
-use Rattle.station_scan.specs.Scanning.{AreSentOut, CommitsScan, IsTaken, PreparesScan, SendsOut}
+use Rattle.station_scan.specs.Scanning.{AreSentOut, CommitsScan, IsTaken, PreparesScan, SendsOut, StopsScan}
 use Rattle.station_scan.specs.declared.scan_error.ScanError.{ScanError}
+use Rattle.station_scan.specs.declared.scan_error.ScanError.TheVariants.{Staying}
 use Rattle.station_scan.proofs.Lefts.{finishes_none}
 use Rattle.station_scan.proofs.Stops.{put_wider}
 
@@ -82,4 +84,27 @@ looked_out Own outbound own Stays Comes Stayed Came cursor files d0 d1 d2 quiet 
           (looked_sent Own outbound own Stays Comes Stayed Came cursor files d0 d1 d2 quiet stays comes stood found (IsTrue d1.seen) result sends.sent);
       crash = looked_moments Own outbound own Stays Comes Stayed Came cursor files d0 d1 d2 quiet stays comes stood found sends.crash;
       why = put_wider some failed _ _ _ result wider (λ taken. subst (IsTaken Own outbound own cursor found files) seen taken) sends.why;
+    }
+
+-- or the scan stopped
+pub looked_stop : (Own : List ℕ → Type 0) (outbound own : List ℕ) (Stays Stayed : Files → Type 0) (cursor : ℕ) (files : List PacketFile) (d0 d1 d2 : DiskState) → ChangesNothing d0 d1 → ((c : Files) → Stayed c → Stays c) → ((c : Files) → d0.may_leave c → Stays c)
+    → (IsTrue : Files → Type 0) (some failed : Type 0) → (some → failed) → (why : CommandError) (result : Result (Unit {0}) ScanError) → StopsScan (IsTrue d1.seen) some Own outbound own Stayed cursor files d1 d2 why result
+    → StopsScan (IsTrue d0.seen) failed Own outbound own Stays cursor files d0 d2 why result
+looked_stop Own outbound own Stays Stayed cursor files d0 d1 d2 quiet stays stood IsTrue some failed wider why result stops =
+    let found = stops.found in
+    let seen = same_seen d0 d1 quiet in
+    record {
+      found = found;
+      each = subst (λ (f : Files). All (IsLeftOf (IsTrue f) Own outbound own) found) seen stops.each;
+      crash =
+          then_run d0 d1 d2 (OneStepOn (PreparesScan outbound own Stays cursor found files) d0) (OneStepOn (PreparesScan outbound own Stayed cursor found files) d1)
+          (weaker_run d0 d1 d0.may_leave (OneStepOn (PreparesScan outbound own Stays cursor found files) d0) quiet.run
+          (λ c left. (c, left, record { between = c; ends = finishes_none cursor found c; writes = λ m other. refl; stands = stood c left })))
+          stops.crash
+          (λ c step. (step.0, quiet.no_more step.0 step.1, record { between = step.2.between; ends = step.2.ends; writes = step.2.writes; stands = stays c step.2.stands }));
+      shown = stays d2.seen stops.shown;
+      others = λ m other. stops.others m other ∙ quiet.seen m;
+      told =
+          ⊎_elim (λ told. inl (told.0, λ m of. ⊎_elim (λ none. inl none) (λ same. inr (same ∙ quiet.seen m)) (told.1 m of)))
+          (λ told. inr (told.0, told.1, put_wider some failed ⊥ ⊥ ⊥ (Err (Staying told.0)) wider (λ none. none) told.2)) stops.told;
     }

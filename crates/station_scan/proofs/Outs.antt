@@ -23,7 +23,7 @@ use Rattle.station_scan.specs.Left.{AreFreeLeft, EndsLeft, IsEnded, IsLeftOf, Is
 use Rattle.station_scan.specs.Publishing.{IsOnDisk, KeepsStoreBut}
 use Rattle.station_scan.specs.Sending.{HasBytes, IsAtItsPath, IsStagingGone}
 use Rattle.station_scan.specs.Scanning.{AreSentOut, CommitsScan, IsTaken, IsTouched, PreparesScan, SendsOut}
-use Rattle.station_scan.specs.Sends.{AreSentOn, IsOfThese, SendsThese, WasTriedFor}
+use Rattle.station_scan.specs.Sends.{AreSentOn, IsOfThese, SendsThese, WritesBeside}
 use Rattle.station_scan.specs.Stops.{IsOfPlacing, most, scan_done}
 use Rattle.station_scan.specs.declared.scan_error.ScanError.{ScanError}
 use Rattle.station_scan.specs.declared.scan_error.ScanError.TheVariants.{Placing}
@@ -33,7 +33,7 @@ use Rattle.station_scan.proofs.Staged.{tried_after}
 use Rattle.station_scan.proofs.Stops.{placing_why, put_wider}
 
 -- one that is over, by what is seen
-is_ended : (cursor : ℕ) (d0 d1 : DiskState) (l : Left) → IsOver cursor d0 d1 l → IsEnded cursor d0.seen d1.seen l
+pub is_ended : (cursor : ℕ) (d0 d1 : DiskState) (l : Left) → IsOver cursor d0 d1 l → IsEnded cursor d0.seen d1.seen l
 is_ended cursor d0 d1 l over = record {
   committed = λ below. (over.committed below).seen;
   untouched = over.untouched;
@@ -73,6 +73,23 @@ module _ (Own : List ℕ → Type 0) (outbound own : List ℕ) (is_true failed :
     -- it stopped before
     pub not_sent : (cause : PlacingError) → (cause ≡ Device → failed) → (cause ≡ Taken → AreFreeLeft Own outbound own s0.disk.seen → ⊥) → SendsOut is_true failed Own outbound own Stays Comes cursor files s0.disk s1.disk (Err (Placing cause))
     not_sent cause device taken = record { found = found; each = ends.each; sent = tt; crash = ended_moments; why = placing_why failed (IsTaken Own outbound own cursor found files s0.disk.seen) (most < cursor) cause device (λ is. inl (taken is)) }
+
+    -- or staging files were written, and it stopped before the commit
+    abbrev Prepared : Files → Type 0
+    Prepared = OneStepOn (PreparesScan outbound own Stays cursor found files) s0.disk
+
+    pub stopped_only : LeavesOnly s0.disk s1.disk Prepared
+    stopped_only =
+        weaker_run s0.disk s1.disk (OneStepOn (FinishesEach cursor found) s0.disk) Prepared ends.any_moment
+        (λ c step. (step.0, step.1, record { between = c; ends = step.2; writes = λ m other. refl; stands = stands_ended step.0 c step.1 step.2 }))
+
+    pub stopped_crash : (s2 : StoreState) → LeavesOnly s1.disk s2.disk (WritesBeside s1 outbound own files first) → LeavesOnly s0.disk s2.disk Prepared
+    stopped_crash s2 run =
+        then_run s0.disk s1.disk s2.disk Prepared (WritesBeside s1 outbound own files first) stopped_only run
+        (λ c over.
+        let b = over.writes.0 in
+        let at = left_now s0.disk s1.disk (OneStepOn (FinishesEach cursor found) s0.disk) ends.any_moment b over.writes.1 in
+        (at.0, at.1, record { between = b; ends = at.2; writes = over.writes.2; stands = (used.same.stands first c).0 over.stands }))
 
   -- they are at their end
   module _ (ends : EndsLeft is_true Own outbound own cursor s0.disk s1.disk (Ok tt)) (s2 : StoreState) (honest2 : s2.disk.is_honest) (kept : KeepsStoreBut (IsOfThese s1.is_own outbound own files) s1 s2) (is : s0.keeps next) where
@@ -139,33 +156,13 @@ module _ (Own : List ℕ → Type 0) (outbound own : List ℕ) (is_true failed :
       why = put_wider failed failed _ _ _ result (λ f. f) (λ taken. inr (s1.disk.seen, all_ended, ends.changes.seen, taken)) why;
     }
 
--- it was tried once they were at their end
-pub tried_ended : {D F : Type 0} (state : D → DiskState) (Own : List ℕ → Type 0) (outbound own : List ℕ) (files : List F) (s0 s1 s2 : StoreState) → IsUsedAt (IsOfNameOff Own outbound own) s0 s1
-    → HoldsAsBefore s1 s2 ⊎ WasTriedFor state Own outbound own files s1.disk → HoldsAsBefore s0 s2 ⊎ WasTriedFor state Own outbound own files s0.disk
-tried_ended state Own outbound own files s0 s1 s2 used (inl holds) = inl (holds_still s0 s1 s2 used.holds holds)
-tried_ended state Own outbound own files s0 s1 s2 used (inr (inl none)) = inr (inl none)
-tried_ended state Own outbound own files s0 s1 s2 used (inr (inr was)) =
-    let at = IsOfNameOff Own outbound own in
-    inr (inr (tried_after state at at (staging_path outbound own) s0.disk s1.disk (λ m is. is) used.changes.seen was))
-
 -- what it touches
-these_touched : (Own : List ℕ → Type 0) (outbound own : List ℕ) (files : List PacketFile) (m : List ℕ) → IsOfThese Own outbound own files m → IsTouched Own outbound m
-these_touched Own outbound own files m (inl o) = inl o
-these_touched Own outbound own files m (inr (inl (sent, has, plain, at))) = inr (own, (sent.name, plain, at))
-these_touched Own outbound own files m (inr (inr e)) = inr (own, ([], λ k d lt. absurd (omega (arith, lt)), inl (e ∙ ap (λ (l : List ℕ). staging_path l own) (sym (append-nil outbound)))))
-
-pub out_keeps : (Own : List ℕ → Type 0) (outbound own : List ℕ) (files : List PacketFile) (s0 s1 s2 : StoreState) → IsUsedAt (IsOfNameOff Own outbound own) s0 s1 → KeepsStoreBut (IsOfThese s1.is_own outbound own files) s1 s2
-    → KeepsStoreBut (IsTouched s0.is_own outbound) s0 s2
-out_keeps Own outbound own files s0 s1 s2 used kept =
+pub out_keeps : (Own : List ℕ → Type 0) (outbound own : List ℕ) (s0 s1 s2 : StoreState) → IsUsedAt (IsOfNameOff Own outbound own) s0 s1 → KeepsStoreBut (IsTouched s1.is_own outbound) s1 s2 → KeepsStoreBut (IsTouched s0.is_own outbound) s0 s2
+out_keeps Own outbound own s0 s1 s2 used kept =
     let at = IsTouched s0.is_own outbound in
     record {
       same = same_twice s0 s1 s2 used.same kept.same;
       keeps =
           keeps_then at s0.disk s1.disk s2.disk (keeps_wider (IsOfNameOff Own outbound own) at s0.disk s1.disk (λ m is. inr (own, is.0)) (keeps_only (IsOfNameOff Own outbound own) s0.disk s1.disk used.changes))
-          (keeps_wider (IsOfThese s1.is_own outbound own files) at s1.disk s2.disk (λ m is. ⊎_elim (λ o. inl ((used.same.own m).0 o)) (λ name. inr name) (these_touched s1.is_own outbound own files m is)) kept.keeps);
+          (keeps_wider (IsTouched s1.is_own outbound) at s1.disk s2.disk (λ m is. ⊎_elim (λ o. inl ((used.same.own m).0 o)) (λ name. inr name) is) kept.keeps);
     }
-
--- what was sent where the publishing ended well was where the scan did
-pub scan_sent : (P : Type 0) (done : Result (Unit {0}) PublishError) (result : Result (Unit {0}) ScanError) → result ≡ scan_done done → OnOk done P → OnOk result P
-scan_sent P (Ok value) result is sent = subst (λ (r : Result (Unit {0}) ScanError). OnOk r P) (sym is) sent
-scan_sent P (Err why) result is sent = subst (λ (r : Result (Unit {0}) ScanError). OnOk r P) (sym is) tt

@@ -1,10 +1,10 @@
 -- A scan of a store.
-use Rattle.std.proofs.Common.{◌≡◌, ◌<◌, ℕ, List, [], Result, Ok, arith, inl, inr, refl, subst, sym}
+use Rattle.std.proofs.Common.{◌≡◌, ◌<◌, ℕ, List, [], Result, Ok, ⊎_elim, arith, inl, inr, refl, subst, sym}
 use Rattle.std.specs.Prelude.{Err, IsErrOf}
 use Rattle.base_file.specs.Base.{Base}
 use Rattle.disk_io.specs.Disk.{DiskState, Files}
 use Rattle.disk_io.specs.Runs.{ChangesNothing}
-use Rattle.disk_io.proofs.Moments.{no_call, weaker_run}
+use Rattle.disk_io.proofs.Moments.{weaker_run}
 use Rattle.echo_links.specs.Links.{LinkFile}
 use Rattle.disk_atomic.specs.StagingPaths.{dotted}
 use Rattle.cmd_status.specs.Devices.{Output}
@@ -16,45 +16,17 @@ use Rattle.cmd_store.specs.Scanned.{ScansOn}
 use Rattle.cmd_store.specs.declared.command_error.CommandError.{CommandError}
 use Rattle.cmd_store.specs.declared.command_error.CommandError.TheVariants.{Store}
 use Rattle.echo_toss.specs.PacketsIn.{state_in}
-use Rattle.station_scan.specs.Scanning.{IsTaken, ScansOnStore, SendsOut, StopsScan}
-use Rattle.station_scan.specs.Stops.{IsOfPlacing, most}
+use Rattle.base_store.proofs.Runs.{same_twice}
+use Rattle.station_scan.specs.Publishing.{KeepsStoreBut}
+use Rattle.station_scan.specs.Scanning.{IsPutOn, IsTouched, ScansOnStore, StopsScan, packets_in}
+use Rattle.station_scan.proofs.Published.{keeps_nothing, keeps_then, keeps_wider}
 use Rattle.station_scan.specs.declared.scan_error.ScanError.{ScanError}
 use Rattle.station_scan.specs.declared.scan_error.ScanError.TheVariants.{Command}
 use Rattle.station_scan.proofs.Lefts.{finishes_none}
-use Rattle.station_scan.proofs.Looked.{looked_out, same_seen}
-use Rattle.station_scan.proofs.Stops.{put_whole}
-
--- nothing was sent
-pub sends_nothing : (is_true failed : Type 0) (Own : List ℕ → Type 0) (outbound own : List ℕ) (Stays Comes : Files → Type 0) (cursor : ℕ) (files : List PacketFile) (d : DiskState) (cause : ScanError)
-    → ((c : Files) → d.may_leave c → Stays c) → IsOfPlacing failed (IsTaken Own outbound own cursor [] files d.seen) (most < cursor) cause → SendsOut is_true failed Own outbound own Stays Comes cursor files d d (Err cause)
-sends_nothing is_true failed Own outbound own Stays Comes cursor files d cause stays why = record {
-  found = [];
-  each = λ k z lt. absurd (omega (arith, lt));
-  sent = tt;
-  crash = no_call d _ (λ c left. inl (c, left, record { between = c; ends = finishes_none cursor [] c; writes = λ m other. refl; stands = stays c left }));
-  why = why;
-}
-
--- the packets that were made were sent out
-pub scans_ok : (stamp : Stamp) (Own : List ℕ → Type 0) (outbound : List ℕ) (IsTrue : Files → Type 0) (some failed : Type 0) → (some → failed) → (s1 sA s2 : StoreState) (out now : Output) (file : LinkFile) (base : Base) (files : List PacketFile)
-    (result : Result (Unit {0}) ScanError) → s1.disk.is_honest → s1.is_ready → s1.committed base → IsSameStore s1 sA → ChangesNothing s1.disk sA.disk → ScansOn stamp (state_in file base) out now (Ok files) → (cursor : ℕ) → cursor ≡ base.cursor
-    → SendsOut (IsTrue sA.disk.seen) some Own outbound (dotted file.system) (sA.stands base) (sA.stands (all_scanned base)) cursor files sA.disk s2.disk result
-    → ScansOnStore stamp Own outbound IsTrue failed s1 s2 out now file base result
-scans_ok stamp Own outbound IsTrue some failed wider s1 sA s2 out now file base files result honest ready is same quiet answer cursor at sends =
-    let own = dotted file.system in
-    let next = all_scanned base in
-    record {
-      made = Ok files;
-      answer = answer;
-      put =
-          looked_out Own outbound own (s1.stands base) (s1.stands next) (sA.stands base) (sA.stands next) base.cursor files s1.disk sA.disk s2.disk quiet (λ c stood. (same.stands base c).0 stood) (λ c came. (same.stands next c).0 came)
-          (λ c left. s1.stays honest ready base is c left) IsTrue some failed wider result
-          (subst (λ (n : ℕ). SendsOut (IsTrue sA.disk.seen) some Own outbound own (sA.stands base) (sA.stands next) n files sA.disk s2.disk result) at sends);
-      whole = put_whole some _ _ result sends.why;
-    }
+use Rattle.station_scan.proofs.Looked.{looked_out, looked_stop, same_seen}
 
 -- it stopped, and nothing was written
-stops_quiet : (is_true failed : Type 0) (Own : List ℕ → Type 0) (outbound own : List ℕ) (cursor : ℕ) (files : List PacketFile) (s1 : StoreState) (new : DiskState) (base : Base) (why : CommandError)
+pub stops_quiet : (is_true failed : Type 0) (Own : List ℕ → Type 0) (outbound own : List ℕ) (cursor : ℕ) (files : List PacketFile) (s1 : StoreState) (new : DiskState) (base : Base) (why : CommandError)
     → s1.disk.is_honest → s1.is_ready → s1.committed base → ChangesNothing s1.disk new → StopsScan is_true failed Own outbound own (s1.stands base) cursor files s1.disk new why (Err (Command why))
 stops_quiet is_true failed Own outbound own cursor files s1 new base why honest ready is quiet = record {
   found = [];
@@ -76,3 +48,38 @@ scans_stopped stamp Own outbound IsTrue failed s1 s2 out now file base why hones
   put = stops_quiet (IsTrue s1.disk.seen) failed Own outbound (dotted file.system) base.cursor _ s1 s2.disk base why honest ready is quiet;
   whole = whole;
 }
+
+-- as the packets are put, before the cursor was moved
+put_moved : (Own : List ℕ → Type 0) (outbound own : List ℕ) (IsTrue : Files → Type 0) (some failed : Type 0) → (some → failed) → (s1 sA s2 : StoreState) (base : Base) (packets : List PacketFile) (made : Result (List PacketFile) CommandError)
+    (result : Result (Unit {0}) ScanError) → IsSameStore s1 sA → ChangesNothing s1.disk sA.disk → ((c : Files) → sA.stands base c → s1.stands base c) → ((c : Files) → s1.disk.may_leave c → s1.stands base c)
+    → IsPutOn Own outbound own IsTrue some sA s2 base packets made result → IsPutOn Own outbound own IsTrue failed s1 s2 base packets made result
+put_moved Own outbound own IsTrue some failed wider s1 sA s2 base packets (Ok files) result same quiet stays left put =
+    let next = all_scanned base in
+    looked_out Own outbound own (s1.stands base) (s1.stands next) (sA.stands base) (sA.stands next) base.cursor files s1.disk sA.disk s2.disk quiet stays (λ c came. (same.stands next c).0 came) left IsTrue some failed wider result put
+put_moved Own outbound own IsTrue some failed wider s1 sA s2 base packets (Err why) result same quiet stays left put =
+    looked_stop Own outbound own (s1.stands base) (sA.stands base) base.cursor packets s1.disk sA.disk s2.disk quiet stays left IsTrue some failed wider why result put
+
+-- the same of a scan once its cursor was moved
+pub scans_moved : (stamp : Stamp) (Own : List ℕ → Type 0) (outbound : List ℕ) (IsTrue : Files → Type 0) (some failed : Type 0) → (some → failed) → (s1 sA s2 : StoreState) (out now : Output) (file : LinkFile) (base : Base) (result : Result (Unit {0}) ScanError)
+    → s1.disk.is_honest → s1.is_ready → s1.committed base → IsSameStore s1 sA → ChangesNothing s1.disk sA.disk → ScansOnStore stamp Own outbound IsTrue some sA s2 out now file base result
+    → ScansOnStore stamp Own outbound IsTrue failed s1 s2 out now file base result
+scans_moved stamp Own outbound IsTrue some failed wider s1 sA s2 out now file base result honest ready is same quiet scans =
+    let own = dotted file.system in
+    let next = all_scanned base in
+    let stays = λ (c : Files) (stood : sA.stands base c). (same.stands base c).0 stood in
+    let left = λ (c : Files) (may : s1.disk.may_leave c). s1.stays honest ready base is c may in
+    record {
+      made = scans.made;
+      answer = scans.answer;
+      put = put_moved Own outbound own IsTrue some failed wider s1 sA s2 base (packets_in stamp file base) scans.made result same quiet stays left scans.put;
+      whole = scans.whole;
+    }
+
+-- and what it touched
+pub moved_keeps : (outbound : List ℕ) (s1 sA s2 : StoreState) → IsSameStore s1 sA → ChangesNothing s1.disk sA.disk → KeepsStoreBut (IsTouched sA.is_own outbound) sA s2 → KeepsStoreBut (IsTouched s1.is_own outbound) s1 s2
+moved_keeps outbound s1 sA s2 same quiet kept =
+    let at = IsTouched s1.is_own outbound in
+    record {
+      same = same_twice s1 sA s2 same kept.same;
+      keeps = keeps_then at s1.disk sA.disk s2.disk (keeps_nothing at s1.disk sA.disk quiet) (keeps_wider (IsTouched sA.is_own outbound) at sA.disk s2.disk (λ m is. ⊎_elim (λ o. inl ((same.own m).0 o)) (λ name. inr name) is) kept.keeps);
+    }

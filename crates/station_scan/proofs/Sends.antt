@@ -24,7 +24,6 @@ use Rattle.station_scan.specs.Publishing.{AreGoing, ArePublished, IsGoingAt, IsP
 use Rattle.disk_atomic.specs.ListStaged.{IsNameByte}
 use Rattle.station_scan.specs.Sending.{IsStagingOfPacket, IsNamed, IsOfPacket, for_address}
 use Rattle.station_scan.specs.Sends.{AreSentOn, IsOfThese, SendsThese, WasTriedFor, files_for}
-use Rattle.station_scan.specs.Writing.{content_for}
 use Rattle.station_scan.specs.declared.pieces.Source.{Source}
 use Rattle.station_scan.proofs.Names.{trial_in, trial_no_path, trial_not_staging}
 use Rattle.station_scan.proofs.Published.{store_wider}
@@ -72,9 +71,6 @@ module _ (Own : List ℕ → Type 0) (outbound own : List ℕ) (content : Addres
       ⊎_elim (λ none. inl (sym fitting.sent.as_many ∙ none))
       (λ was. inr (subst (λ (t : List ℕ). WasTried state (IsOfNameOff Own outbound own) t old) at_end (tried_after state (IsAtStaging packets trial) (IsOfNameOff Own outbound own) trial old old of_name (λ m out. refl) was))) tried
 
-  pub fit_taken : (disk : DiskState) → (All (IsFree disk) packets → ⊥) → AreTaken Own outbound own files disk.seen
-  fit_taken disk taken = inl (λ all. taken (free_packets outbound own content planned packets fitting.sent disk all))
-
   of_packet : (m : List ℕ) → IsGoingAt packets trial m → IsOfPacket outbound own files m
   of_packet m (inl of) = inl (is_of_file outbound own content planned packets fitting.sent names m of)
   of_packet m (inr e) = inr (e ∙ at_end)
@@ -102,15 +98,3 @@ module _ (Own : List ℕ → Type 0) (outbound own : List ℕ) (content : Addres
 
   pub fit_moments : (s : StoreState) (d : DiskState) (first next : Base) → LeavesOnly s.disk d (PublishesOn s (for_address content) packets trial first next) → LeavesOnly s.disk d (SendsThese s outbound own files first next)
   fit_moments s d first next run = weaker_run s.disk d (PublishesOn s (for_address content) packets trial first next) (SendsThese s outbound own files first next) run (fit_moment s first next)
-
--- what was published is sent, made of what the store holds
-pub fit_sent : (Own : List ℕ → Type 0) (outbound own : List ℕ) (source : Source) (planned : List PlannedPacket) (packets : List Outgoing) → AreFitting Own outbound own planned packets → (s t : StoreState)
-    → ArePublished (content_for source) packets s t → AreSentOn outbound own (files_for source planned) s t
-fit_sent Own outbound own source planned packets fitting s t are =
-    let content : Base → Address → List ℕ = λ base. bytes_for source.links.now source.stamp source.from base.messages in
-    record {
-      committed = are.committed;
-      packets = λ honest base kept. at_its_path outbound own (content base) planned packets fitting.sent t.disk (are.named honest base kept);
-      gone = λ honest base kept. none_staging outbound own (content base) planned packets fitting.sent t.disk (are.named honest base kept);
-      bytes = λ honest base kept. files_bytes outbound own (content base) planned packets fitting.sent (are.bytes honest base kept);
-    }

@@ -21,10 +21,7 @@ use Rattle.station_scan.specs.declared.sending.TwoPaths.{TwoPaths}
 use Rattle.station_scan.specs.Publishing.{IsFreeIn}
 use Rattle.disk_atomic.specs.ListStaged.{IsNameByte}
 use Rattle.station_scan.specs.Sending.{AreSent, HasBytes, HaveOtherPaths, IsAtItsPath, IsFreeAt, IsNamed, IsStagingGone, IsOffOwn, StandsWhole, file_paths, for_address, planned_paths}
-use Rattle.station_scan.specs.Fitting.{AreFit, AreTaken, FitPlanned, IsUnfit}
-use Rattle.station_scan.specs.declared.publish_error.PublishError.{PublishError}
-use Rattle.station_scan.specs.declared.publish_error.PublishError.TheVariants.{Packets}
-use Rattle.disk_atomic.specs.declared.placing_error.PlacingError.TheVariants.{Memory, Taken}
+use Rattle.station_scan.specs.Fitting.{AreFit, FitPlanned}
 use Rattle.station_scan.proofs.Names.{four_apart, name_staging_in, name_in}
 
 -- no packet, and no file
@@ -64,7 +61,7 @@ module _ (folder own : List ℕ) (content : Address → List ℕ) where
       trial = fit.trial;
     }
 
-    fit_plans : AreFit Own folder own (map (file_with content) planned) → FitPlanned Own folder own planned
+    pub fit_plans : AreFit Own folder own (map (file_with content) planned) → FitPlanned Own folder own planned
     fit_plans fit = record {
       names = λ k p lt.
           let high : k < length (map (file_with content) planned) = subst (λ (n : ℕ). k < n) (sym (many_files planned)) lt in
@@ -73,11 +70,6 @@ module _ (folder own : List ℕ) (content : Address → List ℕ) where
       off = subst (All (IsOffOwn Own)) (sym (paths_are planned)) fit.off;
       trial = fit.trial;
     }
-
-    -- paths that do not fit
-    pub unfit_taken : (why : PublishError) (seen : Files) → IsUnfit Own folder own planned why → why ≡ Packets Taken → AreTaken Own folder own (map (file_with content) planned) seen
-    unfit_taken why seen (inl unfit) is = inr (λ fit. unfit.1 (fit_plans fit))
-    unfit_taken why seen (inr none) is = let other : Packets Memory ≡ Packets Taken = sym none ∙ is in absurd (cc other)
 
 module _ (folder own : List ℕ) (content : Address → List ℕ) (planned : List PlannedPacket) (packets : List Outgoing) (sent : AreSent planned (map (planned_paths folder own) planned) packets) where
   abbrev files : List PacketFile

@@ -1,13 +1,10 @@
 -- Why a scan stopped.
-use Rattle.std.proofs.Common.{◌≡◌, ◌⊎◌, inl, inr, ⊎_elim, refl, ap, subst, sym, ◌∙◌}
+use Rattle.std.proofs.Common.{◌≡◌, ◌⊎◌, inl, inr, ⊎_elim, refl, subst, sym}
 use Rattle.std.specs.Prelude.{Err, IfErr, IsErrOf, Ok, Result}
 use Rattle.disk_io.specs.declared.disk_error.DiskError.TheVariants as disk
 use Rattle.disk_atomic.specs.declared.placing_error.PlacingError.{PlacingError}
 use Rattle.disk_atomic.specs.declared.placing_error.PlacingError.TheVariants as placing
-use Rattle.base_store.specs.declared.store_error.StoreError.{StoreError}
 use Rattle.base_store.specs.declared.store_error.StoreError.TheVariants as error
-use Rattle.cmd_store.specs.Stops.{store_answer}
-use Rattle.cmd_store.specs.declared.command_error.CommandError.{CommandError}
 use Rattle.cmd_store.specs.declared.command_error.CommandError.TheVariants.{Met, Store}
 use Rattle.station_scan.specs.Stops.{IsOfPlacing, scan_done, stop_of}
 use Rattle.station_scan.specs.declared.scan_error.ScanError.{ScanError}
@@ -73,17 +70,3 @@ put_wider some more taken held far (Err why) gives free is = why_wider some more
 pub put_whole : (failed taken far : Type 0) (result : Result (Unit {0}) ScanError) → IfErr result (IsOfPlacing failed taken far) → IsErrOf result (Command (Store error.Damaged)) → ⊥
 put_whole failed taken far (Ok done) is damaged = absurd (cc damaged)
 put_whole failed taken far (Err why) is damaged = let same : why ≡ Command (Store error.Damaged) = cc damaged in subst (IsOfPlacing failed taken far) same is
-
--- what the store held too much for
-pub sent_many : (P : Type 0) (done : Result (Unit {0}) PublishError) (result : Result (Unit {0}) ScanError) → result ≡ scan_done done → (IsErrOf done (Reading error.TooMany) → P) → (IsErrOf done (OfBase error.TooMany) → P)
-    → IsErrOf result (Command (Store error.TooMany)) → P
-sent_many P (Ok done) result same reading base is = absurd (cc (same, is))
-sent_many P (Err (Packets cause)) result same reading base is = absurd (cc (same, is))
-sent_many P (Err (Staging cause)) result same reading base is = absurd (cc (same, is))
-sent_many P (Err (Reading cause)) result same reading base is = reading (cc (same, is))
-sent_many P (Err (OfBase cause)) result same reading base is = base (cc (same, is))
-
--- what the store answered while packets were made
-pub taken_by : {A : Type 0} (P : Type 0) (cause : StoreError) (planned : Result A CommandError) (stop : CommandError) → planned ≡ Err stop → (IsErrOf (store_answer planned) cause → P)
-    → IsErrOf {T = Unit {0}} (Err (Command stop)) (Command (Store cause)) → P
-taken_by P cause planned stop same gives is = let why : stop ≡ Store cause = cc (is) in gives (ap store_answer (same ∙ ap (λ (e : CommandError). Err e) why))

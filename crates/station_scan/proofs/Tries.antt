@@ -24,33 +24,20 @@ use Rattle.station_scan.specs.Sends.{WasTriedFor}
 use Rattle.station_scan.specs.declared.scan_error.ScanError.{ScanError}
 use Rattle.station_scan.proofs.Staged.{tried_after}
 
--- what is so is so where it ended well
-any_ok : (r : Result (Unit {0}) ScanError) (P : Type 0) → P → OnOk r P
-any_ok (Ok done) P p = p
-any_ok (Err why) P p = tt
-
 -- it was tried on the disk as it was before the store was looked through
-pub tried_looked : {D F : Type 0} (state : D → DiskState) (Own : List ℕ → Type 0) (outbound own : List ℕ) (files : List F) (d0 d1 : DiskState) → ChangesNothing d0 d1
+tried_looked : {D F : Type 0} (state : D → DiskState) (Own : List ℕ → Type 0) (outbound own : List ℕ) (files : List F) (d0 d1 : DiskState) → ChangesNothing d0 d1
     → WasTriedFor state Own outbound own files d1 → WasTriedFor state Own outbound own files d0
 tried_looked state Own outbound own files d0 d1 quiet (inl none) = inl none
 tried_looked state Own outbound own files d0 d1 quiet (inr was) =
     let at = IsOfNameOff Own outbound own in
     inr (tried_after state at at (staging_path outbound own) d0 d1 (λ m is. is) (λ m out. quiet.seen m) was)
 
--- the packets that were made were tried, or the base stands that was committed
-pub tries_on : {D : Type 0} (state : D → DiskState) (stamp : Stamp) (Own : List ℕ → Type 0) (outbound : List ℕ) (s1 sA s2 : StoreState) (out now : Output) (file : LinkFile) (base : Base) (content : Address → List ℕ) (planned : List PlannedPacket)
-    (result : Result (Unit {0}) ScanError) → ChangesNothing s1.disk sA.disk → sA.committed base → ScansOn stamp (state_in file base) out now (Ok (map (file_with content) planned))
-    → HoldsAsBefore sA s2 ⊎ WasTriedFor state Own outbound (dotted file.system) planned sA.disk → OnOk result (TriesOn state stamp Own outbound s1 s2 out now file base)
-tries_on state stamp Own outbound s1 sA s2 out now file base content planned result quiet is answer tried =
-    any_ok result (TriesOn state stamp Own outbound s1 s2 out now file base)
-    (⊎_elim
-    (λ (holds : HoldsAsBefore sA s2). inl (holds.ready, holds.committed base is))
-    (λ (was : WasTriedFor state Own outbound (dotted file.system) planned sA.disk). inr (
-      map (file_with content) planned,
-      answer,
-      ⊎_elim (λ none. inl (length-map planned (file_with content) ∙ none)) (λ tried. inr tried) (tried_looked state Own outbound (dotted file.system) planned s1.disk sA.disk quiet was),
-    ))
-    tried)
+-- so it was before its cursor was moved
+pub tries_moved : {D : Type 0} (state : D → DiskState) (stamp : Stamp) (Own : List ℕ → Type 0) (outbound : List ℕ) (s1 sA s2 : StoreState) (out now : Output) (file : LinkFile) (base : Base) (result : Result (Unit {0}) ScanError) → ChangesNothing s1.disk sA.disk
+    → OnOk result (TriesOn state stamp Own outbound sA s2 out now file base) → OnOk result (TriesOn state stamp Own outbound s1 s2 out now file base)
+tries_moved state stamp Own outbound s1 sA s2 out now file base (Ok done) quiet (inl stands) = inl stands
+tries_moved state stamp Own outbound s1 sA s2 out now file base (Ok done) quiet (inr (files, answer, was)) = inr (files, answer, tried_looked state Own outbound (dotted file.system) files s1.disk sA.disk quiet was)
+tries_moved state stamp Own outbound s1 sA s2 out now file base (Err why) quiet tries = tt
 
 module _ {D : Type 0} (state : D → DiskState) (stamp : Stamp) (place : Place) (outbound : List ℕ) (Reads : LinkFile → Type 0) (d0 d2 : DiskState) (s1 s2 : StoreState) (of : IsOfPlace place d0 s1) (quiet : ChangesNothing s2.disk d2)
     (same : IsSameStore s1 s2) (honest : s2.disk.is_honest) (Own : List ℕ → Type 0) (out now : Output) (file : LinkFile) (read : Reads file) where

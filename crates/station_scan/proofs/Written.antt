@@ -2,7 +2,6 @@
 use Rattle.std.proofs.Common.{◌≡◌, ◌∙◌, inl, inr, ℕ, List, [], ◌++◌, ap, append_assoc, arith, drop, get_or, length, refl, subst, sym}
 use Rattle.std.specs.Prelude.{All, Bool, Err, IfOk, None, Ok, OnOk, Result, true}
 use Rattle.std.proofs.lemmas.List.{append-nil, drop_all}
-use Rattle.base_file.specs.Base.{Base}
 use Rattle.disk_io.specs.Disk.{DiskState, Honestly, IsIn, bytes_in}
 use Rattle.disk_io.specs.Fixed.{AreBytes}
 use Rattle.disk_io.specs.Runs.{ChangesNothing, KeepsNamed}
@@ -15,22 +14,13 @@ use Rattle.disk_atomic.proofs.Growing.{are_both}
 use Rattle.disk_atomic.proofs.Packets.{path_not_staging}
 use Rattle.disk_atomic.proofs.Whole.{some_is_there}
 use Rattle.echo_addr.specs.declared.address.Address.{Address}
-use Rattle.echo_packet.specs.Header.{header_bytes, word}
-use Rattle.echo_packet.specs.Message.{messages_bytes}
-use Rattle.echo_filed.specs.Filed.{Filed}
-use Rattle.echo_links.specs.Links.{LinkFile}
-use Rattle.model_steps.specs.Scanning.{header_to}
-use Rattle.echo_toss.specs.Counts.{copies_out}
-use Rattle.echo_toss.specs.Exports.{Outgoing as Sent, sent_of}
-use Rattle.echo_toss.proofs.Counts.{copies_append, messages_append}
 use Rattle.base_store.specs.Store.{IsSameStore, LooksOn, StoreState}
 use Rattle.base_store.proofs.Runs.{same_store, same_twice}
 use Rattle.station.specs.Beneath.{AreSettledByOwn}
 use Rattle.station_scan.specs.Beneath.{IsUsedAt}
 use Rattle.station_scan.specs.Publishing.{AreGone, AreOpen, IsTriedWith, IsWritten}
-use Rattle.station_scan.specs.Writing.{HasCopies, IsBatchOff, IsBegun, IsOpen, IsWriting, content_for}
+use Rattle.station_scan.specs.Writing.{IsBatchOff, IsBegun}
 use Rattle.station_scan.specs.declared.writing.Batch.{Batch}
-use Rattle.station_scan.specs.declared.pieces.Source.{Source}
 use Rattle.station_scan.proofs.Published.{apart_still, holds_now, holds_still}
 use Rattle.station_scan.proofs.Staged.{tried_after}
 use Rattle.station_scan.proofs.Through.{open_through}
@@ -71,9 +61,6 @@ off_still s0 s1 batch same going = record {
   off = λ o. going.off ((same.own _).0 o);
 }
 
-pub writing_after : (paths : List ℕ → Type 0) (s0 s1 : StoreState) (batch : Batch) → IsBatchOff s0 batch → IsUsedAt paths s0 s1 → IsOpen batch s1.disk → IsWriting s1 batch
-writing_after paths s0 s1 batch off used opened = record { ready = used.holds.ready; off = off_still s0 s1 batch used.same off; settled = used_settled paths s0 s1 used; opened = opened }
-
 -- ---- staging files that grow
 
 module _ (outbound : List ℕ) (packets : List Outgoing) (placed : ArePlaced outbound packets) where
@@ -95,43 +82,6 @@ module _ (outbound : List ℕ) (packets : List Outgoing) (placed : ArePlaced out
     free = λ honest k z lt. run.seen (get_or packets k z).path.now (path_not_staging outbound packets placed k z lt) ∙ was.free (run.honest honest) k z lt;
     bytes = λ honest k z lt. subst AreBytes (sym (longer honest k z lt)) (are_both (staged_in d.seen (get_or packets k z)) (more (get_or packets k z).to) (was.bytes (run.honest honest) k z lt) (bytes k z lt));
   }
-
--- ---- what they have
-
--- copies of no messages, and of more
-pub copies_none : (file : LinkFile) (messages : List Filed) (at : ℕ) (packets : List Outgoing) (d : DiskState) → HasCopies file messages at at packets d d
-copies_none file messages at packets d = record { sent = []; are = refl; longer = λ k z lt. sym (append-nil (staged_in d.seen (get_or packets k z))) }
-
-pub copies_more : (file : LinkFile) (messages : List Filed) (from at next : ℕ) (packets : List Outgoing) (d0 d1 d2 : DiskState) → HasCopies file messages from at packets d0 d1 → HasCopies file messages at next packets d1 d2
-    → HasCopies file messages from next packets d0 d2
-copies_more file messages from at next packets d0 d1 d2 one two =
-    let rest = sent_of file (drop next messages) in
-    record {
-      sent = one.sent ++ two.sent;
-      are = append_assoc one.sent two.sent rest ∙ ap (λ (l : List Sent). one.sent ++ l) two.are ∙ one.are;
-      longer = λ k z lt.
-          let p = get_or packets k z in
-          let first = messages_bytes (copies_out p.to one.sent) in
-          let second = messages_bytes (copies_out p.to two.sent) in
-          let both : messages_bytes (copies_out p.to (one.sent ++ two.sent)) ≡ first ++ second =
-          ap messages_bytes (copies_append p.to one.sent two.sent) ∙ messages_append (copies_out p.to one.sent) (copies_out p.to two.sent) in
-          two.longer k z lt ∙ ap (λ (l : List ℕ). l ++ second) (one.longer k z lt) ∙ append_assoc (staged_in d0.seen p) first second ∙ ap (λ (l : List ℕ). staged_in d0.seen p ++ l) (sym both);
-    }
-
--- the header, the copies of all messages, and the end
-pub all_written : (source : Source) (base : Base) (packets : List Outgoing) (d0 d1 d2 d3 : DiskState) → All (IsWritten (λ p. []) d0.seen) packets
-    → All (IsLonger (λ to. header_bytes (header_to source.links.now source.stamp to)) d0 d1) packets → HasCopies source.links.now base.messages source.from (length base.messages) packets d1 d2
-    → All (IsLonger (λ to. word 0) d2 d3) packets → All (IsWritten (content_for source base) d3.seen) packets
-all_written source base packets d0 d1 d2 d3 none headers copies ends k z lt =
-    let file = source.links.now in
-    let p = get_or packets k z in
-    let h = header_bytes (header_to file source.stamp p.to) in
-    let m = messages_bytes (copies_out p.to copies.sent) in
-    let all : copies.sent ≡ sent_of file (drop source.from base.messages) =
-    sym (append-nil copies.sent) ∙ ap (λ (l : List Filed). copies.sent ++ sent_of file l) (sym (drop_all (length base.messages) base.messages (omega arith))) ∙ copies.are in
-    let header : staged_in d1.seen p ≡ h = headers k z lt ∙ ap (λ (l : List ℕ). l ++ h) (none k z lt) in
-    ends k z lt ∙ ap (λ (l : List ℕ). l ++ word 0) (copies.longer k z lt ∙ ap (λ (l : List ℕ). l ++ m) header) ∙ append_assoc h m (word 0)
-    ∙ ap (λ (s : List Sent). h ++ (messages_bytes (copies_out p.to s) ++ word 0)) all
 
 -- it was tried once they were written
 pub tried_written : {D : Type 0} (state : D → DiskState) (packets : List Outgoing) (trial : List ℕ) (s0 s1 : StoreState) → IsUsedAt (IsAtStaging packets trial) s0 s1 → IsTriedWith state packets trial s1.disk

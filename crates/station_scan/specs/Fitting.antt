@@ -2,13 +2,12 @@
 use Rattle.std.specs.Prelude.{◌≡◌, ◌⊎◌, ℕ, List, All, AllPairs, map}
 use Rattle.disk_io.specs.Disk.{Files}
 use Rattle.disk_atomic.specs.declared.outgoing.Outgoing.{Outgoing}
+use Rattle.disk_atomic.specs.declared.placing_error.PlacingError.{PlacingError}
 use Rattle.disk_atomic.specs.declared.placing_error.PlacingError.TheVariants.{Memory, Taken}
 use Rattle.disk_atomic.specs.StagingPaths.{staging_path}
 use Rattle.cmd_report.specs.declared.scanning.PlannedPacket.{PlannedPacket}
 use Rattle.model_steps.specs.PacketFiles.{PacketFile}
 use Rattle.station_scan.specs.Sending.{AreSent, HaveOtherPaths, IsFreeAt, IsNamed, IsOffOwn, file_paths, planned_paths}
-use Rattle.station_scan.specs.declared.publish_error.PublishError.{PublishError}
-use Rattle.station_scan.specs.declared.publish_error.PublishError.TheVariants.{Packets}
 
 -- Each file goes to two paths that no other file uses. Neither these nor the trial path belong to the station's files.
 pub record AreFit (Own : List ℕ → Type 0) (outbound own : List ℕ) (files : List PacketFile) : Type 0 where
@@ -30,8 +29,8 @@ pub record AreFitting (Own : List ℕ → Type 0) (outbound own : List ℕ) (pla
   pub sent : AreSent planned (map (planned_paths outbound own) planned) packets
 
 -- The paths do not fit, or there is no memory.
-abbrev pub IsUnfit : (List ℕ → Type 0) → List ℕ → List ℕ → List PlannedPacket → PublishError → Type 0
-IsUnfit Own outbound own planned why = ((why ≡ Packets Taken) × (FitPlanned Own outbound own planned → ⊥)) ⊎ (why ≡ Packets Memory)
+abbrev pub IsUnfit : (List ℕ → Type 0) → List ℕ → List ℕ → List PlannedPacket → PlacingError → Type 0
+IsUnfit Own outbound own planned why = ((why ≡ Taken) × (FitPlanned Own outbound own planned → ⊥)) ⊎ (why ≡ Memory)
 
 -- A file has the path of a packet, or the paths do not fit.
 abbrev pub AreTaken : (List ℕ → Type 0) → List ℕ → List ℕ → List PacketFile → Files → Type 0

@@ -7,3 +7,5 @@ pub mod Sends
 pub mod Stops
 pub mod Scanning
 pub mod Writing
+pub mod Passing
+pub mod Beside

@@ -1,5 +1,5 @@
 -- Packets and the commit of a store.
-use Rattle.std.specs.Prelude.{◌≡◌, ◌≤◌, ◌⊎◌, ℕ, List, length, Bool, true, false, All, None, Result, Ok, Err, IsErrOf}
+use Rattle.std.specs.Prelude.{◌≡◌, ◌≤◌, ◌⊎◌, ℕ, List, ◌++◌, length, Bool, true, false, All, None, Result, Ok, Err, IsErrOf}
 use Rattle.base_file.specs.Base.{Base}
 use Rattle.disk_io.specs.Device.{Failed}
 use Rattle.disk_io.specs.Disk.{DiskState, Files, Honestly, IsIn}
@@ -13,6 +13,7 @@ use Rattle.disk_atomic.specs.Publishing.{IsApartFrom, placing_cause}
 use Rattle.disk_atomic.specs.Trying.{WasTried}
 use Rattle.disk_atomic.specs.declared.outgoing.Outgoing.{Outgoing}
 use Rattle.disk_atomic.specs.declared.placing_error.PlacingError.TheVariants as placing
+use Rattle.echo_packet.specs.Header.{word}
 use Rattle.base_store.specs.Store.{Commits, IsSameStore, StoreState}
 use Rattle.base_store.specs.declared.store_error.StoreError.{StoreError}
 use Rattle.base_store.specs.declared.store_error.StoreError.TheVariants as store
@@ -165,6 +166,14 @@ IsPublishedAt s paths m = s.is_own m ⊎ paths m
 -- what is in the staging files before a commit, whatever the base
 abbrev pub staged_before : StoreState → Base → Outgoing → List ℕ
 staged_before old base = staged_in old.disk.seen
+
+-- what staging files have once their packets are ended
+abbrev pub ended_in : Files → Outgoing → List ℕ
+ended_in seen p = staged_in seen p ++ word 0
+
+-- the same of those before, whatever the base
+abbrev pub ended_before : StoreState → Base → Outgoing → List ℕ
+ended_before old base = ended_in old.disk.seen
 
 -- A crash at any moment from the commit on leaves such files. Each packet has what was in its staging file before.
 abbrev pub MayCommitWith : List Outgoing → StoreState → StoreState → Type 0

@@ -1,13 +1,15 @@
 //! Whether packets go to paths that nothing else uses.
-ghost use Rattle.std.specs.Prelude.{◌≡◌, ◌≢◌, true, false, All, AllPairs, map};
+ghost use Rattle.std.specs.Prelude.{◌≡◌, ◌≢◌, true, false, All, AllPairs, IfErr, IfOk, map};
 ghost use Rattle.disk_atomic.specs.StagingPaths.{staging_path};
-ghost use Rattle.station_scan.specs.Fitting.{FitPlanned};
+ghost use Rattle.station_scan.specs.Fitting.{AreFitting, FitPlanned, IsUnfit};
 ghost use Rattle.disk_atomic.specs.ListStaged.{IsNameByte};
 ghost use Rattle.station_scan.specs.Sending.{HaveOtherPaths, IsNamed, IsOffOwn, planned_paths};
 
-use crate::sending::{Sending, TwoPaths};
+use crate::sending::{Plan, Sending, TwoPaths, outgoing_of};
 use cmd_report::PlannedPacket;
+use disk_atomic::{Outgoing, PlacingError};
 use station::OwnPaths;
+use std::alloc::Global;
 
 /// Whether it may be a packet's name: no byte of it is a slash or a tilde.
 pub(crate) fn is_name(name: &[u8]) -> bool
@@ -103,18 +105,14 @@ fn are_off_own<O: OwnPaths>(own: &O, paths: &[TwoPaths]) -> bool
 
 /// Whether each packet goes to two paths that no other one uses. Neither they nor the tried path may belong to the
 /// station.
-pub(crate) fn are_fit<O: OwnPaths>(
-    own: &O,
-    sending: Sending<'_>,
-    paths: &[TwoPaths],
-    trial: &[u8],
-) -> bool
-    requires paths { paths.now ≡ map (planned_paths sending.outbound.now sending.own.now) sending.planned.now }
-    requires trial { trial.now ≡ staging_path sending.outbound.now sending.own.now }
-    ensures yes { result ≡ true → FitPlanned (O.is_own own.now) sending.entry.outbound.now sending.entry.own.now sending.entry.planned.now }
-    ensures no { result ≡ false → FitPlanned (O.is_own own.now) sending.entry.outbound.now sending.entry.own.now sending.entry.planned.now → ⊥ }
+pub(crate) fn are_fit<O: OwnPaths>(own: &O, sending: Sending<'_>, plan: &Plan) -> bool
+    requires paths { plan.now.two ≡ map (planned_paths sending.outbound.now sending.own.now) plan.now.planned }
+    requires trial { plan.now.trial ≡ staging_path sending.outbound.now sending.own.now }
+    ensures yes { result ≡ true → FitPlanned (O.is_own own.now) sending.entry.outbound.now sending.entry.own.now plan.now.planned }
+    ensures no { result ≡ false → FitPlanned (O.is_own own.now) sending.entry.outbound.now sending.entry.own.now plan.now.planned → ⊥ }
 {
-    if !are_named(sending.planned) {
+    let paths = plan.two.as_slice();
+    if !are_named(plan.planned.as_slice()) {
         return false;
     }
     if !all_differ(paths) {
@@ -123,5 +121,24 @@ pub(crate) fn are_fit<O: OwnPaths>(
     if !are_off_own(own, paths) {
         return false;
     }
-    !own.owns(trial)
+    !own.owns(plan.trial.as_slice())
+}
+
+/// The packets at these paths, if nothing else uses the paths of each and none belongs to the station.
+pub(crate) fn fitting_packets<'p, O: OwnPaths>(
+    alloc: Global,
+    paths: &O,
+    sending: Sending<'p>,
+    plan: &'p Plan,
+) -> Result<Vec<Outgoing<'p>>, PlacingError>
+    requires paths { plan.now.two ≡ map (planned_paths sending.outbound.now sending.own.now) plan.now.planned }
+    requires trial { plan.now.trial ≡ staging_path sending.outbound.now sending.own.now }
+    ensures fit { IfOk result (λ packets. AreFitting (O.is_own paths.now) sending.entry.outbound.now sending.entry.own.now plan.now.planned packets.items) }
+    ensures err { IfErr result (IsUnfit (O.is_own paths.now) sending.entry.outbound.now sending.entry.own.now plan.now.planned) }
+{
+    if !are_fit(paths, sending, plan) {
+        return Err(PlacingError::Taken);
+    }
+    let packets = outgoing_of(alloc, plan.planned.as_slice(), plan.two.as_slice())?;
+    Ok(packets)
 }

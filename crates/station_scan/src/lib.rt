@@ -7,36 +7,40 @@
 //! during the scan leaves the base from before and no packet of this scan at its path, or the new base and each packet
 //! whole.
 //!
-//! Begin with `scanning` (the command), then `putting` and `outgoing` (earlier packets, then these) and `publishing`
-//! (packets and commit). They use `sending` (the two paths of each packet) and `fitting` (whether nothing else uses these
-//! paths). `filling` writes packets group by group, by `pieces` (what comes next), `writing` and `staging` (staging files
-//! on the disk). `finding` and `finishing` end what earlier scans left. `beneath` works on the disk of
-//! a store, `taking` plans the packets of waiting messages, and `reported` reports progress. `publish_error` and
-//! `scan_error` are the errors.
+//! Begin with `scanning` (the command) and `putting` (the cursor, then earlier packets, then these). `outgoing` makes the
+//! packets and sends them out. For that `passing` goes over the messages once, and `making` and `growing` write each
+//! group of them into staging files. `stopping` removes these files where the pass stops. `ending` and `publishing` end
+//! the packets and commit. They use `sending` (the two paths of each packet), `fitting` (whether nothing else uses these
+//! paths), `pieces` (what comes next in a packet), `writing` and `staging` (staging files on the disk). `finding` and
+//! `finishing` end what earlier scans left. `beneath` works on the disk of a store, `reporting` prints the lines of a scan
+//! that stops, and `reported` reports progress. `publish_error` and `scan_error` are the errors.
 #![tactic(auto)]
 
 mod beneath;
-mod filling;
+mod ending;
 mod finding;
 mod finishing;
 mod fitting;
+mod growing;
+mod making;
 mod outgoing;
+mod passing;
 mod pieces;
 mod publish_error;
 mod publishing;
 mod putting;
 mod reported;
+mod reporting;
 mod scan_error;
 mod scanning;
 mod sending;
 mod staging;
-mod taking;
+mod stopping;
 mod writing;
 
 pub use beneath::Used;
 pub use pieces::Source;
 pub use publish_error::PublishError;
-pub use publishing::publish;
 pub use reported::ReportedStore;
 pub use scan_error::ScanError;
 pub use scanning::{Scan, Scanned, run_scan};

@@ -1,31 +1,33 @@
-//! The packets of a scan are written with the commit of its store, after earlier packets are named or removed.
-ghost use Rattle.std.specs.Prelude.{◌≡◌, ◌≢◌, ◌≤◌, ◌⊎◌, ℕ, List, All, IfErr, IfOk, IsErrOf, OnOk, map};
-ghost use Rattle.disk_atomic.specs.StagingPaths.{staging_path};
-ghost use Rattle.station.specs.Beneath.{HoldsAsBefore};
+//! The messages of a store are gone over once, and their packets sent out with its commit.
+ghost use Rattle.std.specs.Prelude.{◌≡◌, ◌≢◌, ◌⊎◌, ℕ, List, true, All, IfErr, OnOk};
 ghost use Rattle.base_file.specs.Base.{Base};
 ghost use Rattle.disk_io.specs.Device.{Failed};
 ghost use Rattle.disk_io.specs.Disk.{Honestly};
 ghost use Rattle.base_store.specs.Store.{Commits, MayCommit};
-ghost use Rattle.station_scan.specs.Beneath.{IsFullOnWay};
-ghost use Rattle.station_scan.specs.Fitting.{AreFitting, IsUnfit};
+ghost use Rattle.cmd_status.specs.Devices.{output_of};
+ghost use Rattle.echo_toss.specs.Exports.{Outgoing as Sent};
+ghost use Rattle.model_steps.specs.Stamps.{is_stamp};
+ghost use Rattle.station.specs.Beneath.{AreSettledByOwn};
+ghost use Rattle.station_scan.specs.Beside.{HasScanCause, IsMoved, ScansBeside, SendsBeside};
+ghost use Rattle.station_scan.specs.Passing.{HasPassed, IsMaking};
 ghost use Rattle.station_scan.specs.Publishing.{HasPublishCause, KeepsStoreBut};
-ghost use Rattle.station_scan.specs.Scanning.{IsTouched, SendsOut};
-ghost use Rattle.station_scan.specs.Sending.{planned_paths};
-ghost use Rattle.station_scan.specs.Sends.{AreSentOn, IsOfThese, MaySendThese, TakenIfTold, WasTriedFor, files_for};
+ghost use Rattle.station_scan.specs.Scanning.{IsTouched, packets_in};
 ghost use Rattle.station_scan.specs.Stops.{IsOfBase, scan_done};
 
-use crate::beneath::{Used, finish_on};
-use crate::fitting::are_fit;
+use crate::beneath::Used;
 use crate::publish_error::PublishError;
 use crate::publishing::publish;
+use crate::reporting::{report, told_as};
 use crate::scan_error::ScanError;
-use crate::sending::{Sending, TwoPaths, outgoing_of, paths_of};
+use crate::sending::{Sending, outgoing_of, plan_of};
+use crate::stopping::{drop_made, pass_waiting};
 use crate::writing::Batch;
-use base_store::{Store, StoreError};
-use cmd_store::CommandError;
-use disk_atomic::{ListStaged, Outgoing, PlacingError, staging_path};
-use disk_io::Disk;
-use station::{LendStation, OwnPaths};
+use base_store::Store;
+use cmd_status::MessageProgress;
+use cmd_store::{CommandError, print_counted};
+use disk_io::{Disk, DiskError, Sink};
+use echo_toss::CountedPacket;
+use station::LendStation;
 use std::alloc::Global;
 
 // Commits the store of a scan without packets.
@@ -51,140 +53,140 @@ fn commit_alone<'a, D: Disk, P: LendStation<'a, D>>(
     }
 }
 
-// The packets at these paths, if nothing else uses the paths of each and none belongs to the station.
-fn fitting_packets<'p, O: OwnPaths>(
-    alloc: Global,
-    paths: &O,
-    sending: Sending<'p>,
-    two: &'p [TwoPaths],
-    trial: &[u8],
-) -> Result<Vec<Outgoing<'p>>, PublishError>
-    requires paths { two.now ≡ map (planned_paths sending.outbound.now sending.own.now) sending.planned.now }
-    requires trial { trial.now ≡ staging_path sending.outbound.now sending.own.now }
-    ensures fit { IfOk result (λ packets. AreFitting (O.is_own paths.now) sending.entry.outbound.now sending.entry.own.now sending.entry.planned.now packets.items) }
-    ensures err { IfErr result (IsUnfit (O.is_own paths.now) sending.entry.outbound.now sending.entry.own.now sending.entry.planned.now) }
-{
-    if !are_fit(paths, sending, two, trial) {
-        return Err(PublishError::Packets(PlacingError::Taken));
-    }
-    Ok(outgoing_of(alloc, sending.planned, two)?)
-}
-
-// Writes these packets, and commits the store.
-fn publish_packets<'a, D: Disk, P: LendStation<'a, D>>(
+// Ends the packets in their staging files, and commits the store. A scan without packets needs no folder.
+fn publish_made<'a, D: Disk, P: LendStation<'a, D>>(
     alloc: Global,
     store: P::Kept,
     paths: &P::Paths,
     sending: Sending<'_>,
+    made: &[CountedPacket],
 ) -> Used<P::Kept, Result<(), PublishError>>
     requires plain { All (λ b. b ≢ 47) sending.own.now }
-    requires ready { (P.Kept.state store).is_ready }
+    requires ready { (P.Kept.state store).is_ready × (is_stamp sending.source.stamp ≡ true) }
     requires own { (m : List ℕ) → (P.Kept.state store).is_own m → P.Paths.is_own paths.now m }
-    ensures sent { OnOk result.done (AreSentOn sending.entry.outbound.now sending.entry.own.now (files_for sending.entry.source sending.entry.planned.now) (P.Kept.state store) (P.Kept.state result.store)) }
-    ensures any_moment { MaySendThese sending.entry.outbound.now sending.entry.own.now (files_for sending.entry.source sending.entry.planned.now) (P.Kept.state store) (P.Kept.state result.store) }
+    requires making { (sent : List Sent) × IsMaking (P.Paths.is_own paths.now) sending sent (P.Kept.state store).disk made.now }
 
-    // Which paths it uses does not depend on what the packets have, nor does the rest.
-    ensures keeps { (base : Base) → KeepsStoreBut (IsOfThese (P.Kept.state store).is_own sending.entry.outbound.now sending.entry.own.now (files_for sending.entry.source sending.entry.planned.now base)) (P.Kept.state store) (P.Kept.state result.store) }
-    ensures tried { HoldsAsBefore (P.Kept.state store) (P.Kept.state result.store) ⊎ WasTriedFor D.state (P.Paths.is_own paths.now) sending.entry.outbound.now sending.entry.own.now sending.entry.planned.now (P.Kept.state store).disk }
-    ensures taken { (base : Base) → TakenIfTold (P.Paths.is_own paths.now) sending.entry.outbound.now sending.entry.own.now (files_for sending.entry.source sending.entry.planned.now base) (P.Kept.state store) (P.Kept.state result.store) result.done }
+    // The store and its disk as they were before the messages were gone over.
+    ensures sends { (before : P.Kept) → HasPassed (P.Paths.is_own paths.now) sending.entry (P.Kept.state before) (P.Kept.state store) made.now
+        → Honestly (P.Kept.state result.store).disk ((base : Base) → IsMoved (P.Kept.state before) sending.entry.source.from base
+        → SendsBeside D.state (P.Paths.is_own paths.now) sending.entry.outbound.now sending.entry.own.now (Failed (P.Kept.failures store) (P.Kept.failures result.store)) (P.Kept.state before) (P.Kept.state result.store)
+        base (packets_in sending.entry.source.stamp sending.entry.source.links.now base) (scan_done result.done)) }
+    ensures keeps { KeepsStoreBut (IsTouched (P.Kept.state store).is_own sending.entry.outbound.now) (P.Kept.state store) (P.Kept.state result.store) }
     ensures cause { HasPublishCause P.Kept.state (P.Kept.state store) (P.Kept.state result.store) (P.Kept.failures store) (P.Kept.failures result.store) result.done }
 {
-    let two = match paths_of(alloc, sending.outbound, sending.own, sending.planned) {
-        Ok(two) => two,
-        Err(refused) => {
+    if made.is_empty() {
+        return commit_alone::<D, P>(store);
+    }
+    let plan = match plan_of(alloc, sending, made) {
+        Ok(plan) => plan,
+        Err(_refused) => {
             return Used {
                 store,
-                done: Err(PublishError::from(refused)),
+                done: Err(PublishError::Staging(DiskError::Memory)),
             };
         }
     };
-    let trial = match staging_path(alloc, sending.outbound, sending.own) {
-        Ok(trial) => trial,
-        Err(refused) => {
-            return Used {
-                store,
-                done: Err(PublishError::from(refused)),
-            };
-        }
-    };
-    let packets = match fitting_packets(alloc, paths, sending, &two, &trial) {
+    let packets = match outgoing_of(alloc, plan.planned.as_slice(), plan.two.as_slice()) {
         Ok(packets) => packets,
-        Err(why) => {
+        Err(_refused) => {
             return Used {
                 store,
-                done: Err(why),
+                done: Err(PublishError::Staging(DiskError::Memory)),
             };
         }
     };
     let batch = Batch {
         outbound: sending.outbound,
-        trial: &trial,
+        trial: plan.trial.as_slice(),
         packets: &packets,
     };
-    publish::<D, P>(alloc, store, batch, sending.source)
+    publish::<D, P>(alloc, store, batch)
 }
 
-// Writes the packets of a scan, and commits its store. A scan without packets needs no folder.
-fn publish_files<'a, D: Disk, P: LendStation<'a, D>>(
+// Prints the lines of the packets that were made, and sends them out.
+fn send_made<'a, D: Disk, P: LendStation<'a, D>, W: Sink>(
     alloc: Global,
     store: P::Kept,
     paths: &P::Paths,
     sending: Sending<'_>,
-) -> Used<P::Kept, Result<(), PublishError>>
-    requires plain { All (λ b. b ≢ 47) sending.own.now }
-    requires ready { (P.Kept.state store).is_ready }
-    requires own { (m : List ℕ) → (P.Kept.state store).is_own m → P.Paths.is_own paths.now m }
-    ensures sent { OnOk result.done (AreSentOn sending.entry.outbound.now sending.entry.own.now (files_for sending.entry.source sending.entry.planned.now) (P.Kept.state store) (P.Kept.state result.store)) }
-    ensures any_moment { MaySendThese sending.entry.outbound.now sending.entry.own.now (files_for sending.entry.source sending.entry.planned.now) (P.Kept.state store) (P.Kept.state result.store) }
-
-    // Which paths it uses does not depend on what the packets have, nor does the rest.
-    ensures keeps { (base : Base) → KeepsStoreBut (IsOfThese (P.Kept.state store).is_own sending.entry.outbound.now sending.entry.own.now (files_for sending.entry.source sending.entry.planned.now base)) (P.Kept.state store) (P.Kept.state result.store) }
-    ensures tried { HoldsAsBefore (P.Kept.state store) (P.Kept.state result.store) ⊎ WasTriedFor D.state (P.Paths.is_own paths.now) sending.entry.outbound.now sending.entry.own.now sending.entry.planned.now (P.Kept.state store).disk }
-    ensures taken { (base : Base) → TakenIfTold (P.Paths.is_own paths.now) sending.entry.outbound.now sending.entry.own.now (files_for sending.entry.source sending.entry.planned.now base) (P.Kept.state store) (P.Kept.state result.store) result.done }
-    ensures cause { HasPublishCause P.Kept.state (P.Kept.state store) (P.Kept.state result.store) (P.Kept.failures store) (P.Kept.failures result.store) result.done }
-{
-    if sending.planned.is_empty() {
-        commit_alone::<D, P>(store)
-    } else {
-        publish_packets::<D, P>(alloc, store, paths, sending)
-    }
-}
-
-/// Names or removes what earlier scans left, by the cursor of the committed base. Then it writes these packets and
-/// commits the store.
-pub(crate) fn send_out<'a, D: Disk, P: LendStation<'a, D>, G: ListStaged>(
-    alloc: Global,
-    store: P::Kept,
-    paths: &P::Paths,
-    listing: &mut G,
-    cursor: u32,
-    sending: Sending<'_>,
+    made: &[CountedPacket],
+    out: &mut W,
 ) -> Used<P::Kept, Result<(), ScanError<'a>>>
     requires plain { All (λ b. b ≢ 47) sending.own.now }
-    requires ready { (P.Kept.state store).is_ready }
+    requires ready { (P.Kept.state store).is_ready × AreSettledByOwn (P.Kept.state store) × (is_stamp sending.source.stamp ≡ true) }
     requires own { (m : List ℕ) → (P.Kept.state store).is_own m → P.Paths.is_own paths.now m }
-    ensures sends { Honestly (P.Kept.state result.store).disk ((first next : Base) → (P.Kept.state store).committed first → (P.Kept.state store).keeps next
-        → SendsOut (G.is_true listing.new (P.Kept.state store).disk.seen) (Failed (P.Kept.failures store) (P.Kept.failures result.store) ⊎ Failed (G.failures listing.old) (G.failures listing.new)) (P.Paths.is_own paths.now)
-        sending.entry.outbound.now sending.entry.own.now ((P.Kept.state store).stands first) ((P.Kept.state store).stands next) cursor (files_for sending.entry.source sending.entry.planned.now next) (P.Kept.state store).disk (P.Kept.state result.store).disk result.done) }
+    requires making { (sent : List Sent) × IsMaking (P.Paths.is_own paths.now) sending sent (P.Kept.state store).disk made.now }
 
-    // If files of the folder can get no second path, nothing is committed.
-    ensures tried { HoldsAsBefore (P.Kept.state store) (P.Kept.state result.store) ⊎ WasTriedFor D.state (P.Paths.is_own paths.now) sending.entry.outbound.now sending.entry.own.now sending.entry.planned.now (P.Kept.state store).disk }
+    // The store and its disk as they were before the messages were gone over.
+    ensures sends { (before : P.Kept) → HasPassed (P.Paths.is_own paths.now) sending.entry (P.Kept.state before) (P.Kept.state store) made.now
+        → Honestly (P.Kept.state result.store).disk ((base : Base) → IsMoved (P.Kept.state before) sending.entry.source.from base
+        → ScansBeside D.state (P.Paths.is_own paths.now) sending.entry (Failed (P.Kept.failures store) (P.Kept.failures result.store)) (P.Kept.state before) (P.Kept.state result.store)
+        (output_of W.contents W.failures W.holds out.old) (output_of W.contents W.failures W.holds out.new) base result.done) }
     ensures keeps { KeepsStoreBut (IsTouched (P.Kept.state store).is_own sending.entry.outbound.now) (P.Kept.state store) (P.Kept.state result.store) }
-    ensures later { P.Kept.failures store ≤ P.Kept.failures result.store }
-    ensures listing_later { G.failures listing.old ≤ G.failures listing.new }
-    ensures device { IsErrOf result.done (ScanError.Command (CommandError.Store StoreError.Device)) → Failed (P.Kept.failures store) (P.Kept.failures result.store) }
-    ensures many { IsErrOf result.done (ScanError.Command (CommandError.Store StoreError.TooMany)) → IsFullOnWay P.Kept.state (P.Kept.state store) }
+    ensures cause { HasScanCause P.Kept.state (P.Kept.state store) (P.Kept.failures store) (P.Kept.failures result.store) result.done }
 {
-    let Used { store, done } = finish_on::<D, P, G>(alloc, store, paths, listing, cursor, sending);
-    match done {
-        Ok(()) => {
-            let Used { store, done } = publish_files::<D, P>(alloc, store, paths, sending);
+    match print_counted(alloc, made, sending.source.from, out) {
+        Ok(_planned) => {
+            let Used { store, done } = publish_made::<D, P>(alloc, store, paths, sending, made);
             let done = stop_done(done);
             Used { store, done }
         }
-        Err(cause) => Used {
-            store,
-            done: Err(ScanError::Placing(cause)),
+        Err(stop) => {
+            let Used { store, done } = drop_made::<D, P>(alloc, store, sending, made);
+            match done {
+                Ok(()) => Used {
+                    store,
+                    done: Err(ScanError::Command(stop)),
+                },
+                Err(left) => Used {
+                    store,
+                    done: Err(ScanError::Staying(left)),
+                },
+            }
+        }
+    }
+}
+
+/// Goes over the waiting messages, makes their packets and prints their lines. Then it commits the store, and the packets
+/// get their paths. If a packet cannot be made, the lines are printed first.
+pub(crate) fn send_on<'a, D: Disk, P: LendStation<'a, D>, T: MessageProgress, W: Sink>(
+    alloc: Global,
+    store: P::Kept,
+    paths: &P::Paths,
+    sending: Sending<'_>,
+    watch: &T,
+    out: &mut W,
+) -> Used<P::Kept, Result<(), ScanError<'a>>>
+    requires plain { All (λ b. b ≢ 47) sending.own.now }
+    requires ready { (P.Kept.state store).is_ready × AreSettledByOwn (P.Kept.state store) × (is_stamp sending.source.stamp ≡ true) }
+    requires own { (m : List ℕ) → (P.Kept.state store).is_own m → P.Paths.is_own paths.now m }
+    ensures sends { Honestly (P.Kept.state result.store).disk ((base : Base) → IsMoved (P.Kept.state store) sending.entry.source.from base
+        → ScansBeside D.state (P.Paths.is_own paths.now) sending.entry (Failed (P.Kept.failures store) (P.Kept.failures result.store)) (P.Kept.state store) (P.Kept.state result.store)
+        (output_of W.contents W.failures W.holds out.old) (output_of W.contents W.failures W.holds out.new) base result.done) }
+    ensures keeps { KeepsStoreBut (IsTouched (P.Kept.state store).is_own sending.entry.outbound.now) (P.Kept.state store) (P.Kept.state result.store) }
+    ensures cause { HasScanCause P.Kept.state (P.Kept.state store) (P.Kept.failures store) (P.Kept.failures result.store) result.done }
+{
+    let Used { store, done } = pass_waiting::<D, P, T>(alloc, store, paths, sending, watch);
+    match done {
+        Ok(made) => send_made::<D, P, W>(alloc, store, paths, sending, made.as_slice(), out),
+        Err(why) => match why {
+            PublishError::Packets(cause) => {
+                let Used { store, done } = report(alloc, sending.source, store, watch, out);
+                let done = told_as(ScanError::Placing(cause), done);
+                Used { store, done }
+            }
+            PublishError::Reading(cause) => Used {
+                store,
+                done: Err(ScanError::Command(CommandError::Store(cause))),
+            },
+            PublishError::Staging(left) => Used {
+                store,
+                done: Err(ScanError::Staying(left)),
+            },
+            PublishError::Base(cause) => Used {
+                store,
+                done: Err(ScanError::Command(CommandError::Store(cause))),
+            },
         },
     }
 }

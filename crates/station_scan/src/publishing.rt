@@ -4,12 +4,11 @@ ghost use Rattle.disk_io.specs.Disk.{Honestly};
 ghost use Rattle.disk_atomic.specs.Outgoing.{ArePlaced, IsFree, IsOfOne};
 ghost use Rattle.disk_atomic.specs.Publishing.{IsApartFrom};
 ghost use Rattle.station.specs.Beneath.{HoldsAsBefore};
-ghost use Rattle.station_scan.specs.Publishing.{ArePublished, AreStaged, HasCommitCause, HasPublishCause, IsGoingAt, IsNamedAs, IsPublishedAt, IsTriedWith, KeepsStoreBut, MayCommitWith, MayPublish, StopsCommitting, StopsPublishing, staged_before};
-ghost use Rattle.station_scan.specs.Writing.{IsBatchOff, content_for};
+ghost use Rattle.station_scan.specs.Publishing.{ArePublished, AreStaged, HasCommitCause, HasPublishCause, IsGoingAt, IsNamedAs, IsPublishedAt, IsTriedWith, KeepsStoreBut, MayCommitWith, MayPublish, StopsCommitting, StopsPublishing, ended_before, staged_before};
+ghost use Rattle.station_scan.specs.Writing.{IsBatchOff, IsOpen};
 
 use crate::beneath::{Used, name_on};
-use crate::filling::stage_on;
-use crate::pieces::Source;
+use crate::ending::stage_on;
 use crate::publish_error::PublishError;
 use crate::writing::Batch;
 use base_store::Store;
@@ -18,31 +17,29 @@ use disk_io::{Disk, DiskError};
 use station::LendStation;
 use std::alloc::Global;
 
-/// Writes packets and commits a store. Each packet goes into its staging file, while the store is read group by group.
-/// Then the store commits, and each packet gets its path. Nothing is committed if a path is in use before the commit, a packet cannot be written, or the trial
-/// path cannot become a second path of a file. Then the staging files are removed. If a path becomes used in between,
-/// the packet keeps its staging file. No path of a packet may belong to the store.
-pub fn publish<'a, D: Disk, P: LendStation<'a, D>>(
+/// Ends packets in their staging files, and commits a store. Then each packet gets its path. Nothing is committed if a
+/// packet cannot be ended, or the trial path cannot become a second path of a file. Then the staging files are removed.
+/// If a path becomes used in between, the packet keeps its staging file. No path of a packet may belong to the store.
+pub(crate) fn publish<'a, D: Disk, P: LendStation<'a, D>>(
     alloc: Global,
     store: P::Kept,
     batch: Batch<'_>,
-    source: Source<'_>,
 ) -> Used<P::Kept, Result<(), PublishError>>
-    requires ready { (P.Kept.state store).is_ready }
+    requires ready { (P.Kept.state store).is_ready × IsOpen batch (P.Kept.state store).disk }
     requires off { IsBatchOff (P.Kept.state store) batch }
-    ensures published { OnOk result.done (ArePublished (content_for source.entry) batch.entry.packets.now (P.Kept.state store) (P.Kept.state result.store)) }
-    ensures left { Honestly (P.Kept.state result.store).disk (IfErr result.done (StopsPublishing (content_for source.entry) batch.entry.packets.now batch.entry.trial.now (P.Kept.state store) (P.Kept.state result.store))) }
+    ensures published { OnOk result.done (ArePublished (ended_before (P.Kept.state store)) batch.entry.packets.now (P.Kept.state store) (P.Kept.state result.store)) }
+    ensures left { Honestly (P.Kept.state result.store).disk (IfErr result.done (StopsPublishing (ended_before (P.Kept.state store)) batch.entry.packets.now batch.entry.trial.now (P.Kept.state store) (P.Kept.state result.store))) }
     ensures taken { Honestly (P.Kept.state result.store).disk (IsErrOf result.done (PublishError.Packets PlacingError.Taken) → All (IsFree (P.Kept.state store).disk) batch.entry.packets.now → ⊥) }
 
     // If files of the folder can get no second path, nothing is committed.
     ensures tried { HoldsAsBefore (P.Kept.state store) (P.Kept.state result.store) ⊎ IsTriedWith D.state batch.entry.packets.now batch.entry.trial.now (P.Kept.state store).disk }
 
     // A crash at any time leaves no commit and no packet at its path, or the commit and each packet whole.
-    ensures any_moment { MayPublish (content_for source.entry) batch.entry.packets.now batch.entry.trial.now (P.Kept.state store) (P.Kept.state result.store) }
+    ensures any_moment { MayPublish (ended_before (P.Kept.state store)) batch.entry.packets.now batch.entry.trial.now (P.Kept.state store) (P.Kept.state result.store) }
     ensures keeps { KeepsStoreBut (IsPublishedAt (P.Kept.state store) (IsGoingAt batch.entry.packets.now batch.entry.trial.now)) (P.Kept.state store) (P.Kept.state result.store) }
     ensures cause { HasPublishCause P.Kept.state (P.Kept.state store) (P.Kept.state result.store) (P.Kept.failures store) (P.Kept.failures result.store) result.done }
 {
-    let Used { store, done } = stage_on::<D, P>(alloc, store, batch, source);
+    let Used { store, done } = stage_on::<D, P>(alloc, store, batch);
     match done {
         Ok(true) => commit_staged::<D, P>(alloc, store, batch.outbound, batch.packets),
         Ok(false) => Used {

@@ -1,28 +1,25 @@
-//! The packets of a scan are written under their names.
-ghost use Rattle.std.specs.Prelude.{◌≡◌, ◌≤◌, ◌⊎◌, ℕ, List, map, IsErrOf};
+//! The packets of the messages that waited are put under their names.
+ghost use Rattle.std.specs.Prelude.{◌≡◌, ◌≤◌, ◌⊎◌, ℕ, List, true, OnOk};
 ghost use Rattle.base_file.specs.Base.{Base};
 ghost use Rattle.disk_io.specs.Device.{Failed};
 ghost use Rattle.disk_io.specs.Disk.{Honestly};
-ghost use Rattle.disk_atomic.specs.StagingPaths.{dotted};
-ghost use Rattle.station.specs.Beneath.{HoldsAsBefore};
-ghost use Rattle.cmd_report.specs.Scanned.{file_with};
-ghost use Rattle.echo_toss.specs.Counts.{bytes_for};
-ghost use Rattle.station_scan.specs.Beneath.{IsFullOnWay};
+ghost use Rattle.cmd_status.specs.Devices.{output_of};
+ghost use Rattle.model_steps.specs.Stamps.{is_stamp};
+ghost use Rattle.station_scan.specs.Beside.{HasScanCause, IsMoved};
 ghost use Rattle.station_scan.specs.Publishing.{KeepsStoreBut};
-ghost use Rattle.station_scan.specs.Scanning.{IsTouched, SendsOut};
-ghost use Rattle.station_scan.specs.Sends.{WasTriedFor};
+ghost use Rattle.station_scan.specs.Scanning.{IsTouched, ScansOnStore, TriesOn};
 
-use crate::beneath::Used;
-use crate::outgoing::send_out;
+use crate::beneath::{Used, finish_on};
+use crate::outgoing::send_on;
 use crate::pieces::Source;
+use crate::reporting::{left_told, report, told_as};
 use crate::scan_error::ScanError;
 use crate::scanning::Scan;
 use crate::sending::Sending;
-use base_store::{Store, StoreError};
-use cmd_report::PlannedPacket;
-use cmd_store::CommandError;
+use base_store::Store;
+use cmd_status::MessageProgress;
 use disk_atomic::ListStaged;
-use disk_io::Disk;
+use disk_io::{Disk, Sink};
 use echo_links::LinkFile;
 use station::{LendStation, OwnPaths, system_name};
 use std::alloc::Global;
@@ -30,59 +27,75 @@ use std::alloc::Global;
 /// The most scanned messages that the number in a packet's name can count: it is read back as four bytes.
 const MOST: usize = 4_294_967_295;
 
-/// Writes these packets, and commits the store. The cursor is that from before the scan.
-pub(crate) fn put_taken<'a, 's, D: Disk, P: LendStation<'a, D>, G: ListStaged, T>(
+/// Names or removes what earlier scans left, by the cursor of the committed base. Then it makes the packets of the
+/// messages from that number on, and commits the store.
+pub(crate) fn put_moved<
+    'a,
+    's,
+    D: Disk,
+    P: LendStation<'a, D>,
+    G: ListStaged,
+    T: MessageProgress,
+    W: Sink,
+>(
     alloc: Global,
     links: &LinkFile,
     store: P::Kept,
     paths: &P::Paths,
     scan: &mut Scan<'s, G, T>,
-    cursor: usize,
-    planned: &[PlannedPacket],
+    out: &mut W,
+    from: usize,
 ) -> Used<P::Kept, Result<(), ScanError<'a>>>
-    requires ready { (P.Kept.state store).is_ready }
+    requires ready { (P.Kept.state store).is_ready × (is_stamp scan.old.stamp ≡ true) }
     requires own { (m : List ℕ) → (P.Kept.state store).is_own m → P.Paths.is_own paths.now m }
-    ensures sends { Honestly (P.Kept.state result.store).disk ((first next : Base) → (P.Kept.state store).committed first → (P.Kept.state store).keeps next
-        → SendsOut (G.is_true scan.new.listing (P.Kept.state store).disk.seen) (Failed (P.Kept.failures store) (P.Kept.failures result.store) ⊎ Failed (G.failures scan.old.listing) (G.failures scan.new.listing))
-        (P.Paths.is_own paths.now) scan.old.outbound.now (dotted links.now.system) ((P.Kept.state store).stands first) ((P.Kept.state store).stands next) cursor (map (file_with (bytes_for links.now scan.old.stamp cursor next.messages)) planned.now) (P.Kept.state store).disk (P.Kept.state result.store).disk result.done) }
-    ensures tried { HoldsAsBefore (P.Kept.state store) (P.Kept.state result.store) ⊎ WasTriedFor D.state (P.Paths.is_own paths.now) scan.old.outbound.now (dotted links.now.system) planned.now (P.Kept.state store).disk }
+    ensures scans { Honestly (P.Kept.state result.store).disk ((base : Base) → IsMoved (P.Kept.state store) from base
+        → ScansOnStore scan.old.stamp (P.Paths.is_own paths.now) scan.old.outbound.now (G.is_true scan.new.listing)
+        (Failed (P.Kept.failures store) (P.Kept.failures result.store) ⊎ Failed (G.failures scan.old.listing) (G.failures scan.new.listing)) (P.Kept.state store) (P.Kept.state result.store)
+        (output_of W.contents W.failures W.holds out.old) (output_of W.contents W.failures W.holds out.new) links.now base result.done) }
+    ensures tried { Honestly (P.Kept.state result.store).disk ((base : Base) → IsMoved (P.Kept.state store) from base
+        → OnOk result.done (TriesOn D.state scan.old.stamp (P.Paths.is_own paths.now) scan.old.outbound.now (P.Kept.state store) (P.Kept.state result.store)
+        (output_of W.contents W.failures W.holds out.old) (output_of W.contents W.failures W.holds out.new) links.now base)) }
     ensures keeps { KeepsStoreBut (IsTouched (P.Kept.state store).is_own scan.old.outbound.now) (P.Kept.state store) (P.Kept.state result.store) }
-    ensures later { P.Kept.failures store ≤ P.Kept.failures result.store }
     ensures listing_later { G.failures scan.old.listing ≤ G.failures scan.new.listing }
-    ensures device { IsErrOf result.done (ScanError.Command (CommandError.Store StoreError.Device)) → Failed (P.Kept.failures store) (P.Kept.failures result.store) }
-    ensures many { IsErrOf result.done (ScanError.Command (CommandError.Store StoreError.TooMany)) → IsFullOnWay P.Kept.state (P.Kept.state store) }
+    ensures cause { HasScanCause P.Kept.state (P.Kept.state store) (P.Kept.failures store) (P.Kept.failures result.store) result.done }
 {
-    if cursor > MOST {
-        return Used {
-            store,
-            done: Err(ScanError::TooFar),
-        };
+    let source = Source {
+        links,
+        stamp: scan.stamp,
+        from,
+    };
+    if from > MOST {
+        let Used { store, done } = report(alloc, source, store, &scan.watch, out);
+        let done = told_as(ScanError::TooFar, done);
+        return Used { store, done };
     }
     let own = match system_name(alloc, links) {
         Ok(own) => own,
         Err(refused) => {
-            return Used {
-                store,
-                done: Err(ScanError::from(refused)),
-            };
+            let Used { store, done } = report(alloc, source, store, &scan.watch, out);
+            let done = told_as(ScanError::from(refused), done);
+            return Used { store, done };
         }
     };
     let sending = Sending {
         outbound: scan.outbound,
         own: &own,
-        planned,
-        source: Source {
-            links,
-            stamp: scan.stamp,
-            from: cursor,
-        },
+        source,
     };
-    send_out::<D, P, G>(
+    let Used { store, done } = finish_on::<D, P, G>(
         alloc,
         store,
         paths,
         &mut scan.listing,
-        cursor as u32,
+        from as u32,
         sending,
-    )
+    );
+    match done {
+        Ok(()) => send_on::<D, P, T, W>(alloc, store, paths, sending, &scan.watch, out),
+        Err(cause) => {
+            let Used { store, done } = report(alloc, source, store, &scan.watch, out);
+            let done = left_told(cause, done);
+            Used { store, done }
+        }
+    }
 }

@@ -10,16 +10,15 @@ ghost use Rattle.station_scan.specs.Publishing.{UnchangedExcept, KeepsStoreBut};
 ghost use Rattle.station_scan.specs.Scanning.{IsScanFull, IsTouched, ScanTries, ScansIn, ScansOnStore, TriesOn};
 
 use crate::beneath::Used;
-use crate::putting::put_taken;
+use crate::putting::put_moved;
 use crate::scan_error::ScanError;
-use crate::taking::{Taken, take_waiting};
 use base_store::{Store, StoreError};
-use cmd_status::{FileLock, MessageProgress};
+use cmd_status::{Fault, FileLock, MessageProgress};
 use cmd_store::CommandError;
 use disk_atomic::ListStaged;
 use disk_io::{Disk, Sink};
 use echo_links::LinkFile;
-use model_steps::Stamp;
+use model_steps::{ScanFault, Stamp, is_stamp};
 use station::{BeforeCommand, LendStation, Locks, OpenStation, Opened};
 use std::alloc::Global;
 
@@ -134,21 +133,21 @@ fn scan_kept<'a, 's, D: Disk, P: LendStation<'a, D>, G: ListStaged, T: MessagePr
     ensures many { Honestly (P.Kept.state result.store).disk ((base : Base) → (P.Kept.state store).keeps base → (P.Kept.state store).committed base
         → IsErrOf result.done (ScanError.Command (CommandError.Store StoreError.TooMany)) → IsScanFull P.Kept.state base) }
 {
-    let cursor = store.cursor();
-    let Taken { store, planned } = take_waiting(alloc, scan.stamp, links, store, &scan.watch, out);
-    match planned {
-        Ok(planned) => put_taken::<D, P, G, T>(
-            alloc,
-            links,
+    if !is_stamp(scan.stamp) {
+        return Used {
             store,
-            paths,
-            scan,
-            cursor,
-            planned.as_slice(),
-        ),
-        Err(stop) => Used {
+            done: Err(ScanError::Command(CommandError::Met(Fault::Scan(
+                ScanFault::BadStamp,
+            )))),
+        };
+    }
+    let from = store.cursor();
+    let mut store = store;
+    match store.move_to_end() {
+        Ok(()) => put_moved::<D, P, G, T, W>(alloc, links, store, paths, scan, out, from),
+        Err(cause) => Used {
             store,
-            done: Err(ScanError::Command(stop)),
+            done: Err(ScanError::Command(CommandError::Store(cause))),
         },
     }
 }

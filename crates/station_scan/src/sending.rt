@@ -1,11 +1,13 @@
 //! The packets of a scan, each with its two paths.
 ghost use Rattle.std.specs.Prelude.{◌≡◌, map, length, IfOk};
+ghost use Rattle.station_scan.specs.Passing.{IsPlanOf};
 ghost use Rattle.station_scan.specs.Sending.{AreSent, planned_paths, two_paths};
 
 use crate::pieces::Source;
-use cmd_report::PlannedPacket;
+use cmd_report::{PlannedPacket, planned_packets};
 use disk_atomic::{Outgoing, staging_path};
 use echo_addr::Items;
+use echo_toss::CountedPacket;
 use std::alloc::{AllocError, Global};
 
 /// The path of a packet, and its staging path before that.
@@ -15,14 +17,21 @@ pub struct TwoPaths {
     pub staging: Items<u8>,
 }
 
-/// The packets of a scan, what they are made of, and their folder: a path that ends in a slash or is empty. The own name
-/// is in their staging paths.
+/// What the packets of a scan are made of, and their folder: a path that ends in a slash or is empty. The own name is in
+/// their staging paths.
 #[derive(Clone, Copy)]
 pub(crate) struct Sending<'p> {
     pub outbound: &'p [u8],
     pub own: &'p [u8],
-    pub planned: &'p [PlannedPacket],
     pub source: Source<'p>,
+}
+
+/// Packets of a scan by their names, the two paths of each, and the path that is tried in their folder.
+#[derive(Drop)]
+pub(crate) struct Plan {
+    pub planned: Items<PlannedPacket>,
+    pub two: Items<TwoPaths>,
+    pub trial: Items<u8>,
 }
 
 /// The two paths of a packet of this name in this folder.
@@ -80,4 +89,23 @@ pub(crate) fn outgoing_of<'a>(
         })?;
     }
     Ok(all)
+}
+
+/// Where the counted packets go.
+pub(crate) fn plan_of(
+    alloc: Global,
+    sending: Sending<'_>,
+    made: &[CountedPacket],
+) -> Result<Plan, AllocError>
+    ensures { IfOk result (IsPlanOf sending.entry made.now) }
+{
+    let mut lines = Vec::new(alloc);
+    let planned = planned_packets(alloc, made, sending.source.from, &mut lines)?;
+    let two = paths_of(alloc, sending.outbound, sending.own, &planned)?;
+    let trial = staging_path(alloc, sending.outbound, sending.own)?;
+    Ok(Plan {
+        planned: Items::new(planned),
+        two: Items::new(two),
+        trial: Items::new(trial),
+    })
 }

@@ -9,7 +9,7 @@ ghost use Rattle.station_scan.specs.Writing.{IsBatchOff, IsBegun, IsOpen};
 
 use crate::beneath::Used;
 use crate::staging::end_staging;
-use base_store::{Store, StoreError};
+use base_store::Store;
 use disk_atomic::{Outgoing, Pieces, append_each, drop_staging, make_packets};
 use disk_io::{Disk, DiskError};
 use station::LendStation;
@@ -21,13 +21,6 @@ pub struct Batch<'p> {
     pub outbound: &'p [u8],
     pub trial: &'p [u8],
     pub packets: &'p [Outgoing<'p>],
-}
-
-/// Why packets were not written: the disk failed, or the store that was read.
-#[derive(Clone, Copy, Debug)]
-pub enum StageStop {
-    OfDisk(DiskError),
-    OfStore(StoreError),
 }
 
 /// Makes the staging files. If a path is in use it returns `false`, and makes none.

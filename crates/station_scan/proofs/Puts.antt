@@ -1,0 +1,226 @@
+-- Leftover packets are finished, and then the packets of a scan are put in place.
+use Rattle.std.proofs.Common.{◌≡◌, ◌⊎◌, inl, inr, ⊎_elim, ◌∙◌, ◌<◌, ℕ, true, List, [], ◌++◌, Result, Ok, Err, refl, sym, subst, ap, append_assoc, arith}
+use Rattle.std.specs.Prelude.{All, Contains, IfErr, IsErrOf, None, OnOk}
+use Rattle.std.proofs.lemmas.List.{append_cancel_left}
+use Rattle.std.proofs.lemmas.List.Elements.{All-contains}
+use Rattle.base_file.specs.Base.{Base}
+use Rattle.disk_io.specs.Disk.{DiskState, Files}
+use Rattle.disk_io.specs.Runs.{ChangesNothing}
+use Rattle.disk_io.proofs.Moments.{then_nothing, weaker_run}
+use Rattle.disk_io.specs.declared.disk_error.DiskError.TheVariants as disk
+use Rattle.disk_atomic.specs.Finishing.{IsOver}
+use Rattle.disk_atomic.specs.StagingPaths.{dotted, staging_path}
+use Rattle.disk_atomic.specs.ListStaged.{IsNameByte}
+use Rattle.disk_atomic.specs.declared.finishing.Left.{Left}
+use Rattle.disk_atomic.specs.declared.placing_error.PlacingError.{PlacingError}
+use Rattle.disk_atomic.specs.declared.placing_error.PlacingError.TheVariants as placing
+use Rattle.cmd_status.specs.Devices.{Output}
+use Rattle.cmd_store.specs.Scanned.{ScansOn}
+use Rattle.cmd_store.specs.Stops.{store_answer}
+use Rattle.cmd_store.specs.declared.command_error.CommandError.{CommandError}
+use Rattle.cmd_store.specs.declared.command_error.CommandError.TheVariants.{Met, Store}
+use Rattle.echo_toss.specs.PacketsIn.{state_in}
+use Rattle.model_steps.specs.PacketFiles.{PacketFile}
+use Rattle.base_store.specs.Store.{StoreState, all_scanned}
+use Rattle.base_store.specs.declared.store_error.StoreError.TheVariants as error
+use Rattle.station.specs.Beneath.{HoldsAsBefore}
+use Rattle.station_scan.specs.Beneath.{IsUsedAt}
+use Rattle.station_scan.specs.Beside.{IsMoved, IsPutBeside, ScansBeside, StopsBeside, TellsBeside, files_reported, from_number, left_cause, left_told, told_as}
+use Rattle.station_scan.specs.Fitting.{AreTaken}
+use Rattle.station_scan.specs.Left.{AreFreeLeft, EndsLeft, IsLeftOf, IsOfNameOff}
+use Rattle.station_scan.specs.Scanning.{IsPutOn, IsTaken, ScansOnStore, SendsOut, StopsScan, TriesOn, packets_in}
+use Rattle.station_scan.specs.Sending.{IsStagingOfPacket}
+use Rattle.station_scan.specs.Sends.{WasTriedFor}
+use Rattle.station_scan.specs.Stops.{IsOfPlacing, most}
+use Rattle.station_scan.specs.declared.pieces.Source.{Source}
+use Rattle.station_scan.specs.declared.scan_error.ScanError.{ScanError}
+use Rattle.station_scan.specs.declared.scan_error.ScanError.TheVariants.{Command, Placing, Staying}
+use Rattle.station_scan.specs.declared.sending.Sending.{Sending}
+use Rattle.station_scan.proofs.Lefts.{finishes_none}
+use Rattle.station_scan.proofs.Lists.{among}
+use Rattle.station_scan.proofs.Looked.{same_seen}
+use Rattle.station_scan.proofs.Names.{ending, not_staging, trial_no_path}
+use Rattle.station_scan.proofs.Outs.{is_ended, not_sent, sends_out, stopped_crash, stopped_only}
+use Rattle.station_scan.proofs.Scans.{stops_quiet}
+use Rattle.station_scan.proofs.Staged.{tried_after}
+use Rattle.station_scan.proofs.Stops.{put_whole, put_wider}
+use Rattle.station_scan.proofs.Through.{on_ok_gives}
+use Rattle.station_scan.proofs.Told.{reported_whole, told_wider}
+
+-- a staging path is no packet's path
+path_not_staging : (outbound own : List ℕ) (files : List PacketFile) (m n : List ℕ) → IsStagingOfPacket outbound own files m → All IsNameByte n → m ≡ outbound ++ n → ⊥
+path_not_staging outbound own files m n (inl (sent, has, plain, at)) is e = not_staging own n sent.name is (append_cancel_left outbound n (sent.name ++ ending own) (sym e ∙ at ∙ append_assoc outbound sent.name (ending own)))
+path_not_staging outbound own files m n (inr at) is e = trial_no_path outbound own n is (sym at ∙ e)
+
+stopped_ok : (P failed : Type 0) (before after : Files) (why : CommandError) (result : Result (Unit {0}) ScanError) → TellsBeside failed before after why result → OnOk result P
+stopped_ok P failed before after why result (inl (is, gone)) = subst (λ (r : Result (Unit {0}) ScanError). OnOk r P) (sym is) tt
+stopped_ok P failed before after why result (inr (left, is, cause)) = subst (λ (r : Result (Unit {0}) ScanError). OnOk r P) (sym is) tt
+
+-- an error tells nothing of a good end
+pub told_ok : (P : Type 0) (why : ScanError) (reported : Result (Unit {0}) CommandError) → OnOk (told_as why reported) P
+told_ok P why (Ok done) = tt
+told_ok P why (Err stop) = tt
+
+pub left_ok : (P : Type 0) (cause : PlacingError) (reported : Result (Unit {0}) CommandError) → OnOk (left_told cause reported) P
+left_ok P cause (Ok done) = tt
+left_ok P cause (Err stop) = tt
+
+-- ---- leftover packets were finished
+
+module _ (Own : List ℕ → Type 0) (to : Sending) (own_is : to.own.now ≡ dotted to.source.links.now.system) (IsTrue : Files → Type 0) (failed : Type 0) (s0 s1 : StoreState) (inside : (m : List ℕ) → s0.is_own m → Own m)
+    (used : IsUsedAt (IsOfNameOff Own to.outbound.now to.own.now) s0 s1) (honest0 : s0.disk.is_honest) (base : Base) (moved : IsMoved s0 to.source.from base) (cursor : ℕ) (at : cursor ≡ to.source.from) where
+  abbrev outbound : List ℕ
+  outbound = to.outbound.now
+
+  abbrev own : List ℕ
+  own = to.own.now
+
+  abbrev packets : List PacketFile
+  packets = packets_in to.source.stamp to.source.links.now base
+
+  abbrev is_true : Type 0
+  is_true = IsTrue s0.disk.seen
+
+  same_cursor : cursor ≡ base.cursor
+  same_cursor = at ∙ moved.at
+
+  -- the store holds what it held
+  pub moved_still : IsMoved s1 to.source.from base
+  moved_still = record { ready = used.holds.ready; keeps = used.holds.keeps (all_scanned base) moved.keeps; committed = used.holds.committed base moved.committed; at = moved.at }
+
+  put_as : (s2 : StoreState) (made : Result (List PacketFile) CommandError) (result : Result (Unit {0}) ScanError) → IsPutOn Own outbound own IsTrue failed s0 s2 base packets made result
+      → IsPutOn Own outbound (dotted to.source.links.now.system) IsTrue failed s0 s2 base packets made result
+  put_as s2 made result put = subst (λ (o : List ℕ). IsPutOn Own outbound o IsTrue failed s0 s2 base packets made result) own_is put
+
+  module _ (ends : EndsLeft is_true Own outbound own cursor s0.disk s1.disk (Ok tt)) (s2 : StoreState) (honest2 : s2.disk.is_honest) where
+    abbrev found : List Left
+    found = ends.found
+
+    -- it is reported of each staging file as it was before the leftover packets were finished
+    gone_or_was : (files : List PacketFile) (m : List ℕ) → IsStagingOfPacket outbound own files m → (s2.disk.seen m ≡ None) ⊎ (s2.disk.seen m ≡ s1.disk.seen m) → (s2.disk.seen m ≡ None) ⊎ (s2.disk.seen m ≡ s0.disk.seen m)
+    gone_or_was files m of (inl none) = inl none
+    gone_or_was files m of (inr same) = elim (among (λ (l : Left). l.staging.now) m found) [
+      | inl left ↦
+          let over : IsOver cursor s0.disk s1.disk left.0 = All-contains (IsOver cursor s0.disk s1.disk) found left.0 ends.over left.1 in
+          inl (same ∙ ap s1.disk.seen left.2 ∙ (is_ended cursor s0.disk s1.disk left.0 over).gone)
+      | inr none ↦ inr (same ∙ ends.changes.seen m (λ is.
+          ⊎_elim (λ (e : m ≡ is.0.staging.now). All-contains (λ (l : Left). m ≡ l.staging.now → ⊥) found is.0 none is.1 e)
+          (λ (e : m ≡ is.0.path.now).
+          let like = All-contains (IsLeftOf is_true Own outbound own) found is.0 ends.each is.1 in
+          path_not_staging outbound own files m like.0 of like.1.plain (e ∙ like.1.path)) is.2))
+    ]
+
+    stops_put : (some : Type 0) → (some → failed) → (files : List PacketFile) (why : CommandError) (result : Result (Unit {0}) ScanError) → StopsBeside outbound own some s1 s2 base files why result
+        → StopsScan is_true failed Own outbound own (s0.stands base) cursor files s0.disk s2.disk why result
+    stops_put some wider files why result stops = record {
+      found = found;
+      each = ends.each;
+      crash = stopped_crash Own outbound own is_true failed cursor files s0 s1 inside used moved.ready honest0 base (all_scanned base) moved.committed (Ok tt) ends s2 stops.crash;
+      shown = (used.same.stands base s2.disk.seen).0 stops.shown;
+      others = λ m other. stops.others m (λ of. other (inr of)) ∙ ends.changes.seen m (λ of. other (inl of));
+      told = ⊎_elim (λ told. inl (told.0, λ m of. gone_or_was files m of (told.1 m))) (λ told. inr told) (told_wider some failed s1.disk.seen s2.disk.seen why result wider stops.told);
+    }
+
+    module _ {D : Type 0} (state : D → DiskState) (some : Type 0) (wider : some → failed) (out now : Output) (result : Result (Unit {0}) ScanError) where
+      put_made : (made : Result (List PacketFile) CommandError) → IsPutBeside state Own outbound own some s1 s2 base packets made result → IsPutOn Own outbound own IsTrue failed s0 s2 base packets made result
+      put_made (Ok files) put =
+          subst (λ (n : ℕ). SendsOut is_true failed Own outbound own (s0.stands base) (s0.stands (all_scanned base)) n files s0.disk s2.disk result) same_cursor
+          (sends_out Own outbound own is_true failed cursor files s0 s1 inside used moved.ready honest0 base (all_scanned base) moved.committed ends s2 honest2 put.keeps moved.keeps (λ b. files) refl result put.sent put.crash
+          (subst (λ (n : ℕ). IfErr result (IsOfPlacing failed (AreTaken Own outbound own files s1.disk.seen) (most < n))) (sym same_cursor)
+          (put_wider some failed (AreTaken Own outbound own files s1.disk.seen) (AreTaken Own outbound own files s1.disk.seen) (most < base.cursor) result wider (λ t. t) put.why)))
+      put_made (Err why) put = subst (λ (n : ℕ). StopsScan is_true failed Own outbound own (s0.stands base) n packets s0.disk s2.disk why result) same_cursor (stops_put some wider packets why result put)
+
+      pub scans_put : ScansBeside state Own to some s1 s2 out now base result → ScansOnStore to.source.stamp Own outbound IsTrue failed s0 s2 out now to.source.links.now base result
+      scans_put scans = record { made = scans.made; answer = scans.answer; put = put_as s2 scans.made result (put_made scans.made scans.put); whole = scans.whole }
+
+      tried_at : (files : List PacketFile) → WasTriedFor state Own outbound own files s1.disk → WasTriedFor state Own outbound (dotted to.source.links.now.system) files s0.disk
+      tried_at files (inl none) = inl none
+      tried_at files (inr was) =
+          subst (λ (o : List ℕ). WasTriedFor state Own outbound o files s0.disk) own_is
+          (inr (tried_after state (IsOfNameOff Own outbound own) (IsOfNameOff Own outbound own) (staging_path outbound own) s0.disk s1.disk (λ m is. is) used.changes.seen was))
+
+      tries_made : (made : Result (List PacketFile) CommandError) → ScansOn to.source.stamp (state_in to.source.links.now base) out now made → IsPutBeside state Own outbound own some s1 s2 base packets made result
+          → OnOk result (TriesOn state to.source.stamp Own outbound s0 s2 out now to.source.links.now base)
+      tries_made (Ok files) answer put =
+          on_ok_gives result (λ tried.
+          ⊎_elim (λ (h : HoldsAsBefore s1 s2). inl (h.ready, h.committed base (used.holds.committed base moved.committed))) (λ (was : WasTriedFor state Own outbound own files s1.disk). inr (files, answer, tried_at files was)) tried) put.tried
+      tries_made (Err why) answer put = stopped_ok _ some s1.disk.seen s2.disk.seen why result put.told
+
+      pub tries_put : ScansBeside state Own to some s1 s2 out now base result → OnOk result (TriesOn state to.source.stamp Own outbound s0 s2 out now to.source.links.now base)
+      tries_put scans = tries_made scans.made scans.answer scans.put
+
+  -- they were not, and the lines were printed or not
+  module _ (cause : PlacingError) (result1 : Result (Unit {0}) PlacingError) (ends : EndsLeft is_true Own outbound own cursor s0.disk s1.disk result1) (s2 : StoreState) (quiet : ChangesNothing s1.disk s2.disk) (honest1 : s1.disk.is_honest)
+      (device : cause ≡ placing.Device → failed) (taken : cause ≡ placing.Taken → AreFreeLeft Own outbound own s0.disk.seen → ⊥) where
+    left_sends : SendsOut is_true failed Own outbound own (s0.stands base) (s0.stands (all_scanned base)) cursor packets s0.disk s2.disk (Err (Placing cause))
+    left_sends =
+        let before = not_sent Own outbound own is_true failed cursor packets s0 s1 inside used moved.ready honest0 base (all_scanned base) moved.committed result1 ends cause device taken in
+        record { found = before.found; each = before.each; sent = tt; crash = then_nothing s0.disk s1.disk s2.disk _ before.crash quiet; why = before.why }
+
+    left_why : (stop : CommandError) → (IsErrOf (store_answer {A = Unit {0}} (Err stop)) error.Device → failed) → (why : PlacingError) → why ≡ cause → IsOfPlacing failed ⊥ ⊥ (Staying (left_cause why stop))
+    left_why stop device_of placing.Device is = device (sym is)
+    left_why stop device_of placing.Memory is = tt
+    left_why (Met fault) device_of placing.Taken is = tt
+    left_why (Store error.Device) device_of placing.Taken is = device_of cc
+    left_why (Store error.Damaged) device_of placing.Taken is = tt
+    left_why (Store error.Memory) device_of placing.Taken is = tt
+    left_why (Store error.TooMany) device_of placing.Taken is = tt
+
+    left_stops : (stop : CommandError) → (IsErrOf (store_answer {A = Unit {0}} (Err stop)) error.Device → failed) → StopsScan is_true failed Own outbound own (s0.stands base) cursor packets s0.disk s2.disk stop (Err (Staying (left_cause cause stop)))
+    left_stops stop device_of = record {
+      found = ends.found;
+      each = ends.each;
+      crash =
+          then_nothing s0.disk s1.disk s2.disk _ (stopped_only Own outbound own is_true failed cursor packets s0 s1 inside used moved.ready honest0 base (all_scanned base) moved.committed result1 ends) quiet;
+      shown = (used.same.stands base s2.disk.seen).0 (subst (λ (f : Files). s1.stands base f) (sym (same_seen s1.disk s2.disk quiet)) (s1.shown honest1 used.holds.ready base (used.holds.committed base moved.committed)));
+      others = λ m other. quiet.seen m ∙ ends.changes.seen m (λ of. other (inl of));
+      told = inr (left_cause cause stop, refl, left_why stop device_of cause refl);
+    }
+
+    pub scans_left : (out now : Output) (reported : Result (Unit {0}) CommandError) → ScansOn to.source.stamp (state_in to.source.links.now (from_number to.source.from base)) out now (files_reported to.source (all_scanned base) reported)
+        → (IsErrOf (store_answer reported) error.Device → failed) → ScansOnStore to.source.stamp Own outbound IsTrue failed s0 s2 out now to.source.links.now base (left_told cause reported)
+    scans_left out now (Ok done) answer device_of = record {
+      made = Ok packets;
+      answer = subst (λ (n : ℕ). ScansOn to.source.stamp (state_in to.source.links.now (from_number n base)) out now (Ok (packets_in to.source.stamp to.source.links.now (from_number n base)))) moved.at answer;
+      put =
+          put_as s2 (Ok packets) (Err (Placing cause))
+          (subst (λ (n : ℕ). SendsOut is_true failed Own outbound own (s0.stands base) (s0.stands (all_scanned base)) n packets s0.disk s2.disk (Err (Placing cause))) same_cursor left_sends);
+      whole = λ is. cc is;
+    }
+    scans_left out now (Err stop) answer device_of = record {
+      made = Err stop;
+      answer = subst (λ (n : ℕ). ScansOn to.source.stamp (state_in to.source.links.now (from_number n base)) out now (Err stop)) moved.at answer;
+      put =
+          put_as s2 (Err stop) (Err (Staying (left_cause cause stop)))
+          (subst (λ (n : ℕ). StopsScan is_true failed Own outbound own (s0.stands base) n packets s0.disk s2.disk stop (Err (Staying (left_cause cause stop)))) same_cursor (left_stops stop device_of));
+      whole = λ is. cc is;
+    }
+
+-- ---- it stopped before
+
+-- the lines were printed or not, and nothing else was done
+pub scans_early : (Own : List ℕ → Type 0) (outbound : List ℕ) (source : Source) (IsTrue : Files → Type 0) (failed : Type 0) (s0 s2 : StoreState) (base : Base) (out now : Output) (why : ScanError) (reported : Result (Unit {0}) CommandError)
+    → IsMoved s0 source.from base → s0.disk.is_honest → ChangesNothing s0.disk s2.disk → ((e : CommandError) → why ≡ Command e → ⊥)
+    → IsOfPlacing failed (IsTaken Own outbound (dotted source.links.now.system) base.cursor [] (packets_in source.stamp source.links.now base) s0.disk.seen) (most < base.cursor) why
+    → ScansOn source.stamp (state_in source.links.now (from_number source.from base)) out now (files_reported source (all_scanned base) reported) → (IsErrOf (store_answer reported) error.Damaged → ⊥)
+    → ScansOnStore source.stamp Own outbound IsTrue failed s0 s2 out now source.links.now base (told_as why reported)
+scans_early Own outbound source IsTrue failed s0 s2 base out now why (Ok done) moved honest quiet not is answer whole = record {
+  made = Ok (packets_in source.stamp source.links.now base);
+  answer = subst (λ (n : ℕ). ScansOn source.stamp (state_in source.links.now (from_number n base)) out now (Ok (packets_in source.stamp source.links.now (from_number n base)))) moved.at answer;
+  put = record {
+    found = [];
+    each = λ k z lt. absurd (omega (arith, lt));
+    sent = tt;
+    crash =
+        weaker_run s0.disk s2.disk s0.disk.may_leave _ quiet.run
+        (λ c left. inl (c, left, record { between = c; ends = finishes_none base.cursor [] c; writes = λ m other. refl; stands = s0.stays honest moved.ready base moved.committed c left }));
+    why = is;
+  };
+  whole = reported_whole why (Ok done) not whole;
+}
+scans_early Own outbound source IsTrue failed s0 s2 base out now why (Err stop) moved honest quiet not is answer whole = record {
+  made = Err stop;
+  answer = subst (λ (n : ℕ). ScansOn source.stamp (state_in source.links.now (from_number n base)) out now (Err stop)) moved.at answer;
+  put = stops_quiet (IsTrue s0.disk.seen) failed Own outbound (dotted source.links.now.system) base.cursor _ s0 s2.disk base stop honest moved.ready moved.committed quiet;
+  whole = reported_whole why (Err stop) not whole;
+}

@@ -1,0 +1,92 @@
+//! The lines of a scan that stops before its packets are made.
+ghost use Rattle.std.specs.Prelude.{◌≡◌, true};
+ghost use Rattle.cmd_status.specs.Devices.{output_of};
+ghost use Rattle.model_steps.specs.Stamps.{is_stamp};
+ghost use Rattle.station_scan.specs.Beside.{HasReported, left_cause, left_told, told_as};
+
+use crate::beneath::Used;
+use crate::pieces::Source;
+use crate::reported::ReportedStore;
+use crate::scan_error::ScanError;
+use base_store::{Store, StoreError};
+use cmd_status::MessageProgress;
+use cmd_store::{CommandError, print_counted};
+use disk_atomic::PlacingError;
+use disk_io::{DiskError, Sink};
+use echo_toss::counted_from;
+use std::alloc::Global;
+
+/// Counts the packets of the messages, and prints their lines. The watcher hears of each message.
+pub(crate) fn report<'a, S: Store, T: MessageProgress, W: Sink>(
+    alloc: Global,
+    source: Source<'_>,
+    store: S,
+    watch: &T,
+    out: &mut W,
+) -> Used<S, Result<(), CommandError<'a>>>
+    requires ready { (S.state store).is_ready }
+    requires stamp { is_stamp source.stamp ≡ true }
+    ensures { HasReported S.state source.entry (S.state store) (S.state result.store) (S.failures store) (S.failures result.store)
+        (output_of W.contents W.failures W.holds out.old) (output_of W.contents W.failures W.holds out.new) result.done }
+{
+    let mut reported = ReportedStore { store, watch };
+    let counted = counted_from(alloc, source.links, &mut reported, source.from);
+    let ReportedStore { store, .. } = reported;
+    match counted {
+        Ok(packets) => match print_counted(alloc, &packets, source.from, out) {
+            Ok(_planned) => Used {
+                store,
+                done: Ok(()),
+            },
+            Err(stop) => Used {
+                store,
+                done: Err(stop),
+            },
+        },
+        Err(cause) => Used {
+            store,
+            done: Err(CommandError::Store(cause)),
+        },
+    }
+}
+
+/// Why the scan stopped, once that was reported or could not be.
+pub(crate) fn told_as<'a>(
+    why: ScanError<'a>,
+    reported: Result<(), CommandError<'a>>,
+) -> Result<(), ScanError<'a>>
+    ensures { result ≡ told_as why.entry reported.entry }
+{
+    match reported {
+        Ok(()) => Err(why),
+        Err(stop) => Err(ScanError::Command(stop)),
+    }
+}
+
+// Why leftover packets may have staging files still.
+fn left_cause(cause: PlacingError, stop: CommandError<'_>) -> DiskError
+    ensures { result ≡ left_cause cause stop.entry }
+{
+    match cause {
+        PlacingError::Device => DiskError::Device,
+        PlacingError::Memory => DiskError::Memory,
+        PlacingError::Taken => match stop {
+            CommandError::Store(StoreError::Device) => DiskError::Device,
+            CommandError::Store(_) => DiskError::Memory,
+            CommandError::Met(_) => DiskError::Memory,
+        },
+    }
+}
+
+/// The same where leftover packets were not finished.
+pub(crate) fn left_told<'a>(
+    cause: PlacingError,
+    reported: Result<(), CommandError<'a>>,
+) -> Result<(), ScanError<'a>>
+    ensures { result ≡ left_told cause reported.entry }
+{
+    match reported {
+        Ok(()) => Err(ScanError::Placing(cause)),
+        Err(stop) => Err(ScanError::Staying(left_cause(cause, stop))),
+    }
+}
