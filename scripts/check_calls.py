@@ -55,11 +55,11 @@ OVER_ANY_DISK = {
     "read_folder": "base_folder",
     "fill": "base_folder",
 }
-CALLS = re.compile(r"\bfs::|\brt::Files\b|\bOpenOptions\b|\bFileExt\b|\bmake_new\b|\bcreate_file\b|\bmake_file\b")
+CALLS = re.compile(r"\bfs::|\brt::Files\b|\bOpenOptions\b|\bFileExt\b|\bmake_new\b|\bcreate_file\b|\bbegin_file\b|\bmake_file\b")
 CHANGING = re.compile(
     r"\bfs::(?:rename|remove_\w+|hard_link|copy|write|create\w*|set_permissions)\b|\bOpenOptions::new\b|\bFile::create"
     r"|\.(?:set_len|set_permissions|write_all_at|set_owner|remove_file|hard_link)\(|\bfchown\("
-    r"|(?<![.\w])(?<!fn )(?<!system::)(?:make_new|create_file|make_file|write_at|remove_left)\("
+    r"|(?<![.\w])(?<!fn )(?<!system::)(?:make_new|create_file|begin_file|make_file|write_at|remove_left)\("
 )
 # The words `disk` that only declare one.
 DECLARES = re.compile(r"\bdisk\s*:\s*(?:&mut )?D\b|\blet (?:mut )?disk\s*=\s*RealDisk::new\([\w.]+, Unknown\);")

@@ -117,18 +117,8 @@ pub fn messages_fault(fault: BaseFault, base: &str) -> Fault<'_> {
 pub fn is_unused<'a>(rt: &HostRuntime, base: &'a str) -> Result<bool, Fault<'a>> {
     let strange = is_strange(rt, base)?;
     let path = folder_path(rt, base)?;
-    is_unused_at(rt, base, path.as_str(), strange)
-}
-
-// The same. The files have `path` before their names.
-fn is_unused_at<'a>(
-    rt: &HostRuntime,
-    base: &'a str,
-    path: &str,
-    strange: bool,
-) -> Result<bool, Fault<'a>> {
     let mut disk = RealDisk::new(rt, Unknown);
-    match log_end(rt.alloc(), &mut disk, path.as_bytes(), strange) {
+    match log_end(rt.alloc(), &mut disk, path.as_str().as_bytes(), strange) {
         Ok(end) => Ok(end.gate == 0),
         Err(OpenError::Wrong(_)) => Ok(false),
         Err(why) => Err(why.fault(base)),

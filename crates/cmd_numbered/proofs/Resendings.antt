@@ -1,31 +1,40 @@
--- A packet that a system makes again, as an answer.
-use Rattle.std.proofs.Common.{◌≡◌, ◌∙◌, ℕ, List, Some, Ok, Err, inl, inr, refl}
+-- A packet that is made again, as an answer.
+use Rattle.std.proofs.Common.{◌≡◌, ℕ, zero, suc, ◌<◌, ◌++◌, List, [], ◌∷◌, Option, Some, Result, Ok, Err, ◌∙◌, inl, inr, refl, subst, arith, slice_get, length}
+use Rattle.base_file.specs.Base.{Base}
+use Rattle.base_folder.proofs.Fetchings.{never_read}
 use Rattle.echo_addr.specs.declared.address.Address.{Address}
-use Rattle.echo_links.specs.Links.{LinkFile, upper}
-use Rattle.model_steps.specs.declared.fault.ScanFault.{ScanFault}
-use Rattle.model_steps.specs.declared.fault.ScanFault.TheVariants as scan
+use Rattle.echo_filed.specs.Filed.{Filed}
+use Rattle.echo_links.specs.Links.{LinkFile}
+use Rattle.echo_packet.specs.Message.{Message}
 use Rattle.model_steps.specs.declared.packet.Packet.{Packet}
 use Rattle.model_steps.specs.declared.stamp.Stamp.{Stamp}
-use Rattle.model_steps.specs.Resending.{IsResent, resent_packet}
-use Rattle.model_steps.specs.SystemState.{SystemState}
-use Rattle.cmd_status.specs.declared.fault.Fault.TheVariants.{Scan}
+use Rattle.cmd_status.specs.declared.fault.Fault.{Fault}
 use Rattle.cmd_status.specs.Inputs.{IsBaseGiven}
-use Rattle.cmd_numbered.specs.Resending.{ResendAnswers}
+use Rattle.echo_toss.specs.Exports.{IsResentAt}
+use Rattle.cmd_numbered.specs.Resending.{IsMadeOf, ResendAnswers, ResendsReading, copies_at}
 
--- the packet was made
-pub made_again : (file : LinkFile) (s : SystemState) (stamp : Stamp) (area tag : List ℕ) (to : Address) (first : ℕ) (bytes : List ℕ) (packet : Packet)
-    → s.file ≡ file → IsBaseGiven (Some bytes) s.base s.cursor → tag ≡ upper area → IsResent s stamp tag to first (Ok packet)
-    → ResendAnswers file stamp area to first bytes (Ok packet)
-made_again file s stamp area tag to first bytes packet same given raised is = record {
-  messages = s.base;
-  cursor = s.cursor;
+-- the messages were those of a base file, of which no read fails
+pub of_base_file : (file : LinkFile) (stamp : Stamp) (area : List ℕ) (to : Address) (first : ℕ) (path bytes : List ℕ) (base : Base) (result : Result Packet Fault)
+    → IsBaseGiven (Some bytes) base.messages base.cursor → ResendsReading stamp (IsMadeOf file stamp area to first base) path 0 0 result → ResendAnswers file stamp area to first bytes result
+of_base_file file stamp area to first path bytes base (Ok packet) given made = record {
+  messages = base.messages;
+  cursor = base.cursor;
   given = given;
-  moment = is.0;
-  packet_is = is.1 ∙ (λ i. resent_packet (same i) stamp (raised i) to first s.base s.cursor);
+  moment = made.moment;
+  packet_is = made.packet_is;
 }
+of_base_file file stamp area to first path bytes base (Err fault) given (inl (inl memory)) = inl memory
+of_base_file file stamp area to first path bytes base (Err fault) given (inl (inr read)) = absurd (never_read path fault read)
+of_base_file file stamp area to first path bytes base (Err fault) given (inr bad) = inr (inr bad)
 
--- it was not
-pub not_made : (file : LinkFile) (s : SystemState) (stamp : Stamp) (area tag : List ℕ) (to : Address) (first : ℕ) (bytes : List ℕ) (why : ScanFault)
-    → IsResent s stamp tag to first (Err why) → ResendAnswers file stamp area to first bytes (Err (Scan why))
-not_made file s stamp area tag to first bytes scan.BadStamp is = inr (inr (refl, is))
-not_made file s stamp area tag to first bytes scan.Memory is = inl tt
+found_at : {X : Type 0} (xs : List X) (i : ℕ) → i < length xs → (x : X) × (slice_get xs i ≡ Some x)
+found_at [] i within = absurd (omega (arith, within))
+found_at (x ∷ xs) zero within = (x, refl)
+found_at (x ∷ xs) (suc i) within = found_at xs i (omega (arith, within))
+
+-- the copy of the message that is at hand was added
+pub added_at : (file : LinkFile) (area : List ℕ) (to : Address) (messages : List Filed) (i : ℕ) (hand : Option Filed) (old new : List Message)
+    → i < length messages → hand ≡ slice_get messages i → new ≡ old ++ copies_at file area to hand → IsResentAt file area to messages i old new
+added_at file area to messages i hand old new within here grown =
+    let found = found_at messages i within in
+    (found.0, found.1, subst (λ (o : Option Filed). new ≡ old ++ copies_at file area to o) (here ∙ found.1) grown)

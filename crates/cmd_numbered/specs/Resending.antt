@@ -1,12 +1,16 @@
 -- A packet that is made again of a base file.
-use Rattle.std.specs.Prelude.{◌≡◌, ℕ, ◌⊎◌, true, false, List, Some, Result, Ok, Err}
+use Rattle.std.specs.Prelude.{◌≡◌, ℕ, ◌⊎◌, true, false, List, [], ◌∷◌, map, filter, Option, Some, None, Result, Ok, Err}
+use Rattle.base_file.specs.Base.{Base}
+use Rattle.base_folder.specs.Fetching.{IsUnread}
 use Rattle.echo_addr.specs.declared.address.Address.{Address}
 use Rattle.echo_filed.specs.Filed.{Filed}
+use Rattle.echo_packet.specs.Message.{Message}
 use Rattle.echo_links.specs.Links.{LinkFile, upper}
 use Rattle.model_steps.specs.declared.fault.ScanFault.TheVariants.{BadStamp}
 use Rattle.model_steps.specs.declared.packet.Packet.{Packet}
 use Rattle.model_steps.specs.declared.stamp.Stamp.{Stamp}
-use Rattle.model_steps.specs.Resending.{resent_packet}
+use Rattle.model_steps.specs.Resending.{is_resent, resent_packet}
+use Rattle.model_steps.specs.Scanning.{copy_to}
 use Rattle.model_steps.specs.Stamps.{is_stamp}
 use Rattle.cmd_status.specs.declared.fault.Fault.{Fault}
 use Rattle.cmd_status.specs.declared.fault.Fault.TheVariants.{Scan}
@@ -21,6 +25,21 @@ pub record IsMadeAgain (file : LinkFile) (stamp : Stamp) (area : List ℕ) (to :
   pub given : IsBaseGiven (Some base) messages cursor
   pub moment : is_stamp stamp ≡ true
   pub packet_is : packet ≡ resent_packet file stamp (upper area) to first messages cursor
+
+-- the packet that is made again of the messages of a base
+pub record IsMadeOf (file : LinkFile) (stamp : Stamp) (area : List ℕ) (to : Address) (first : ℕ) (base : Base) (packet : Packet) : Type 0 where
+  pub moment : is_stamp stamp ≡ true
+  pub packet_is : packet ≡ resent_packet file stamp (upper area) to first base.messages base.cursor
+
+-- a right packet, or the stamp's fault, or a message of the base with this path was not read
+abbrev pub ResendsReading : Stamp → (Packet → Type 0) → List ℕ → ℕ → ℕ → Result Packet Fault → Type 0
+ResendsReading stamp IsRight path before now (Ok packet) = IsRight packet
+ResendsReading stamp IsRight path before now (Err fault) = IsUnread path before now fault ⊎ ((fault ≡ Scan BadStamp) × (is_stamp stamp ≡ false))
+
+-- the copy of a message, if there is one and it is sent again
+abbrev pub copies_at : LinkFile → List ℕ → Address → Option Filed → List Message
+copies_at file area to None = []
+copies_at file area to (Some m) = map (copy_to file to) (filter (is_resent file area to) (m ∷ []))
 
 -- the right answer if a packet is to be made again
 abbrev pub ResendAnswers : LinkFile → Stamp → List ℕ → Address → ℕ → List ℕ → Result Packet Fault → Type 0

@@ -23,5 +23,5 @@ pub use finding::{
 };
 pub use names::{is_left, number_in};
 pub use numbering::{Exported, MessageFile, export_files, export_files_of};
-pub use resending::resend;
+pub use resending::{resend, resend_of};
 pub use telling::{refuse_message, tell_added, tell_cuts, tell_exported, tell_refused};

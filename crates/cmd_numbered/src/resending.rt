@@ -1,15 +1,19 @@
 //! A packet that is made again.
-ghost use Rattle.std.specs.Prelude.{List, ℕ, Some, ◌≡◌, ◌⊎◌, IfErr, IfOk};
-ghost use Rattle.echo_links.specs.Links.{LinkFile as TheLinks};
-ghost use Rattle.cmd_status.specs.Ended.{IsOutOfMemory};
-ghost use Rattle.cmd_status.specs.Inputs.{IsBaseFault, IsBaseGiven};
-ghost use Rattle.cmd_numbered.specs.Resending.{ResendAnswers};
+ghost use Rattle.std.specs.Prelude.{◌≡◌, ◌++◌, IfErr, IfOk, OnOk, option_copied};
+ghost use Rattle.base_file.specs.Base.{Base};
+ghost use Rattle.base_folder.specs.Fetching.{IsUnread};
+ghost use Rattle.model_steps.specs.Resending.{resent};
+ghost use Rattle.cmd_numbered.specs.Resending.{IsMadeOf, ResendAnswers, ResendsReading, copies_at};
 
+use base_folder::{BaseReader, MessageSource, fetch_message};
 use cmd_status::Fault;
+use echo_addr::Items;
+use echo_filed::Filed;
 use echo_links::LinkFile;
-use echo_toss::{Resend, Tosser};
-use model_steps::Packet;
-use std::alloc::Global;
+use echo_packet::PackedCopy;
+use echo_toss::{Resend, header_to, push_resent};
+use model_steps::{Packet, ScanFault, is_stamp};
+use std::alloc::{AllocError, Global};
 use std::hash::BuildHasher;
 
 /// `resend --area TAG --to ADDRESS [--from I] --at STAMP LINKS BASE DIR`: the packet that is made again, perhaps without
@@ -23,33 +27,26 @@ pub fn resend<'a, S: BuildHasher + Drop>(
 ) -> Result<Packet, Fault<'a>>
     ensures { ResendAnswers links asked.entry.stamp asked.entry.area.now asked.entry.to asked.entry.first base.now result }
 {
-    let mut tosser = tosser_of(alloc, links, base, hasher)?;
-    resend_from(alloc, asked, &mut tosser)
+    let mut messages = BaseReader::read(alloc, base, hasher)?;
+    resend_of(alloc, asked, &links, "", &mut messages)
 }
 
-// The system of the link file with the base of the file.
-fn tosser_of<'a, S: BuildHasher + Drop>(
-    alloc: Global,
-    links: LinkFile,
-    base: &[u8],
-    hasher: S,
-) -> Result<Tosser<S>, Fault<'a>>
-    ensures links { IfOk result (λ system. system.file ≡ links) }
-    ensures given { IfOk result (λ system. IsBaseGiven (Some base.now) system.base system.cursor) }
-    ensures err { IfErr result (λ fault. IsOutOfMemory fault ⊎ IsBaseFault (Some base.now) fault) }
-{
-    Ok(Tosser::load(alloc, links, &mut &*base, hasher)?)
-}
-
-// The same of that system.
-fn resend_from<'a, S: BuildHasher>(
+/// The same of messages that are read one by one, of the base with this path.
+pub fn resend_of<'a, M: MessageSource>(
     alloc: Global,
     asked: Resend<'_>,
-    tosser: &mut Tosser<S>,
+    links: &LinkFile,
+    path: &'a str,
+    messages: &mut M,
 ) -> Result<Packet, Fault<'a>>
-    ensures { (file : TheLinks) (bytes : List ℕ) → tosser.old.file ≡ file → IsBaseGiven (Some bytes) tosser.old.base tosser.old.cursor
-        → ResendAnswers file asked.entry.stamp asked.entry.area.now asked.entry.to asked.entry.first bytes result }
+    requires { (M.state messages.old).is_ready }
+    ensures { (M.state messages.new).is_honest → (base : Base) → (M.state messages.old).holds base
+        → ResendsReading asked.entry.stamp (IsMadeOf links.now asked.entry.stamp asked.entry.area.now asked.entry.to asked.entry.first base)
+        path.now (M.state messages.old).failures (M.state messages.new).failures result }
 {
+    if !is_stamp(asked.stamp) {
+        return Err(Fault::Scan(ScanFault::BadStamp));
+    }
     let area = asked.area.to_ascii_uppercase(alloc)?;
     let asked = Resend {
         area: &area,
@@ -57,5 +54,51 @@ fn resend_from<'a, S: BuildHasher>(
         first: asked.first,
         stamp: asked.stamp,
     };
-    Ok(tosser.resend(asked)?)
+    let copies = copies_of(alloc, asked, links, path, messages)?;
+    Ok(Packet {
+        header: header_to(links, asked.stamp, asked.to),
+        messages: Items::new(copies),
+    })
+}
+
+// The copies of the scanned messages that are sent again, in order.
+fn copies_of<'a, M: MessageSource>(
+    alloc: Global,
+    asked: Resend<'_>,
+    links: &LinkFile,
+    path: &'a str,
+    messages: &mut M,
+) -> Result<Vec<PackedCopy>, Fault<'a>>
+    requires { (M.state messages.old).is_ready }
+    ensures copies { (M.state messages.new).is_honest → (base : Base) → (M.state messages.old).holds base
+        → IfOk result (λ all. all.items ≡ resent links.now asked.entry.area.now asked.entry.to asked.entry.first base.messages base.cursor) }
+    ensures fault { (M.state messages.new).is_honest → (base : Base) → (M.state messages.old).holds base
+        → IfErr result (IsUnread path.now (M.state messages.old).failures (M.state messages.new).failures) }
+{
+    let count = messages.count();
+    let end = messages.cursor().min(count);
+    let mut all = Vec::new(alloc);
+    let mut at = asked.first;
+    'scanned: while at < end {
+        fetch_message(messages, path, at)?;
+        push_at(alloc, links, asked, messages.at_hand(), &mut all)?;
+        at += 1;
+    }
+    Ok(all)
+}
+
+// Adds the copy of the message, if there is one and it is sent again.
+fn push_at(
+    alloc: Global,
+    links: &LinkFile,
+    asked: Resend<'_>,
+    message: Option<&Filed>,
+    all: &mut Vec<PackedCopy>,
+) -> Result<(), AllocError>
+    ensures { OnOk result (all.new.items ≡ all.old.items ++ copies_at links.now asked.entry.area.now asked.entry.to (option_copied message.entry)) }
+{
+    match message {
+        Some(message) => push_resent(alloc, links, asked, message, all),
+        None => Ok(()),
+    }
 }

@@ -4,9 +4,9 @@ ghost use Rattle.std.specs.Prelude.{◌≡◌, None};
 use base_file::BaseFault;
 use base_folder::{judge_owner, log_end};
 use cmd_input::{
-    LinkLock, base_bytes, folder_path, is_folder, is_strange, moment_of, output_fault,
+    LinkLock, folder_path, is_folder, is_strange, look_into, moment_of, output_fault, read_file,
 };
-use cmd_numbered::resend;
+use cmd_numbered::{resend, resend_of};
 use cmd_report::{push_packet, resent_name};
 use cmd_status::{Fault, FileLock, Status, number_of, parse_address, print_rest};
 use cmd_words::ResendWords;
@@ -73,7 +73,11 @@ fn packet_of<'a, D: Disk, L: FileLock>(
     let hasher = RandomState::new(rt).map_err(|_| Fault::Base(BaseFault::Read))?;
     let links = links_at(rt.alloc(), disk, lock, words.links)?;
     check_owner(rt, disk, words.base, links.system())?;
-    let base = base_bytes(rt, words.base)?;
+    if is_folder(rt, words.base) {
+        let mut messages = look_into(rt, words.base, 0, None)?;
+        return resend_of(rt.alloc(), asked, &links, words.base, &mut messages);
+    }
+    let base = read_file(rt, words.base, usize::MAX)?;
     resend(rt.alloc(), asked, links, &base, hasher)
 }
 

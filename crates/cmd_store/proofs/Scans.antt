@@ -1,6 +1,5 @@
 -- Scans of a store.
 use Rattle.std.proofs.Common.{◌≡◌, ◌++◌, ℕ, true, List, [], ◌∷◌, drop, map, inl, inr, Result, Ok, Err, refl, ap, subst, ◌∙◌}
-use Rattle.std.specs.Prelude.{IsErrOf}
 use Rattle.std.specs.List.{flat_map}
 use Rattle.echo_addr.specs.declared.address.Address.{Address}
 use Rattle.echo_packet.specs.Packet.{packet_bytes}
@@ -15,35 +14,15 @@ use Rattle.model_steps.specs.declared.stamp.Stamp.{Stamp}
 use Rattle.model_steps.specs.Scanning.{header_to, scanned}
 use Rattle.model_steps.specs.Stamps.{is_stamp}
 use Rattle.model_steps.specs.SystemState.{SystemState}
-use Rattle.base_store.specs.Store.{HasStoreCause, StoreState}
-use Rattle.base_store.specs.declared.store_error.StoreError.TheVariants.{TooMany}
 use Rattle.echo_toss.specs.declared.counting.CountedPacket.{CountedPacket}
 use Rattle.echo_toss.specs.Counts.{bytes_for, copies_out, counted_of}
 use Rattle.echo_toss.specs.Exports.{Outgoing, packet_out, packets_out, sent_of}
 use Rattle.echo_toss.proofs.Exports.{scan_made}
-use Rattle.echo_toss.specs.declared.step_error.ScanStepError.{ScanStepError}
-use Rattle.echo_toss.specs.declared.step_error.ScanStepError.TheVariants as scan
-use Rattle.echo_toss.specs.Stores.{IsScanStop, scan_answer}
 use Rattle.cmd_store.specs.Answered.{AnswersOn, RefusesNone}
 use Rattle.cmd_store.specs.Scanned.{ArePlanned, IsScannedAt, ScansOn, files_made}
 use Rattle.cmd_store.specs.declared.command_error.CommandError.{CommandError}
 use Rattle.cmd_store.specs.declared.command_error.CommandError.TheVariants.{Met, Store}
-use Rattle.cmd_store.specs.Stops.{scan_stop, store_answer}
-
--- a scan that stopped
-pub scan_stopped : (stamp : Stamp) (system : SystemState) (before after : StoreState) (old : Output) (why : ScanStepError) → IsScanStop stamp before after why → ScansOn stamp system old old (Err (scan_stop why))
-scan_stopped stamp system before after old scan.BadStamp is = inr (inr (refl, is.0), refl)
-scan_stopped stamp system before after old (scan.Store cause) is = refl
-
--- why the store failed in a scan
-pub scan_caused : (A B : Type 0) (old new : StoreState) (before now : ℕ) (why : ScanStepError) → HasStoreCause old new before now (scan_answer {T = A} (Err why))
-    → HasStoreCause old new before now (store_answer {A = B} (Err (scan_stop why)))
-scan_caused A B old new before now scan.BadStamp cause = cause
-scan_caused A B old new before now (scan.Store why) cause = cause
-
-pub scan_many : (P A B : Type 0) (why : ScanStepError) → (IsErrOf (scan_answer {T = A} (Err why)) TooMany → P) → IsErrOf (store_answer {A = B} (Err (scan_stop why))) TooMany → P
-scan_many P A B scan.BadStamp gives is = gives is
-scan_many P A B (scan.Store why) gives is = gives is
+use Rattle.cmd_store.specs.Stops.{store_answer}
 
 -- ---- what was counted, as the packets of the scan
 

@@ -2,14 +2,11 @@
 use Rattle.std.specs.Prelude.{◌≡◌, ℕ, List, Result, Ok, Err}
 use Rattle.base_file.specs.declared.fault.BaseFault.TheVariants.{TooMany}
 use Rattle.cmd_status.specs.declared.fault.Fault.{Fault}
-use Rattle.cmd_status.specs.declared.fault.Fault.TheVariants.{Base, OutOfMemory, Post, Scan}
-use Rattle.model_steps.specs.declared.fault.ScanFault.TheVariants as scan_fault
+use Rattle.cmd_status.specs.declared.fault.Fault.TheVariants.{Base, OutOfMemory, Post}
 use Rattle.base_store.specs.declared.store_error.StoreError.{StoreError}
 use Rattle.base_store.specs.declared.store_error.StoreError.TheVariants as error
 use Rattle.echo_toss.specs.declared.step_error.PostStepError.{PostStepError}
 use Rattle.echo_toss.specs.declared.step_error.PostStepError.TheVariants as post
-use Rattle.echo_toss.specs.declared.step_error.ScanStepError.{ScanStepError}
-use Rattle.echo_toss.specs.declared.step_error.ScanStepError.TheVariants as scan
 use Rattle.cmd_status.specs.Ended.{IsCannotUse}
 use Rattle.cmd_store.specs.declared.command_error.CommandError.{CommandError}
 use Rattle.cmd_store.specs.declared.command_error.CommandError.TheVariants as stop
@@ -18,11 +15,6 @@ use Rattle.cmd_store.specs.declared.command_error.CommandError.TheVariants as st
 abbrev pub post_stop : PostStepError → CommandError
 post_stop (post.Refused why) = stop.Met (Post why)
 post_stop (post.Store cause) = stop.Store cause
-
--- Why a scan stopped a command.
-abbrev pub scan_stop : ScanStepError → CommandError
-scan_stop scan.BadStamp = stop.Met (Scan scan_fault.BadStamp)
-scan_stop (scan.Store cause) = stop.Store cause
 
 -- What the store answered.
 abbrev pub store_answer : {A : Type 0} → Result A CommandError → Result (Unit {0}) StoreError

@@ -2,13 +2,12 @@
 ghost use Rattle.std.specs.Prelude.{◌≡◌};
 ghost use Rattle.cmd_status.specs.declared.fault.Fault.TheVariants.{OutOfMemory};
 ghost use Rattle.cmd_store.specs.declared.command_error.CommandError.TheVariants as stop;
-ghost use Rattle.cmd_store.specs.Stops.{IsToldAs, post_stop, scan_stop};
+ghost use Rattle.cmd_store.specs.Stops.{IsToldAs, post_stop};
 
 use base_file::BaseFault;
 use base_store::StoreError;
 use cmd_status::Fault;
-use echo_toss::{PostStepError, ScanStepError};
-use model_steps::ScanFault;
+use echo_toss::PostStepError;
 use std::alloc::{AllocError, AllocFailed};
 use thiserror::Error;
 
@@ -62,17 +61,6 @@ impl From<PostStepError> for CommandError<'_> {
         match why {
             PostStepError::Refused(fault) => CommandError::Met(Fault::Post(fault)),
             PostStepError::Store(error) => CommandError::Store(error),
-        }
-    }
-}
-
-impl From<ScanStepError> for CommandError<'_> {
-    ghost from_gives = { λ why e. e ≡ scan_stop why };
-
-    fn from(why: ScanStepError) -> Self {
-        match why {
-            ScanStepError::BadStamp => CommandError::Met(Fault::Scan(ScanFault::BadStamp)),
-            ScanStepError::Store(error) => CommandError::Store(error),
         }
     }
 }

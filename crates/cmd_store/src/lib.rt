@@ -1,5 +1,5 @@
-//! The commands that change a base, on any store of messages: `post`, `reply`, `scan`, `purge` and `toss`, and `post
-//! --mail` of a mail message (RFC 5322).
+//! The commands that change a base, on any store of messages: `post`, `reply`, `purge` and `toss`, and `post --mail` of a
+//! mail message (RFC 5322); and the lines of `scan`.
 //!
 //! The contract for the program: each command prints just the lines, or returns just the fault, that the base of the
 //! store and the command's words give. If it ends well, the store holds and has committed the base that the command
@@ -8,11 +8,11 @@
 //! that there is too much only if the store was full or had no room, and then nothing was committed. A mail posts its
 //! words in the bytes of a charset, and other words if the charset lacks one.
 //!
-//! Each is a type that implements `StoreCommand`, except `scan`, which needs the disk for its packets.
+//! Each is a type that implements `StoreCommand`. A scan needs the disk for its packets, so it is no such type.
 //!
 //! Begin with `command` (what a command promises) and `command_error` (why a command stopped). Then `posting`,
-//! `replying`, `scanning`, `purging` and `tossing`, each one command. `leaving` prints lines and commits the store, and
-//! `serials` chooses the serial of a posting. For mail: `fault` (why a mail is not posted), `writing` (the words of a
+//! `replying`, `purging` and `tossing`, each one command, and `scanning` (the lines of a scan). `leaving` prints lines and
+//! commits the store, and `serials` chooses the serial of a posting. For mail: `fault` (why a mail is not posted), `writing` (the words of a
 //! mail in a charset), `charset_line` (the line of that charset), `letter` (the words of a mail), `mailed` (the words
 //! of the posting) and `mail_posting` (the command). `laws` has what holds of exported ids.
 #![tactic(auto)]
@@ -45,5 +45,5 @@ pub use mailed::MailWords;
 pub use posting::Post;
 pub use purging::Purge;
 pub use replying::Reply;
-pub use scanning::{print_counted, scan_on};
+pub use scanning::print_counted;
 pub use tossing::Toss;

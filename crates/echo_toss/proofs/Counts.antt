@@ -1,6 +1,6 @@
 -- Packets that are counted group by group are those that a scan makes.
 use Rattle.std.proofs.Common.{◌≡◌, ◌∙◌, ⊎_elim, ℕ, zero, suc, ◌+◌, ◌<◌, Bool, true, false, true≢false, List, [], ◌∷◌, ◌++◌, map, drop, length, Option, Some, None, inl, inr, refl, sym, ap, subst, arith, append_assoc, length-append}
-use Rattle.std.specs.Prelude.{filter, find, nat_lt, bytes_eq, get_or, slice_get, option_map, unwrap_or}
+use Rattle.std.specs.Prelude.{SomeIff, filter, find, nat_lt, bytes_eq, get_or, slice_get, option_map, unwrap_or}
 use Rattle.std.specs.List.{AllByRecursion, flat_map}
 use Rattle.std.proofs.lemmas.Bool.{cases_Bool, cond-false, cond-true, lt-ltb}
 use Rattle.std.proofs.lemmas.List.{append-nil, map-append}
@@ -151,6 +151,10 @@ no_copy a o sent stays = ap (map (copy_out a)) (cond-false (goes_out a o) (o ∷
 same_size : (m : Message) (node net : ℕ) → length (message_bytes (readdressed m node net)) ≡ length (message_bytes m)
 unfolding numbers
 same_size m node net = refl
+
+-- the value of a sum that did not overflow
+pub sum_is : (r : Option ℕ) (P : Type 0) (v x : ℕ) → SomeIff r P v → r ≡ Some x → x ≡ v
+sum_is r P v x given is = (subst (λ (o : Option ℕ). SomeIff o P v) is given).1
 
 -- one message more
 pub one_counted : (p : CountedPacket) (o : Outgoing) (count size n : ℕ) → goes_out p.to o ≡ true → count ≡ p.messages + 1 → n ≡ length (message_bytes o.message) → size ≡ p.bytes + n

@@ -1,25 +1,21 @@
 //! The packets of a scan, counted and not held: whom each is for, and how large it will be.
-ghost use Rattle.std.specs.Prelude.{◌≡◌, ◌+◌, [], ◌∷◌, true, not, map, filter, slice_get, Some, IfOk, IsErrOf, MatchResult, OnErr, OnOk};
+ghost use Rattle.std.specs.Prelude.{◌≡◌, [], ◌∷◌, map, filter, slice_get, Some, IfOk, IsErrOf, OnErr, OnOk};
 ghost use Rattle.disk_io.specs.Disk.{Honestly};
-ghost use Rattle.disk_io.specs.Runs.{ChangesNothing};
 ghost use Rattle.base_file.specs.Base.{Base};
-ghost use Rattle.base_store.specs.Store.{CommitsNothing, HasStoreCause, LooksOn, all_scanned};
+ghost use Rattle.base_store.specs.Store.{HasStoreCause, LooksOn};
 ghost use Rattle.echo_links.specs.Links.{Area, links_of};
 ghost use Rattle.model_steps.specs.Scanning.{scanned};
-ghost use Rattle.model_steps.specs.Stamps.{is_stamp};
 ghost use Rattle.echo_toss.specs.Bounds.{IsFullWhenRead};
 ghost use Rattle.echo_toss.specs.Counts.{begun_with, counted_to, counted_with, counted_of, has_messages, link_set};
-ghost use Rattle.echo_toss.specs.Stores.{GoesOnOrUndoes, IsScanStop, scan_answer};
 
 use crate::grouping::{Group, group_from};
 use crate::outgoing::{Outgoing, links_of};
 use crate::packing::goes_to;
 use crate::sets::address_set;
-use crate::step_error::ScanStepError;
 use base_store::{Store, StoreError};
 use echo_addr::Address;
 use echo_links::LinkFile;
-use model_steps::{Stamp, is_stamp, message_size};
+use model_steps::{Stamp, message_size};
 use std::alloc::{AllocError, Global};
 use std::marker::Model;
 
@@ -60,7 +56,12 @@ impl Counting {
     pub fn first_of(&self, alloc: Global, group: &Group) -> Result<Vec<CountedPacket>, AllocError>
         ensures { IfOk result (λ all. all.items ≡ begun_with group.now.sent self.now) }
     {
-        let none = without_messages(alloc, &self.packets)?;
+        let none: Vec<CountedPacket> = self
+            .packets
+            .iter()
+            .copied()
+            .filter(|packet| packet.messages == 0)
+            .collect(alloc)?;
         let counted = count_group(alloc, &none, group.sent())?;
         with_messages(alloc, &counted)
     }
@@ -80,34 +81,6 @@ impl Counting {
     {
         with_messages(alloc, &self.packets)
     }
-}
-
-/// Counts the packets of the store's waiting messages: one for each address that gets some of them, ascending. Then
-/// no message waits. Nothing is committed. It holds a group of messages at a time.
-pub fn count_step<T: Store>(
-    alloc: Global,
-    links: &LinkFile,
-    store: &mut T,
-    stamp: Stamp,
-) -> Result<Vec<CountedPacket>, ScanStepError>
-    requires { (T.state store.old).is_ready }
-    ensures packets { Honestly (T.state store.new).disk ((base : Base) → (T.state store.old).keeps base
-        → IfOk result (λ all. all.items ≡ map counted_of (scanned links.now base.messages base.cursor stamp))) }
-    ensures moved { Honestly (T.state store.new).disk ((base : Base) → (T.state store.old).keeps base → OnOk result ((T.state store.new).keeps (all_scanned base))) }
-    ensures stamp { MatchResult result (λ _. is_stamp stamp ≡ true) (IsScanStop stamp (T.state store.old) (T.state store.new)) }
-    ensures ends { GoesOnOrUndoes (T.state store.old) (T.state store.new) result }
-    ensures quiet { ChangesNothing (T.state store.old).disk (T.state store.new).disk }
-    ensures commits { CommitsNothing (T.state store.old) (T.state store.new) }
-    ensures many { IsErrOf (scan_answer result) StoreError.TooMany → IsFullWhenRead T.state (T.state store.old) }
-    ensures cause { HasStoreCause (T.state store.old) (T.state store.new) (T.failures store.old) (T.failures store.new) (scan_answer result) }
-{
-    if !is_stamp(stamp) {
-        return Err(ScanStepError::BadStamp);
-    }
-    let from = store.cursor();
-    let packets = counted_from(alloc, links, store, from)?;
-    store.move_to_end()?;
-    Ok(packets)
 }
 
 /// Counts the packets of the messages from this number on: one for each address that gets some of them, ascending.
@@ -201,28 +174,22 @@ fn count_copies(packet: CountedPacket, sent: &[Outgoing]) -> Result<CountedPacke
     Ok(more)
 }
 
-// The packet, with the copy of the message, if its address receives it.
+// The packet, with the copy of the message, if its address receives it. There is no memory for more than `usize::MAX`
+// bytes.
 fn count_copy(packet: CountedPacket, one: &Outgoing) -> Result<CountedPacket, AllocError>
     ensures { IfOk result (λ more. more ≡ counted_with (one.now ∷ []) packet) }
 {
     if !goes_to(one, packet.to) {
         return Ok(packet);
     }
+    let size = message_size(&one.message);
+    let messages = packet.messages.checked_add(1).ok_or(AllocError)?;
+    let bytes = packet.bytes.checked_add(size).ok_or(AllocError)?;
     Ok(CountedPacket {
         to: packet.to,
-        messages: sum(packet.messages, 1)?,
-        bytes: sum(packet.bytes, message_size(&one.message))?,
+        messages,
+        bytes,
     })
-}
-
-// The sum. There is no memory for more than `usize::MAX` bytes.
-fn sum(one: usize, other: usize) -> Result<usize, AllocError>
-    ensures { IfOk result (λ sum. sum ≡ one + other) }
-{
-    match one.checked_add(other) {
-        Some(sum) => Ok(sum),
-        None => Err(AllocError),
-    }
 }
 
 // Those that have messages.
@@ -233,19 +200,5 @@ fn with_messages(alloc: Global, packets: &[CountedPacket]) -> Result<Vec<Counted
         .iter()
         .copied()
         .filter(|packet| packet.messages > 0)
-        .collect(alloc)
-}
-
-// Those that have none.
-fn without_messages(
-    alloc: Global,
-    packets: &[CountedPacket],
-) -> Result<Vec<CountedPacket>, AllocError>
-    ensures { IfOk result (λ all. all.items ≡ filter (λ packet. not (has_messages packet)) packets.now) }
-{
-    packets
-        .iter()
-        .copied()
-        .filter(|packet| packet.messages == 0)
         .collect(alloc)
 }

@@ -34,7 +34,7 @@ mod tosser;
 mod tossing;
 
 pub use base_file::BaseFault;
-pub use counting::{CountedPacket, Counting, count_step, counted_from};
+pub use counting::{CountedPacket, Counting, counted_from};
 pub use echo_filed::Filed;
 pub use echo_links::{LinkFault, LinkFile};
 pub use fault::{TossCause, TossFault};
@@ -44,7 +44,7 @@ pub use model_steps::{Draft, Outcome, Packet, PostFault, ScanFault, Stamp};
 pub use packets::{check_destination, toss_packet_in};
 pub use packing::header_to;
 pub use posting::post_step;
-pub use resending::{Resend, resend_in};
+pub use resending::{Resend, push_resent, resend_in};
 pub use scanning::scan_step;
 pub use step_error::{PostStepError, ScanStepError, StoppedToss, TossStepError};
 pub use tally::Tally;

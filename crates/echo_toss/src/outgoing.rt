@@ -129,20 +129,10 @@ fn push_prepared(
     ensures { OnOk result (all.new.items ≡ all.old.items ++ sent_of links.now (message.now ∷ [])) }
 {
     let receivers = targets(alloc, links, message)?;
-    if has_some(receivers.as_slice()) {
+    if !receivers.is_empty() {
         all.push(prepared_for(alloc, links, message, receivers)?)?;
     }
     Ok(())
-}
-
-// Whether there is one.
-fn has_some(targets: &[Address]) -> bool
-    ensures { result ≡ has_some targets.now }
-{
-    match targets {
-        [] => false,
-        _ => true,
-    }
 }
 
 /// The links of the area; without such an area there are none.

@@ -124,8 +124,8 @@ fn push_at<T: Store>(
     }
 }
 
-// Adds the copy of the message, if it is sent again.
-fn push_resent(
+/// Adds the copy of the message, if it is sent again. Whether it was scanned is not judged.
+pub fn push_resent(
     alloc: Global,
     links: &LinkFile,
     asked: Resend<'_>,

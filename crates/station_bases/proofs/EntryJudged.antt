@@ -14,6 +14,7 @@ use Rattle.base_file.specs.BaseFile.{AreSound, BaseOf, Begins, LoadOf, Loaded, h
 use Rattle.base_file.specs.Pieces.{BeginsWith, IsJudged}
 use Rattle.base_file.specs.declared.piece.Next.TheVariants as next
 use Rattle.base_file.specs.declared.base.loading.Head.{Head}
+use Rattle.base_file.proofs.LoneMessages.{stands_alone}
 use Rattle.base_file.proofs.Loaded.{all_filed, loaded_is_base}
 use Rattle.base_file.proofs.Loading.{base_is, say_more, whole_loads}
 use Rattle.base_file.proofs.Pieces.{head_begins, next_begins}
@@ -30,38 +31,9 @@ use Rattle.station_bases.specs.declared.entry_opening.Piece.{Piece}
 use Rattle.station_bases.specs.declared.entries.Entries.{Entries}
 use Rattle.station_bases.proofs.EntryMore.{keep_more, head_long as head_size}
 
-true_of_not : (b : Bool) → not b ≡ false → b ≡ true
-true_of_not true h = refl
-true_of_not false h = absurd (true≢false h)
-
--- the form that a message has alone
-form_alone : (s : Stored) (cursor place : ℕ) (tagged : Bool) → has_tag Second s.kind ≡ tagged → has_wrong_form Second cursor place s ≡ false → has_wrong_form Second (if tagged then 1 else 0) 0 s ≡ false
-form_alone s cursor place true is right =
-    let m = message_in Second s in
-    let short : is_short Second cursor place m ≡ true =
-    true_of_not (is_short Second cursor place m) (sym (cond-true (has_tag Second s.kind) (not (is_short Second cursor place m)) (is_short Second cursor place m) is) ∙ right) in
-    let scanned : is_short Second 1 0 m ≡ true = (and_parts (nat_lt place cursor) (is_short Second 1 0 m) short).1 in
-    cond-true (has_tag Second s.kind) (not (is_short Second 1 0 m)) (is_short Second 1 0 m) is ∙ ap not scanned
-form_alone s cursor place false is right =
-    cond-false (has_tag Second s.kind) (not (is_short Second 0 0 (message_in Second s))) (is_short Second 0 0 (message_in Second s)) is
-
-one_alone : (s : Stored) (cursor : ℕ) (earlier : List Filed) → is_damaged Second cursor earlier s ≡ false → MayStandAlone s
-unfolding is_damaged
-one_alone s cursor earlier h =
-    let p1 = or_parts (is_other_kind Second s.kind) _ h in
-    let p2 = or_parts (has_wrong_sender s) _ p1.1 in
-    let p3 = or_parts (has_wrong_string s) _ p2.1 in
-    let p4 = or_parts (has_wrong_last Second s) _ p3.1 in
-    let p5 = or_parts (has_wrong_form Second cursor (length earlier) s) _ p4.1 in
-    or_from (is_other_kind Second s.kind) _ p1.0
-    (or_from (has_wrong_sender s) _ p2.0
-    (or_from (has_wrong_string s) _ p3.0
-    (or_from (has_wrong_last Second s) _ p4.0
-    (or_from (has_wrong_form Second (cursor_alone s) 0 s) _ (form_alone s cursor (length earlier) (has_tag Second s.kind) refl p5.0) refl))))
-
 all_alone : (cursor : ℕ) (earlier : List Filed) (all : List Stored) → AreSound Second cursor earlier all → AllByRecursion MayStandAlone all
 all_alone cursor earlier [] sound = tt
-all_alone cursor earlier (s ∷ later) sound = (one_alone s cursor earlier sound.0, all_alone cursor (earlier ++ message_in Second s ∷ []) later sound.1)
+all_alone cursor earlier (s ∷ later) sound = (stands_alone s cursor earlier sound.0, all_alone cursor (earlier ++ message_in Second s ∷ []) later sound.1)
 
 head_front : (cursor number : ℕ) (rest : List ℕ) → take 8 (head_bytes Second cursor number ++ rest) ≡ magic Second
 unfolding head_bytes

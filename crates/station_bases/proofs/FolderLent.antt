@@ -2,6 +2,7 @@
 use Rattle.std.proofs.Common.{◌≡◌, ◌≢◌, ◌↔◌, ◌≤◌, ◌++◌, inl, inr, ℕ, Bool, true, false, All, IsTrue, List, Option, length, sym, take, drop, ◌∙◌, ap, refl, subst}
 use Rattle.std.proofs.lemmas.List.{drop_at}
 use Rattle.std.specs.Prelude.{IsSome}
+use Rattle.echo_filed.specs.Filed.{Filed}
 use Rattle.base_file.specs.Base.{Base}
 use Rattle.disk_io.specs.Disk.{DiskState, Files, IsIn, bytes_in}
 use Rattle.disk_io.specs.Runs.{OneStepOn}
@@ -105,9 +106,9 @@ module _ (path : List ℕ) (d e : DiskState) (run : ChangesOnly (Outside path) d
         keys_behind = was.keys_behind;
       }
 
-module _ (keyed : ℕ → ℕ → List ℕ → ℕ) (f : Folder) (alone : Option Base) (d e : DiskState) where
+module _ (keyed : ℕ → ℕ → List ℕ → ℕ) (f : Folder) (message : Option Filed) (d e : DiskState) where
   -- an open folder is open still, holds what it held, and has committed what it had
-  as_before : ChangesOnly (Outside (path_of f)) d e → IsUsable d f → HoldsAsBefore (state_of d keyed f alone) (state_of e keyed f alone)
+  as_before : ChangesOnly (Outside (path_of f)) d e → IsUsable d f → HoldsAsBefore (state_of d keyed f message) (state_of e keyed f message)
   as_before run usable =
       let held : held_by e f ≡ held_by d f = ap (λ (b : BaseBytes). and_waiting b f.waiting) (base_same (path_of f) d e run f.told) in
       record {
@@ -125,7 +126,7 @@ module _ (keyed : ℕ → ℕ → List ℕ → ℕ) (f : Folder) (alone : Option
         committed = λ base is. subst (λ (b : BaseBytes). HoldsBase keyed b base) (sym (base_same (path_of f) d e run f.end.told)) is;
       }
 
-  pub given_back : IsGivenBack (state_of d keyed f alone) d e (state_of e keyed f alone)
+  pub given_back : IsGivenBack (state_of d keyed f message) d e (state_of e keyed f message)
   given_back = record {
     settled = λ base before after same stands. record { bytes = stands.bytes; stands = stands_same (path_of f) stands.bytes before after same stands.stands; holds = stands.holds };
     same = record { stands = λ base c. (λ is. is, λ is. is); own = λ m. (λ is. is, λ is. is); undoes = (λ is. is, λ is. is) };

@@ -1,9 +1,12 @@
 -- What loading answers of the bytes of a base.
-use Rattle.std.proofs.Common.{◌≡◌, ℕ, [], ap, Result, Ok, Err}
+use Rattle.std.proofs.Common.{◌≡◌, ◌≢◌, ◌<◌, ◌≤◌, ◌-◌, ◌^◌, ℕ, [], ap, refl, Result, Ok, Err, arith, ⊎_elim}
+use Rattle.disk_io.specs.Device.{Failed}
 use Rattle.base_file.specs.Base.{Base}
 use Rattle.base_file.specs.BaseFile.{Loaded}
-use Rattle.base_file.specs.Loading.{AnswersLoad}
+use Rattle.base_file.specs.Loading.{AnswersLoad, CountsLoad}
 use Rattle.base_file.specs.declared.fault.BaseFault.{BaseFault}
+use Rattle.base_file.specs.declared.fault.BaseFault.TheVariants as fault
+use Rattle.base_file.proofs.OneBase.{ok_no_err}
 
 abbrev base_in : Result Loaded BaseFault → Base
 base_in (Ok loaded) = record { messages = loaded.0; cursor = loaded.1 }
@@ -11,3 +14,16 @@ base_in (Err why) = record { messages = []; cursor = 0 }
 
 pub is_loaded : (base found : Base) (count : ℕ) → AnswersLoad (Ok found) (Ok (base.messages, base.cursor, count)) → base ≡ found
 is_loaded base found count answers = ap (λ r. base_in r) answers.1
+
+never_failed : Failed 0 0 → ⊥
+never_failed failed = ⊎_elim (λ (more : 0 < 0). omega (arith, more)) (λ (at : (2 ^ 64 - 1 ≤ 0) × (0 ≡ 0)). omega (arith, at.0)) failed
+
+-- a base is refused only where memory is
+pub refused_not : (x : Loaded) (f : BaseFault) → AnswersLoad (Err f) (Ok x) → CountsLoad {A = Base} (Err f) 0 0 → f ≢ fault.Memory → ⊥
+refused_not x fault.NotBase answers counts other = ok_no_err x fault.NotBase answers
+refused_not x (fault.Truncated n) answers counts other = ok_no_err x (fault.Truncated n) answers
+refused_not x (fault.Damaged n) answers counts other = ok_no_err x (fault.Damaged n) answers
+refused_not x fault.Read answers counts other = never_failed counts
+refused_not x (fault.Write n) answers counts other = ok_no_err x (fault.Write n) answers
+refused_not x fault.Memory answers counts other = other refl
+refused_not x fault.TooMany answers counts other = ok_no_err x fault.TooMany answers

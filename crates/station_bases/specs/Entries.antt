@@ -79,4 +79,4 @@ pub record SameButAdded (old new : Entries) : Type 0 where
   pub digest : new.digest ≡ old.digest
   pub cursor : new.cursor ≡ old.cursor
   pub end : new.end ≡ old.end
-  pub alone : new.alone ≡ old.alone
+  pub message : new.message ≡ old.message

@@ -8,7 +8,6 @@ use Rattle.disk_atomic.specs.Changes.{DifferAt}
 use Rattle.cmd_status.specs.Inputs.{IsBaseGiven}
 use Rattle.disk_atomic.specs.StagingPaths.{staging_path}
 use Rattle.base_store.specs.Store.{StoreState}
-use Rattle.base_folder_store.specs.State.{only_message}
 use Rattle.station_bases.specs.Entries.{CanLookUp, HasRoomFor, HoldEntries}
 use Rattle.station_bases.specs.declared.file_rest.FileRest.{FileRest}
 use Rattle.station_bases.specs.declared.held.Held.{Held}
@@ -48,7 +47,7 @@ IsWithinReach disk path (Whole base) = Unit {0}
 
 -- The message that was fetched last, by its number where all are in memory.
 abbrev pub fetched_last : {S T : Type 0} → Held S T → ℕ → Option Filed
-fetched_last (Apart e) place = only_message e.alone
+fetched_last (Apart e) place = e.message
 fetched_last (Whole base) place = slice_get base.messages place
 
 -- Numbers in a base file do not count what is held.

@@ -1,15 +1,16 @@
 //! A base file whose messages stay in it: in memory are the place and the digest of each.
-ghost use Rattle.std.specs.Prelude.{◌≡◌, ◌≤◌, ◌<◌, ◌+◌, ◌-◌, ◌/◌, ◌++◌, List, length, IfOk, IsErrOf, IsSome, drop, take};
+ghost use Rattle.std.specs.Prelude.{◌≡◌, ◌≤◌, ◌<◌, ◌+◌, ◌-◌, ◌/◌, ◌++◌, List, length, IfOk, IsErrOf, IsSome, Some, drop, slice_get, take};
 ghost use Rattle.disk_io.specs.Disk.{Honestly, bytes_in};
 ghost use Rattle.disk_io.specs.Runs.{ChangesNothing, HasCause};
 ghost use Rattle.echo_filed.specs.Filed.{Filed};
 ghost use Rattle.base_store.specs.Keys.{StandWhereTold};
-ghost use Rattle.base_folder_store.specs.Answers.{Answers, HasReadCause, IsAloneOf, IsStoredOf};
+ghost use Rattle.base_folder_store.specs.Answers.{Answers, HasReadCause, IsStoredOf};
 ghost use Rattle.station_bases.specs.Entries.{IsWithinFile, message_bytes};
 
-use base_folder_store::{Alone, read_alone};
+use base_folder_store::read_alone;
 use base_store::{Index, SipDigest, StoreError, end_of, place_of};
 use disk_io::{Disk, DiskError, read_part};
+use echo_filed::Filed;
 use std::alloc::Global;
 
 /// How many bytes of a base file come before its messages.
@@ -31,7 +32,7 @@ pub struct Entries {
     pub(crate) keys: Vec<u8>,
     pub(crate) index: Index,
     // The current message.
-    pub(crate) alone: Option<Alone>,
+    pub(crate) message: Option<Filed>,
 }
 
 // The bytes between two places behind the head of a file. The last ones wait to be written.
@@ -122,12 +123,12 @@ impl Entries {
         disk: &mut D,
         path: &[u8],
         place: usize,
-    ) -> Result<Alone, StoreError>
+    ) -> Result<Filed, StoreError>
         requires legible { Honestly (D.state disk.old) (IsWithinFile (D.state disk.old) path.now self.now) }
         requires head { 16 ≤ self.now.end }
         requires within { place < length self.now.keys.items / 16 }
         ensures read { Honestly (D.state disk.new) ((base : List Filed) → StandWhereTold base (message_bytes (bytes_in ((D.state disk.old).seen path.now)) self.now) self.now.keys.items
-            → place < length base → Answers (IsAloneOf base place) result) }
+            → place < length base → Answers (λ message. slice_get base place ≡ Some message) result) }
         ensures quiet { ChangesNothing (D.state disk.old) (D.state disk.new) }
         ensures cause { HasReadCause (D.failures disk.old) (D.failures disk.new) result }
         ensures few { IsErrOf result StoreError.TooMany → ⊥ }

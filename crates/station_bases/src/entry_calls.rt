@@ -7,7 +7,6 @@ ghost use Rattle.echo_filed.specs.Filed.{has_id, key_of};
 ghost use Rattle.base_file.specs.Base.{Base, is_known};
 ghost use Rattle.base_store.specs.Store.{all_scanned, with_message};
 ghost use Rattle.base_folder_store.specs.Answers.{Answers, HasReadCause};
-ghost use Rattle.base_folder_store.specs.State.{only_message};
 ghost use Rattle.station_bases.specs.Entries.{AreIndexed, CanLookUp, HasRoomFor, HoldEntries, SameButAdded};
 
 use crate::entries::Entries;
@@ -71,8 +70,8 @@ impl Entries {
     ) -> Result<(), StoreError>
         requires can { CanLookUp (D.state disk.old) path.now self.old }
         ensures fetched { Honestly (D.state disk.new) ((base : Base) → HoldEntries (bytes_in ((D.state disk.old).seen path.now)) self.old base
-            → place < length base.messages → Answers (λ done. only_message self.new.alone ≡ slice_get base.messages place) result) }
-        ensures same { self.new ≡ record self.old { alone = self.new.alone } }
+            → place < length base.messages → Answers (λ done. self.new.message ≡ slice_get base.messages place) result) }
+        ensures same { self.new ≡ record self.old { message = self.new.message } }
         ensures quiet { ChangesNothing (D.state disk.old) (D.state disk.new) }
         ensures cause { HasReadCause (D.failures disk.old) (D.failures disk.new) result }
         ensures few { IsErrOf result StoreError.TooMany → ⊥ }
@@ -80,17 +79,16 @@ impl Entries {
         if place >= self.count() {
             return Err(StoreError::Damaged);
         }
-        let alone = self.read(alloc, disk, path, place)?;
-        self.alone = Some(alone);
+        let message = self.read(alloc, disk, path, place)?;
+        self.message = Some(message);
         Ok(())
     }
 
     /// The current message.
     pub(crate) fn at_hand(&self) -> Option<&Filed>
-        ensures { option_copied result ≡ only_message self.now.alone }
+        ensures { option_copied result ≡ self.now.message }
     {
-        let alone = self.alone.as_ref()?;
-        alone.message(0)
+        self.message.as_ref()
     }
 
     /// Adds a message with its key.

@@ -159,7 +159,7 @@ impl Entries {
             waiting: Vec::new(alloc),
             keys: Vec::new(alloc),
             index: Index::new(alloc),
-            alone: None,
+            message: None,
         }
     }
 

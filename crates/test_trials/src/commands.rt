@@ -3,7 +3,7 @@ use crate::packets::{next, packet};
 use base_store::PurgedStore;
 use cmd_report::NewMessage;
 use cmd_status::Fault;
-use cmd_store::{CommandError, Post, Purge, StoreCommand, Toss, commit_on, scan_on};
+use cmd_store::{CommandError, Post, Purge, StoreCommand, Toss, commit_on};
 use disk_io::Watched;
 use echo_links::LinkFile;
 use echo_packet::Limits;
@@ -62,7 +62,7 @@ pub(crate) fn run<T: PurgedStore>(
         Command::Post => post(alloc, links, store, job.seed),
         Command::Toss => toss(alloc, links, store, job.seed),
         Command::Scan => {
-            scan_on(alloc, STAMP, links, store, &mut out)?;
+            store.move_to_end()?;
             commit_on(store)
         }
         Command::Purge => Purge.run(alloc, links, store, &mut out),

@@ -1,4 +1,4 @@
-use Rattle.std.proofs.Common.{◌≡◌, ◌∙◌, ◌≤◌, ◌<◌, ◌+◌, Global, List, Vec, arith, length, option_copied, subst, sym, take, take_all, ℕ}
+use Rattle.std.proofs.Common.{◌∙◌, ◌≤◌, ◌<◌, ◌+◌, Global, List, Vec, arith, length, subst, sym, take, take_all, ℕ}
 use Rattle.echo_filed.specs.Filed.{Filed}
 use Rattle.base_folder.proofs.Lookings.{err_is}
 use Rattle.cmd_show.specs.AreasListed.{HaveCounts}

@@ -1,4 +1,4 @@
-use Rattle.std.proofs.Common.{◌∙◌, ◌-◌, Global, List, Vec, ap, length, inl, inr, refl, ℕ}
+use Rattle.std.proofs.Common.{◌∙◌, ◌-◌, Global, List, Vec, ap, length, inr, refl, ℕ}
 use Rattle.std.proofs.lemmas.Result.{err_from_is_err_and}
 use Rattle.cmd_status.specs.Devices.{output_of}
 use Rattle.base_folder.specs.Fetching.{CannotRead}

@@ -1,7 +1,6 @@
 use Rattle.std.proofs.Common.{Ok}
-use Rattle.station_bases.proofs.Loaded.{is_loaded}
+use Rattle.station_bases.proofs.Loaded.{is_loaded, refused_not}
 use Rattle.station_bases.proofs.entry_saving.loaded.Goals as goal
-use Rattle.base_folder_store.proofs.Whole.{refused_not}
 
 pub returns-in-Ok-clause-loaded : goal.returns-in-Ok-clause-loaded
 returns-in-Ok-clause-loaded g c = λ base count is. is_loaded base c.in-Ok.base count (c.in-Ok.ensures.only (Ok (base.messages, base.cursor, count)) c.are_bytes.ensures is)

@@ -1,9 +1,8 @@
-use Rattle.std.proofs.Common.{arith}
+use Rattle.std.proofs.Common.{◌≡◌, Some, arith, sym}
+use Rattle.std.specs.Prelude.{slice_get}
 use Rattle.disk_io.specs.Disk.{bytes_in}
-use Rattle.base_file.specs.Base.{Base}
-use Rattle.base_folder_store.specs.Answers.{IsAloneOf}
+use Rattle.echo_filed.specs.Filed.{Filed}
 use Rattle.base_folder_store.proofs.Causes.{answers_error}
-use Rattle.base_folder_store.proofs.Seen.{fetched}
 use Rattle.station_bases.proofs.EntryKeys.{where_told}
 use Rattle.station_bases.proofs.EntryMore.{many_held}
 use Rattle.station_bases.proofs.entries.Entries.fetch.Goals as goal
@@ -14,13 +13,13 @@ returns-then-place-count-clause-fetched g c honest = λ base held less.
     let past = c.if-place-count.true in
     omega (arith, many, less, past, c.count.ensures)
 
-pub returns-in_err-alone-clause-fetched : goal.returns-in_err-alone-clause-fetched
-returns-in_err-alone-clause-fetched g c honest = λ base held less.
+pub returns-in_err-message-clause-fetched : goal.returns-in_err-message-clause-fetched
+returns-in_err-message-clause-fetched g c honest = λ base held less.
     let file = bytes_in ((g.D.Disk.state c.args.disk.now).seen c.args.path.now) in
-    answers_error {T = Base} (λ (alone : Base). IsAloneOf base.messages c.args.place alone) _ _ c.from_residual.result c.from_residual.ensures.1
-    (c.in_err-alone.ensures.read honest base.messages (where_told file c.args.self.now base.messages base.cursor held.files) less)
+    answers_error {T = Filed} (λ (m : Filed). slice_get base.messages c.args.place ≡ Some m) _ _ c.from_residual.result c.from_residual.ensures.1
+    (c.in_err-message.ensures.read honest base.messages (where_told file c.args.self.now base.messages base.cursor held.files) less)
 
 pub returns-clause-fetched : goal.returns-clause-fetched
 returns-clause-fetched g c honest = λ base held less.
     let file = bytes_in ((g.D.Disk.state c.args.disk.now).seen c.args.path.now) in
-    fetched base.messages c.args.place c.in_ok-alone.alone less (c.in_ok-alone.ensures.read honest base.messages (where_told file c.args.self.now base.messages base.cursor held.files) less)
+    sym (c.in_ok-message.ensures.read honest base.messages (where_told file c.args.self.now base.messages base.cursor held.files) less)
