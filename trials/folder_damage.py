@@ -1,11 +1,12 @@
 """Damages base folders, and runs each command on them.
 
 1. A small folder has a purged message, a scanned one and one that waits. Each byte of each file is changed in turn,
-in
-   three ways. `list` and `convert` work or end with one fault line. They read no message under a new key, except the
-   tag
-   of a message whose own bytes were changed. A command that changes the folder works or ends with one fault line.
+   in three ways. `list` and `convert` work or end with one fault line. They read no message under a new key, except
+   the tag of a message whose own bytes were changed. A command that changes the folder works or ends with one fault
+   line.
 2. Folders with a random byte changed, bytes cut off or added, or a file removed. Each command ends in the same way.
+3. Two messages with one id, of which one moves to the area of the other. `list` prints both. `convert` ends with F3,
+   before any fault of the new base, and leaves nothing.
 
 Arguments: which bytes are changed, each (1), each second (2) and so on; how many folders are damaged at random (300).
 """
@@ -129,6 +130,28 @@ def by_chance(count, folder):
     print("%d folders spoiled by chance" % count, flush=True)
 
 
+def one_key(folder):
+    """Moves a message to the area of another one with its id."""
+    place = os.path.join(folder, "one_key")
+    for name in ("base", "new"):
+        os.makedirs(os.path.join(place, name))
+    messages = [making.stored(1, making.UPLINK, making.whole_body(making.arrived(serial, 20, tag)))
+                for serial, tag in ((1, b"TEST"), (2, b"ECHO"), (1, b"ECHO"), (3, b"TEST"))]
+    write(os.path.join(place, "file"), making.base(1, messages))
+    ended = run(place, "convert", "file", "base")
+    expect("a base with one id in two areas: %r" % (ended,), ended[0] == 0)
+    path = os.path.join(place, "base", "messages.0")
+    before, after = content_of(path).rsplit(b"AREA:ECHO", 1)
+    write(path, before + b"AREA:TEST" + after)
+    ended = run(place, "list", "base")
+    expect("both are listed: %r" % (ended,), ended[0] == 0 and len(listed_ids(ended)) == 4)
+    for to in ("made", "new", "file", "missing/made"):
+        ended = run(place, "convert", "base", to)
+        expect("to %s: %r" % (to, ended), ended == (2, b"", b"echonet: F3 Damaged record 2\n"))
+    left = sorted(os.listdir(place)) + os.listdir(os.path.join(place, "new"))
+    expect("nothing is left: %r" % (left,), left == ["base", "file", "new"])
+
+
 def main(words):
     """All of it."""
     step = int(words[0]) if words else 1
@@ -136,6 +159,7 @@ def main(words):
     with tempfile.TemporaryDirectory(prefix="echonet-trials.") as folder:
         each_byte(step, folder)
         by_chance(count, folder)
+        one_key(folder)
     return finish("folder_damage")
 
 
