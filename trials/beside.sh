@@ -87,8 +87,11 @@ if command -v strace > /dev/null; then
       /^unlink/ { printf "unlink " } /^write\(1,/ { printf "line " } /^exit_group/ { printf "end" }' calls | sed 's/flush \(flush \)*/flush /g'
   }
   run strace -o calls -s 16 "$program" scan --at $stamp 1.links 1.base out
+  # The staging file of the packet is made, the line printed, the file flushed, and a second path tried. Then the base is
+  # replaced, and the packet gets its name.
+  made="flush make flush line flush link flush unlink flush"
   expect "a scan's calls: $(order)" [ "$(order)" = \
-    "line flush make flush make owner owner mode flush rename flush link flush unlink flush end" ]
+    "$made make owner owner mode flush rename flush link flush unlink flush end" ]
   expect "only the owner may read staging files" [ "$(grep -c 'O_EXCL.*0600)' calls)" = 2 ]
 else
   echo "strace is not installed: no order of calls"
