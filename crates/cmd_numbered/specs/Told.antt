@@ -2,20 +2,14 @@
 use Rattle.std.specs.Prelude.{ℕ, ◌==◌, List, [], ◌++◌, codes, decimal, if◌then◌else◌, slice_get, Option, Some, None, unwrap_or}
 use Rattle.cmd_numbered.specs.declared.adding.JamExport.{JamExport}
 use Rattle.cmd_numbered.specs.declared.numbering.Exported.{Exported}
-use Rattle.cmd_numbered.specs.declared.numbering.MessageFile.{MessageFile}
-
--- The number of the first message without a file, or the end.
-abbrev pub next_at : Option MessageFile → ℕ → ℕ
-next_at None end = end
-next_at (Some file) end = file.message
 
 -- The line that reports how many messages were exported, and which is the next.
 abbrev pub told_line : ℕ → ℕ → List ℕ
 told_line made next = codes "exported " ++ (decimal made ++ (codes " messages, next " ++ (decimal next ++ codes "\n")))
 
--- That line, where so many of the files were made.
-abbrev pub exported_line : Exported → ℕ → List ℕ
-exported_line exported made = told_line made (next_at (slice_get exported.files made) exported.end)
+-- That line, for files of a folder.
+abbrev pub exported_line : Exported → List ℕ
+exported_line exported = told_line exported.made exported.next
 
 -- That line, where so many of the messages were added to a JAM base: the next is the first that was not, or the one behind all.
 abbrev pub added_line : JamExport → ℕ → List ℕ
