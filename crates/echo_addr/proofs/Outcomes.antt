@@ -1,4 +1,4 @@
--- What bytes write as an address, and which refusal applies where they write none.
+-- The address that bytes spell, or the refusal that applies.
 use Rattle.std.proofs.Common.{◌≡◌, ◌≢◌, ℕ, ◌==◌, ◌&&◌, not, nat_le, min, cond, Bool, true, false, List, ◌∷◌, ◌++◌, length, refl, sym, ap, ◌∙◌, arith, Option, Some, None, Ok, Err, inl, inr, subst}
 use Rattle.std.specs.Fmt.{decimal}
 use Rattle.std.specs.Int.{IsInRange, is_in_range}
@@ -138,7 +138,7 @@ outcome_ok b a e = by_refusal b a (refusal b) refl e
 pub outcome-written : (b : List ℕ) (a : Address) → AddressOf b a → outcome b ≡ Ok a
 outcome-written b a w = ap (λ o. answer_of o (address_in b)) (refusal-written b a w) ∙ ap Ok (address_in-written b a w)
 
--- an address in range is read from what is written of it
+-- a written address in range reads back as itself
 pub AddressOf-address_text : (a : Address) → IsAddress a → AddressOf (address_text a) a
 AddressOf-address_text a h = record {
   zone_digits = decimal a.zone;

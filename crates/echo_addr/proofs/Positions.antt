@@ -1,4 +1,4 @@
--- Where a byte stands first.
+-- The first offset of a byte.
 use Rattle.std.proofs.Common.{◌≡◌, ℕ, ◌+◌, ◌<◌, ◌≤◌, not, nat_lt, cond, Bool, List, [], ◌∷◌, length, refl, ap, ◌∙◌, arith, Some, None, inl, inr}
 use Rattle.std.specs.Option.{unwrap_or}
 use Rattle.std.specs.List.{position, position_or_len, count_by}

@@ -1,4 +1,4 @@
--- What is written of a list, read again, is the list.
+-- A written list reads back as itself.
 use Rattle.std.proofs.Common.{◌≡◌, ℕ, ◌^◌, ◌<◌, ◌≤◌, cond, true, false, List, [], ◌∷◌, ◌++◌, length, map, refl, sym, ap, zero-add, ◌∙◌, arith, Some, None, Option, inl, inr, subst}
 use Rattle.std.specs.Fmt.{decimal}
 use Rattle.std.specs.Option.{option_or, option_map, is_none}
@@ -170,7 +170,7 @@ entry_bytes before (e ∷ es) h = (
       (entry_bytes (Some e.net) es h.1),
 )
 
--- what the rests of the lines of the runs are
+-- the bytes of each line after its prefix
 rests_of : List (List NetNode) → List (List ℕ)
 rests_of runs = map (λ run. entries_text None run) runs
 
