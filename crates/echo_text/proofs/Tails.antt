@@ -76,7 +76,7 @@ body_not_tail (line ∷ more) not_all =
       | inr later ↦ and_right (is_tail_line line) (all_tail (body more)) (body_not_tail more later)
     ])
 
--- the body has no tail of its own
+-- the body contains no tail
 pub tail_of_body : (lines : List (List ℕ)) → tail (body lines) ≡ []
 tail_of_body [] = refl
 tail_of_body (line ∷ more) = elim (cases_Bool (all_tail (line ∷ more))) [
