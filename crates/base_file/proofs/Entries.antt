@@ -1,4 +1,4 @@
--- What a base that looks up keys keeps, and what its look-ups say of the messages.
+-- The invariant of a base with look-ups by key, and the answers of its look-ups.
 use Rattle.std.proofs.Common.{◌≡◌, ℕ, zero, suc, ◌≤◌, length, take, ◌||◌, Bool, true, false, cond, List, [], ◌∷◌, ◌++◌, map, refl, sym, ap, subst, ◌∙◌, Option, Some, None, is_some, Result, Ok, Err, not, if◌then◌else◌, arith, inl, inr}
 use Rattle.std.specs.Prelude.{IfOk, OnErr, bytes_eq, option_map, slice_get, unwrap_or}
 use Rattle.std.specs.Cmp.Lexicographic.{bytes_decides}
@@ -71,7 +71,7 @@ any_weaker p q weaker (x ∷ xs) h =
     let parts = or_parts (p x) (list_any p xs) h in
     or_from (q x) (list_any q xs) (weaker x parts.0) (any_weaker p q weaker xs parts.1)
 
--- the tag is one of those that pass none of
+-- if no tag passes, a tag that passes is not among them
 not_among : (p : List ℕ → Bool) (tag : List ℕ) (tags : List (List ℕ)) → p tag ≡ true → list_any p tags ≡ false → list_any (bytes_eq tag) tags ≡ false
 not_among p tag tags passes =
     any_weaker p (bytes_eq tag)
@@ -123,7 +123,7 @@ pub more_tags : (tags tags' : List (List ℕ)) → ((t : List ℕ) → list_any 
 more_tags tags tags' more [] h = tt
 more_tags tags tags' more (m ∷ base) h = (more m.echo.tag h.0, more_tags tags tags' more base h.1)
 
--- entries whose tags became more
+-- entries after the list of tags grew
 pub still_entries : (entries : List (Key × Filed)) (tags tags' : List (List ℕ)) (cursor purged : ℕ)
     → ((t : List ℕ) → list_any (bytes_eq t) tags ≡ true → list_any (bytes_eq t) tags' ≡ true) → AreEntries entries tags cursor purged → AreEntries entries tags' cursor purged
 still_entries entries tags tags' cursor purged more h = record {
@@ -189,7 +189,7 @@ messages_after entries entries' key m (Ok true) is = ap values_of is ∙ values_
 messages_after entries entries' key m (Ok false) is = ap values_of is
 messages_after entries entries' key m (Err e) is = tt
 
--- the tag of a message whose tag is among the tags is among them
+-- if the tags include those of all messages, they include the tag of each one
 pub tag_of_one : (tags : List (List ℕ)) (tag : List ℕ) (base : List Filed) → AllByRecursion (HasTagIn tags) base
     → list_any (λ m. bytes_eq tag m.echo.tag) base ≡ true → list_any (bytes_eq tag) tags ≡ true
 tag_of_one tags tag [] h some = absurd (true≢false (sym some))

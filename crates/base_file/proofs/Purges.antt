@@ -151,7 +151,7 @@ last_same {X} (a ∷ xs) (b ∷ ys) x y h =
     let more = last_same xs ys x y rest in
     (λ i. front i ∷ more.0 i, more.1)
 
--- what is known of the message before the place that is reached
+-- the message before the current place
 module _ (all now : List Filed) (k cursor : ℕ) (m : Filed) (some : 0 < k) (before : k ≤ cursor) (within : cursor ≤ length all)
     (is : now ≡ from_place all k cursor) (at : slice_get now (k - 1) ≡ Some m) where
   here : k ≡ (k - 1) + 1

@@ -13,7 +13,7 @@ use Rattle.echo_text.specs.Echo.{IsLine}
 use Rattle.echo_text.specs.Ids.{is_line_byte, is_zero}
 use Rattle.echo_filed.proofs.Choices.{all_weaker}
 
--- a byte that is neither 00 nor 0D
+-- a byte other than 00 and 0D
 abbrev pub IsLineByte : ℕ → Type 0
 IsLineByte b = (b ≢ 0) × (b ≢ 13)
 
