@@ -1,4 +1,4 @@
--- Why calls of a store failed, one after another.
+-- Why a sequence of calls of a store failed.
 use Rattle.std.proofs.Common.{◌≡◌, ◌≤◌, ℕ, inl, inr, Result, Ok, Err, refl, ◌∙◌, ap, arith}
 use Rattle.std.proofs.Math.Nat.{eq-or-lt_of_le}
 use Rattle.disk_io.specs.Device.{Failed}
@@ -8,7 +8,7 @@ use Rattle.base_store.specs.Store.{StoreState, HasStoreCause}
 use Rattle.base_store.specs.declared.store_error.StoreError.{StoreError}
 use Rattle.base_store.specs.declared.store_error.StoreError.TheVariants as error
 
--- nothing failed
+-- a call without a failure
 pub no_cause : {T : Type 0} (old new : StoreState) (before now : ℕ) (value : T) → before ≤ now → HasStoreCause old new before now (Ok value)
 no_cause old new before now value later = record { later = later; failed = λ e. absurd (cc); damaged = λ honest e base h. cc }
 

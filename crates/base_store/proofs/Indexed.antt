@@ -40,7 +40,7 @@ pub record IsReached (keys heads before : List ℕ) (digest below next : ℕ) : 
   pub has : (i : ℕ) → next ≡ i + 1 → head_of (length heads) (digest_at keys i) ≡ head_of (length heads) digest
   pub passed : (j : ℕ) → next ≤ j → j < length before → j < below → digest_at keys j ≢ digest
 
--- it goes on to the last one before a message that is not the one
+-- if this message has another digest, the search goes to the one before it in the chain
 reached_before : (keys heads before : List ℕ) (digest below next place : ℕ) → next ≡ place + 1 → ((place < below) × (digest_at keys place ≡ digest) → ⊥) → AreChains keys heads before
     → IsReached keys heads before digest below next → IsReached keys heads before digest below (get_or before place 0)
 reached_before keys heads before digest below next place at other are was =
