@@ -30,11 +30,11 @@ map_in f x (y ∷ xs) h = ⊎_elim (λ here. inl (ap f here)) (λ later. inr (ma
 abbrev has_none : CountedPacket → Bool
 has_none p = not (has_messages p)
 
--- a packet that had messages before
+-- a packet that already had messages
 abbrev pub HadSome : List Outgoing → List CountedPacket → CountedPacket → Type 0
 HadSome more counts p = (q : CountedPacket) × IsIn q (filter has_messages counts) × (p ≡ counted_with more q)
 
--- a packet that has messages had some before, or has its first ones now
+-- a packet with messages had some before, or has its first ones now
 pub had_or_begun : (more : List Outgoing) (counts : List CountedPacket) (p : CountedPacket) → IsIn p (filter has_messages (map (counted_with more) counts))
     → HadSome more counts p ⊎ IsIn p (begun_with more counts)
 had_or_begun more counts p h =
@@ -47,14 +47,14 @@ had_or_begun more counts p h =
           inr (filter_in has_messages p (map (counted_with more) (filter has_none counts)) (subst (λ (x : CountedPacket). IsIn x (map (counted_with more) (filter has_none counts))) (sym found.2) there) has.1)
     ]
 
--- those that had messages have some
+-- packets that had messages still have some
 pub had_has : (more : List Outgoing) (counts : List CountedPacket) (q : CountedPacket) → IsIn q (filter has_messages counts)
     → IsIn (counted_with more q) (filter has_messages (map (counted_with more) counts))
 had_has more counts q h =
     let had = in_filter has_messages q counts h in
     filter_in has_messages (counted_with more q) (map (counted_with more) counts) (map_in (counted_with more) q counts had.0) (has_with more q had.1)
 
--- a packet that has its first messages had none
+-- a packet with its first messages had no messages before
 pub begun_had : (more : List Outgoing) (counts : List CountedPacket) (p : CountedPacket) → IsIn p (begun_with more counts)
     → (q : CountedPacket) × IsIn q counts × (has_messages q ≡ false) × (p ≡ counted_with more q)
 begun_had more counts p h =

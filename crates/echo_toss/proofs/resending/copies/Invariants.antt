@@ -1,4 +1,4 @@
--- What is sent again of the messages so far was gathered, and the store was only looked at.
+-- The list has the copies of the earlier messages, and the calls only looked at the store.
 use Rattle.std.proofs.Common.{◌≡◌, ◌≤◌, ◌-◌, ◌++◌, length, take, drop}
 use Rattle.std.specs.Prelude.{min}
 use Rattle.disk_io.specs.Disk.{Honestly}
