@@ -1,4 +1,4 @@
--- Files that stand for a base, before and after a change that leaves it.
+-- Files that represent a base, before and after a change that keeps it.
 use Rattle.std.proofs.Common.{◌≡◌, ◌≢◌, ◌≤◌, ◌<◌, inl, ℕ, List, [], ◌∷◌, length, take, sym, ap, subst, arith, length-take, refl}
 use Rattle.std.specs.Prelude.{IsSome}
 use Rattle.disk_io.specs.Disk.{DiskState, Files, bytes_in}
@@ -52,7 +52,7 @@ TellsBase-seen told path d c digit m_long k_long m k = record {
   keys = subst (λ f. IsFrontOf (base_at d path told).keys (bytes_in f)) (sym k) (front_taken told.keys (bytes_in (d.seen (keys_of path told.number))) k_long);
 }
 
--- what a base's files tell by these records, which are those of their log
+-- the facts about a base by these records, which are those of its log
 pub tells_by : (path : List ℕ) (base : BaseBytes) (c : Files) (bodies : List (List ℕ)) → StandsFor path base c → IsLog bodies (bytes_in (c (log_of path))) → AreThere path bodies c × TellsBase (last_told bodies) path base c
 tells_by path base c bodies stands log =
     let same : stands.bodies ≡ bodies = one_log stands.bodies bodies (bytes_in (c (log_of path))) stands.log log in

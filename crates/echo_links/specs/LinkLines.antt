@@ -155,7 +155,7 @@ file_fault bytes =
     option_or (first_fault [] 1 (file_lines bytes))
     (if list_any is_system_line (read_lines bytes) then None else Some (fault.NoSystem 0))
 
--- The address that stands for a missing one.
+-- The placeholder of a missing address.
 abbrev pub no_address : Address
 no_address = record { zone = 0; net = 0; node = 0 }
 
