@@ -25,12 +25,12 @@ none_added a lines = record { went = []; whole = append-nil lines; written = App
 pub none_begun : (a : Option (List ℕ)) (lines : List ℕ) → WritesFront lines a a
 none_begun a lines = record { rest = lines; passed = none_passed a lines }
 
--- what a write that failed took of the bytes
+-- the bytes that a failed write took
 pub front_sent : (a b : Option (List ℕ)) (bytes : List ℕ) (m n : ℕ) → SendsFront a b bytes m n → WritesFront bytes a b
 front_sent a b bytes m n (k, short, out, count) =
     record { rest = drop k bytes; passed = record { went = take k bytes; whole = sym (take-append-drop k bytes); written = out } }
 
--- what was kept back, and more behind it, was passed on
+-- the call passed on the bytes held back, and more after them
 pub passed_more : (a b c : Option (List ℕ)) (kept x mid y rest : List ℕ) → PassesOn (kept ++ x) mid a b → PassesOn (mid ++ y) rest b c
     → PassesOn (kept ++ (x ++ y)) rest a c
 passed_more a b c kept x mid y rest first second = record {
@@ -55,7 +55,7 @@ front_more a b lines more begun = record {
   };
 }
 
--- a beginning of what was kept back was written, too
+-- it also wrote a front of the bytes held back
 pub begun_after : (a b c : Option (List ℕ)) (lines mid : List ℕ) → PassesOn lines mid a b → WritesFront mid b c → WritesFront lines a c
 begun_after a b c lines mid first begun =
     let second = begun.passed in

@@ -13,7 +13,7 @@ use Rattle.echo_charset.proofs.charset.Charset.single_bytes.Goals as goal
 one_more : (charset : Charset) (bytes said : List ℕ) (byte c : ℕ) → characters charset bytes ≡ encode_utf8_all said → character charset byte ≡ c → characters charset (bytes ++ byte ∷ []) ≡ encode_utf8_all (said ++ c ∷ [])
 one_more charset bytes said byte c so is = rw (flat_map-append, encodes-append, so, is) refl
 
--- the next character stands behind those so far
+-- the next character follows the earlier ones
 next_char : (said after all : List ℕ) (c : ℕ) (rest : List ℕ) → said ++ chars rest ≡ all → chars rest ≡ c ∷ after → (said ++ c ∷ []) ++ after ≡ all
 next_char said after all c rest so next = append_assoc said (c ∷ []) after ∙ sym (ap (λ cs. said ++ cs) next) ∙ so
 
