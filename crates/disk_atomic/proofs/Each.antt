@@ -1,4 +1,4 @@
--- A loop over a list whose elements are apart in pairs: what its step at one of them leaves of the others.
+-- A loop over a list of disjoint elements, and the effect of one step on the others.
 use Rattle.std.proofs.Common.{◌≡◌, ◌≢◌, ⊎_elim, ℕ, ◌+◌, ◌<◌, ◌≤◌, List, length, get_or, arith, sym, subst}
 use Rattle.std.specs.List.{All, AllPairs, AllWithin, Contains, HoldsAt}
 use Rattle.std.proofs.lemmas.Bool.{cases_lt, cases_order}
@@ -6,7 +6,7 @@ use Rattle.std.proofs.lemmas.List.{get_or_default}
 use Rattle.std.proofs.lemmas.List.Elements.{at_read, AllWithin-more, Contains-get_or}
 
 module _ {X : Type 0} (R : X → X → Type 0) (flip : (x y : X) → R x y → R y x) (xs : List X) (pairs : AllPairs R xs) (i : ℕ) (z : X) (lt : i < length xs) where
-  -- the one at which the step is
+  -- the current element
   abbrev x : X
   x = get_or xs i z
 

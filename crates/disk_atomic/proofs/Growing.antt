@@ -21,7 +21,7 @@ written_behind old new bytes at long written =
     let behind : drop (at + length bytes) old ≡ [] = drop_all (at + length bytes) old (omega (arith, long)) in
     written ∙ (λ k. (front k ++ bytes) ++ behind k) ∙ append-nil (old ++ bytes)
 
--- what the file has after one
+-- the file after one more write
 pub grown : (old new : DiskState) (path bytes : List ℕ) (at end : ℕ) → IsGrowing old path at → bytes_in (new.seen path) ≡ bytes_in (old.seen path) ++ bytes → end ≡ at + length bytes
     → AreBytes bytes → IsSome (new.seen path) → new.is_named path → new.is_alone path → IsGrowing new path end
 grown old new path bytes at end was more long are there named alone = record {

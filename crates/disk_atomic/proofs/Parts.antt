@@ -51,7 +51,7 @@ all_kept none first second third head part tail empty one two three =
     let nil : none ≡ [] = nil_from_length none empty in
     three ∙ ap (λ l. l ++ tail) (two ∙ ap (λ l. l ++ part) (one ∙ ap (λ l. l ++ head) nil)) ∙ append_assoc head part tail
 
--- a file that is there and flushed has all its bytes on the disk
+-- a flushed file has all its bytes on the disk
 pub all_on_disk : (disk : DiskState) (path : List ℕ) → IsSome (disk.seen path) → disk.is_named path → disk.is_flushed path → HasOnDisk disk path (bytes_in (disk.seen path))
 all_on_disk disk path there named flushed = record { seen = file_of_bytes (disk.seen path) (bytes_in (disk.seen path)) there refl; named = named; flushed = flushed }
 

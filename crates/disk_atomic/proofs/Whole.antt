@@ -6,7 +6,7 @@ use Rattle.std.proofs.lemmas.Slice.Eq.{bytes_eq-Decides}
 use Rattle.disk_io.specs.Disk.{bytes_in}
 use Rattle.disk_io.specs.Steps.{IsWrittenAt}
 
--- a file that is there, by its bytes
+-- an existing file, by its bytes
 pub file_of_bytes : (file : Option (List ℕ)) (bytes : List ℕ) → IsSome file → bytes_in file ≡ bytes → file ≡ Some bytes
 file_of_bytes None bytes there is = absurd (cc there)
 file_of_bytes (Some found) bytes there is = ap (λ (l : List ℕ). Some l) is
@@ -45,7 +45,7 @@ same_files one other first second same here there is_one is_other tests =
       λ e. tests ∙ decides.1 (is_one ∙ ap bytes_in e ∙ sym is_other),
     )
 
--- what is so anyway
+-- a fact without a condition
 pub on_ok_any : {T E P : Type 0} (result : Result T E) → P → OnOk result P
 on_ok_any (Ok value) is = is
 on_ok_any (Err error) is = tt
