@@ -1,4 +1,4 @@
--- Files and folders that are put on the disk: a crash leaves nothing that it might not have left before.
+-- Files and folders synced to the disk: a crash leaves only files that it might have left before.
 use Rattle.std.proofs.Common.{◌≡◌, ◌≢◌, ℕ, List, [], ◌∷◌, length, take, drop, get_or, refl, sym, ◌∙◌, ap, subst}
 use Rattle.std.specs.Prelude.{Bool, true, false, not, cond, ◌&&◌, ◌||◌, ◌==◌, bytes_eq, reverse, Option, Result, MatchResult, OnOk, All}
 use Rattle.std.specs.List.{list_any}
@@ -70,7 +70,7 @@ renamed_by : (b : Bool) (x y : Shown) → x.renamed ≡ true → y.renamed ≡ t
 renamed_by true x y one two = one
 renamed_by false x y one two = two
 
--- the two paths of each renaming are marked
+-- both paths of each rename have the mark
 all_together : (s : List Step) (came : List ℕ → Bool) → ((m : List ℕ) → (shown s m).renamed ≡ true → came m ≡ true) → AreTogether s came
 all_together [] came marked = tt
 all_together (Changed path contents ∷ s) came marked = all_together s came (λ m is. marked m (renamed_stays (bytes_eq m path.items) _ (shown s m) refl is))

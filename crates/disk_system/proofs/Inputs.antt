@@ -1,4 +1,4 @@
--- What was read of an input.
+-- The bytes that a call read from an input.
 use Rattle.std.proofs.Common.{◌≡◌, ℕ, ◌+◌, ◌-◌, ◌≤◌, List, ◌++◌, length, take, drop, replicate, take_all, Option, ap, ◌∙◌, arith, length-append, length-drop}
 use Rattle.std.proofs.lemmas.List.{length-replicate, length-take}
 use Rattle.std.proofs.Math.Seq.{take-add, take-append_seam}
