@@ -47,7 +47,7 @@ first_from file base start (suc left) steps whole before = elim (cases_Bool (is_
 pub first_of_all : (file : LinkFile) (base : List Filed) (start : ℕ) → (serial : ℕ) × IsFirstFree file base start serial
 first_of_all file base start = first_from file base start (2 ^ 32 - 1) 0 (omega arith) (λ k within. absurd (omega (arith, within)))
 
--- a refusal that is of no serial is one with any serial
+-- a refusal that does not depend on the serial applies to any serial
 pub any_serial : (file : LinkFile) (base : List Filed) (tag : List ℕ) (draft : Draft) (serial other : ℕ) (stamp : Stamp) (why : PostFault)
     → IsPostFault file base tag draft serial stamp why → (why ≡ post.KnownSerial → ⊥)
     → (why ≡ post.Memory) ⊎ (post_refusal file base tag draft other stamp ≡ Some why)
