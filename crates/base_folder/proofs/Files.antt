@@ -45,7 +45,7 @@ stored_whole : (cursor i : ℕ) (all : List Filed) (file : List ℕ) → i ≡ l
 stored_whole cursor i all file many is =
     is ∙ ap (λ (l : List Filed). head_bytes Second cursor (length all) ++ stored_all cursor l) (take_all i all (omega arith)) ∙ saved_parts cursor all
 
--- none stand behind the head at first
+-- at first no message follows the head
 stored_none : (cursor : ℕ) (all : List Filed) (head : List ℕ) → head ≡ head_bytes Second cursor (length all) → head ≡ head_bytes Second cursor (length all) ++ stored_all cursor (take 0 all)
 stored_none cursor all head is = is ∙ sym (append-nil (head_bytes Second cursor (length all)))
 
@@ -117,7 +117,7 @@ file_sent a b cursor i all many sent =
 pub too_many : (cursor : ℕ) (all : List Filed) → 2 ^ 32 ≤ length all → is_countable all cursor ≡ false
 too_many cursor all many = sym (not_countable cursor all many)
 
--- nor one that is so long
+-- a base with a message that is too long can't be counted
 too_long : (cursor i : ℕ) (all : List Filed) (m : Filed) → slice_get all i ≡ Some m → is_short_enough (stored_at cursor i m) ≡ false → is_countable all cursor ≡ false
 unfolding is_countable
 too_long cursor i all m at long =

@@ -12,7 +12,7 @@ pub none_passes : {X : Type 0} (test : X → Bool) (xs : List X) → ((i : ℕ) 
 none_passes test [] each = refl
 none_passes test (x ∷ xs) each = or_from (test x) (list_any test xs) (each 0 x (omega arith)) (none_passes test xs (λ i d within. each (suc i) d (omega arith)))
 
--- a message whose entry has another digest does not pass
+-- a message with another digest in its entry does not pass
 pub other_digest : (test : Filed → Bool) (digest : ℕ) (base : List Filed) (keys : List ℕ) → HaveDigest test digest base keys → (j : ℕ) (d : Filed) → j < length base → digest_at keys j ≢ digest
     → test (get_or base j d) ≡ false
 other_digest test digest base keys have j d within other = false_from_ne_true (test (get_or base j d)) (λ passes. other (have j d within passes))

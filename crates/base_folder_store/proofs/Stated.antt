@@ -46,7 +46,7 @@ same_folder d e keyed f g h k path = record {
 pub beside : (d e : DiskState) (keyed : ℕ → ℕ → List ℕ → ℕ) (f g : Folder) (h k : Option Filed) → KeepsOutside (path_of f) d e → KeepsBeside (state_of d keyed f h) (state_of e keyed g k)
 beside d e keyed f g h k kept = record { seen = kept.seen; named = kept.named; flushed = kept.flushed; alone = kept.alone; honest = kept.honest }
 
--- what was staged is not committed
+-- staging commits nothing
 pub stages : (d e : DiskState) (keyed : ℕ → ℕ → List ℕ → ℕ) (f g : Folder) (h k : Option Filed) → path_of g ≡ path_of f → StagesOnly (path_of f) (committed_by d f) d e → CommitsNothing (state_of d keyed f h) (state_of e keyed g k)
 stages d e keyed f g h k path run = record {
   any_moment = λ honest base is.
@@ -56,7 +56,7 @@ stages d e keyed f g h k path run = record {
   same = same_folder d e keyed f g h k path;
 }
 
--- the store goes on where the folder is still open, and what was committed is so still
+-- the store allows further calls if the folder is still open and its committed base is unchanged
 pub went_on : {T : Type 0} (d e : DiskState) (keyed : ℕ → ℕ → List ℕ → ℕ) (f g : Folder) (h k : Option Filed) (r : Result T StoreError) → StaysOpen f g e r → Honestly e (OnOk r (committed_by e g ≡ committed_by d f))
     → KeepsOutside (path_of f) d e → OnOk r (GoesOn (state_of d keyed f h) (state_of e keyed g k))
 went_on d e keyed f g h k (Ok done) stays same kept = record {
@@ -71,7 +71,7 @@ pub usable_after : {T : Type 0} (e : DiskState) (g : Folder) (r : Result T Store
 usable_after e g (Ok done) named opened = record { named = named; opened = opened }
 usable_after e g (Err failed) named opened = tt
 
--- what was held is committed
+-- the base held before is committed
 pub committed : {T : Type 0} (d e : DiskState) (keyed : ℕ → ℕ → List ℕ → ℕ) (f g : Folder) (h k : Option Filed) (r : Result T StoreError) → StaysOpen f g e r → IsAcknowledged d e f g r → KeepsOutside (path_of f) d e
     → OnOk r (Commits (state_of d keyed f h) (state_of e keyed g k))
 committed d e keyed f g h k (Ok ok) stays done kept = record {
@@ -120,7 +120,7 @@ pub answered : {T : Type 0} (P : T → Type 0) (r : Result T StoreError) → Ans
 answered P (Ok value) was = was
 answered P (Err e) was = tt
 
--- why a read failed whose error was handed on
+-- why a call failed that passes on the error of a read
 pub handed_cause : {T U : Type 0} (s t : StoreState) (P : Base → T → Type 0) (before now : ℕ) (e : StoreError) → HasReadCause {T = T} before now (Err e)
     → Honestly t.disk ((base : Base) → s.keeps base → Answers (P base) (Err e)) → HasStoreCause {T = U} s t before now (Err e)
 handed_cause {T} {U} s t P before now e cause answers = record {

@@ -1,4 +1,4 @@
--- The messages of a base folder as a purge leaves them, one after another.
+-- The messages of a base folder after a purge, in order.
 use Rattle.std.proofs.Common.{◌≡◌, ◌<◌, ◌≤◌, ◌+◌, ◌^◌, ℕ, zero, suc, not, nat_lt, ◌&&◌, Bool, true, false, List, [], ◌∷◌, ◌++◌, length, map, take, drop, get_or, refl, sym, ap, subst, ◌∙◌, arith, count_by, append_assoc, lit<, if◌then◌else◌}
 use Rattle.std.specs.List.{AllByRecursion}
 use Rattle.std.proofs.lemmas.Bool.{ltb-false, ltb-true}
@@ -42,7 +42,7 @@ left_at (suc n) (m ∷ ms) zero d false within below = absurd (omega (arith, bel
 left_at (suc n) (m ∷ ms) (suc i) d scanned within below =
     left_at n ms i d scanned (omega arith) (record { yes = λ is. let more = below.yes is in omega arith; no = λ is. let less = below.no is in omega arith })
 
--- one of the messages may stand in a base
+-- each message of a base follows the rules of a filed one
 filed_at : (base : List Filed) (i : ℕ) (d : Filed) → i < length base → AllByRecursion IsFiled base → IsFiled (get_or base i d)
 filed_at [] i d within each = absurd (omega (arith, within))
 filed_at (m ∷ base) zero d within each = each.0
@@ -70,7 +70,7 @@ as_many base =
 pub first_many : (base : Base) (place : ℕ) → place < length base.messages → length (first_left base place).messages ≡ place
 first_many base place within = length-take-le place (purged base).messages (omega (arith, as_many base, within))
 
--- what is left of a message has its digest
+-- a purged message has the same digest
 same_digested : (scanned : Bool) (m : Filed) → digested (left_if scanned m) ≡ digested m
 same_digested true m = of_key (stub_of m) ∙ ap digested_key (stub_keeps_key m) ∙ sym (of_key m)
 same_digested false m = refl
