@@ -11,7 +11,7 @@ use Rattle.cmd_report.specs.declared.posting.NewMessage.{NewMessage}
 abbrev pub is_taken : LinkFile → List Filed → ℕ → Bool
 is_taken file base serial = list_any (has_id (id_of file.system serial)) base
 
--- The serial `steps` after another one. 0 follows the greatest.
+-- The serial `steps` steps after `start`, with 0 after the greatest.
 abbrev pub serial_after : ℕ → ℕ → ℕ
 serial_after start steps = (start + steps) % 2 ^ 32
 

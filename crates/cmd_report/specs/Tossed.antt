@@ -11,8 +11,7 @@ use Rattle.cmd_status.specs.Ended.{PassesAll}
 use Rattle.cmd_status.specs.Lines.{WritesFront}
 use Rattle.cmd_report.specs.TossedPacket.{TossRun}
 
--- The run opened a file and tossed the packet at its front in this way. If the answers of the files are honest, the
--- reader fits the file.
+-- The run opened a file and tossed the packet at its front in this way. If the answers are honest, the reader fits the file.
 pub record TossesOpened {R : Type 0} (honest : Type 0) (Tosses : TossRun → Device → Device → Option Fault → TossRun → Type 0) (device : R → Device) (file : Coming) (old : TossRun) (stopped : Option Fault) (new : TossRun) : Type 0 where
   pub reader : R
   pub left : R
