@@ -13,7 +13,7 @@ cursor_alone s = if has_tag Second s.kind then 1 else 0
 abbrev pub MayStandAlone : Stored → Type 0
 MayStandAlone s = is_damaged Second (cursor_alone s) [] s ≡ false
 
--- The bytes are this message, as a base file may have it alone.
+-- The bytes are this message, in a form that a base file may have alone.
 pub record IsStoredAlone (m : Filed) (bytes : List ℕ) : Type 0 where
   pub s : Stored
   pub size : IsStored Second s

@@ -1,4 +1,4 @@
-//! Bytes written at the end of a file whose length is known.
+//! Bytes written at the end of a file with a known length.
 ghost use Rattle.std.specs.Prelude.{◌≡◌, ◌++◌, List, ℕ, IfOk, OnOk};
 ghost use Rattle.disk_io.specs.Disk.{bytes_in};
 ghost use Rattle.disk_io.specs.Runs.{HasCause, KeepsNamed};

@@ -7,7 +7,7 @@ use Rattle.disk_io.specs.declared.buffered.Buffered.{Buffered}
 abbrev pub buffered_source : {S : Type 0} → Buffered S → S
 buffered_source b = b.source
 
--- The bytes that are read ahead.
+-- The bytes that it has read ahead.
 abbrev pub buffered_held : {S : Type 0} → Buffered S → List ℕ
 buffered_held b = b.ahead
 

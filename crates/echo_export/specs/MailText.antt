@@ -108,7 +108,7 @@ seen_line seen = codes "\nX-FTN-SEEN-BY: " ++ (decimal seen ++ codes "\nX-FTN-PA
 abbrev pub group_byte : ℕ → List ℕ
 group_byte b = if b == 44 then codes "%2C" else b ∷ []
 
--- The newsgroup of an area, and its tag if that differs.
+-- The line of a tag that differs from its newsgroup, and the newsgroup with that line.
 abbrev pub tag_line : List ℕ → List ℕ
 tag_line tag = if list_any (λ b. b == 44) tag then codes "\nX-FTN-Area: " ++ tag else []
 

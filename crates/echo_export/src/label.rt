@@ -68,7 +68,7 @@ pub(crate) fn text_as(
     charset.unwrap_or(Charset::Latin1).text(alloc, bytes)
 }
 
-/// The bytes without those 00 that stand at their end.
+/// The bytes without the 00 at their end.
 pub fn without_zeros(bytes: &[u8]) -> &[u8]
     ensures { result.now ≡ without_zeros bytes.now }
 {

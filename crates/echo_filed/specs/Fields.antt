@@ -83,6 +83,6 @@ LastFits false p = (p.0 ≡ []) × (length p.1 < 2 ^ 32)
 abbrev pub last_of : Bool → List ℕ × List ℕ → List ℕ
 last_of with_tag p = if with_tag then after_length p.0 ++ after_long_length p.1 else after_long_length p.1
 
--- The bytes that came end inside the next message.
+-- The bytes end inside the next message.
 abbrev pub StopsIn : Version → List ℕ → Type 0
 StopsIn version = EndsIn Stored (IsStored version) (stored_bytes version)

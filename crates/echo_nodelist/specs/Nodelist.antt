@@ -22,7 +22,7 @@ placed at earlier (Err fault) = Err fault
 placed at earlier (Ok (Note text)) = Ok (Note text)
 placed at earlier (Ok (Entry k n fields)) = in_zone at (zone_back (Entry k n fields ∷ earlier)) (Entry k n fields)
 
--- The bytes of a line, parsed after earlier lines, or the first fault of it.
+-- The bytes of a line, parsed after earlier lines, or its first fault.
 abbrev pub line_outcome : List Line → List ℕ → Result Line NodeFault
 line_outcome earlier raw = placed (length earlier + 1) earlier (line_in (length earlier + 1) raw)
 

@@ -202,7 +202,7 @@ fn exported_text(alloc: Global, links: &LinkFile, echo: &Echo) -> Result<Items<u
     let mut path = Vec::from_slice(alloc, echo.path.as_slice())?;
     path.push(own)?;
     let text = write_parts(alloc, tag, &echo.kept, seen.as_slice(), &path)?;
-    // A scan holds many texts, so each is kept without spare room.
+    // A scan holds many texts, so no text has spare room.
     let exact = Vec::from_slice(alloc, &text)?;
     Ok(Items::new(exact))
 }

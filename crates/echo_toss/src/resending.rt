@@ -23,8 +23,8 @@ use model_steps::{Packet, ScanFault, Stamp, is_stamp};
 use std::alloc::{AllocError, Global};
 use std::hash::BuildHasher;
 
-/// A packet that is to be made again: the area, whose letters are upper case; its address; the number of the first
-/// message that it may have; its stamp.
+/// A packet to make again: the area, in upper case, and its address. Its stamp, and the number of the first message that
+/// it may have.
 #[derive(Clone, Copy)]
 pub struct Resend<'a> {
     pub area: &'a [u8],
@@ -33,8 +33,8 @@ pub struct Resend<'a> {
     pub stamp: Stamp,
 }
 
-/// Makes a packet again: of each scanned message of the area, from the number on, that is not purged and has the
-/// address among its targets, it has the copy that a scan exports. The store is only looked at.
+/// Makes a packet again. It has the copy that a scan exports of each scanned message of the area from the number on,
+/// if that is not purged and has the address among its targets. The store is only looked at.
 pub fn resend_in<T: Store>(
     alloc: Global,
     links: &LinkFile,
@@ -142,7 +142,7 @@ pub fn push_resent(
     push_copy(asked.to, &one, all)
 }
 
-// Whether the message is of the area, and no purge took its text.
+// Whether the message belongs to the area, and no purge removed its text.
 fn is_whole_in(area: &[u8], message: &Filed) -> bool
     ensures { result ≡ is_whole_in area.now message.now }
 {
