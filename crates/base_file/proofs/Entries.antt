@@ -43,7 +43,7 @@ other_key b tag id (Some x) h =
     and_right (bytes_eq b.echo.tag tag) (bytes_eq x id)
     (false_from_ne_true (bytes_eq x id) (λ e. true≢false (sym ((bytes_decides id x).1 (sym ((bytes_decides x id).0 e))) ∙ h)))
 
--- where no message has the id, none is known by it
+-- if no message has the id, no key with it is known
 pub none_known : (base : List Filed) (tag id : List ℕ) → list_any (has_id id) base ≡ false → is_known base (ById tag id) ≡ false
 unfolding key_of
 none_known [] tag id h = refl
@@ -77,7 +77,7 @@ not_among p tag tags passes =
     any_weaker p (bytes_eq tag)
     (λ t fails. false_from_ne_true (bytes_eq tag t) (λ e. true≢false (sym passes ∙ ap p ((bytes_decides tag t).0 e) ∙ fails))) tags
 
--- where no message is known by the id in any of its tags, none has it
+-- if the id is not known with any tag, no message has it
 pub no_such_id : (id : List ℕ) (tags : List (List ℕ)) (base : List Filed) → AllByRecursion (HasTagIn tags) base
     → list_any (λ t. is_known base (ById t id)) tags ≡ false → list_any (has_id id) base ≡ false
 unfolding key_of
@@ -200,7 +200,7 @@ tag_of_one tags tag (m ∷ base) h some = elim (cases_Bool (bytes_eq tag m.echo.
   | inr other ↦ tag_of_one tags tag base h.1 (ap (λ b. b || list_any (λ m. bytes_eq tag m.echo.tag) base) (sym other) ∙ some)
 ]
 
--- where an entry has a message that passes, one of the messages does
+-- if the message of an entry passes, one of the messages passes
 pub passes_at : (p : Filed → Bool) (entries : List (Key × Filed)) (i : ℕ) (key : Key) (m : Filed) → Some (key, m) ≡ slice_get entries i → p m ≡ true → list_any p (values_of entries) ≡ true
 passes_at p entries i key m is pass =
     let within = slice_get_within entries i (key, m) (sym is) in

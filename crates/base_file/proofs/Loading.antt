@@ -31,7 +31,7 @@ judged version cursor earlier more (Some found) =
     cond (is_damaged version cursor earlier found.0) (Err (fault.Damaged (length earlier)))
     (more (earlier ++ message_in version found.0 ∷ []) found.1)
 
--- so many messages, read one by one after the earlier ones
+-- this many messages, read one by one after the earlier ones
 messages_in : Version → ℕ → List Filed → ℕ → List ℕ → Messages
 messages_in version cursor earlier zero bytes = Ok (earlier, bytes)
 messages_in version cursor earlier (suc n) bytes =
@@ -284,7 +284,7 @@ Rest version cursor number bytes more =
     (all : List Stored) (rest : List ℕ) → Begins version cursor number all rest bytes → number ≡ length all + more → AreBytes rest
     → LoadOf bytes (finished bytes cursor (messages_in version cursor (map (message_in version) all) more rest))
 
--- the whole base, where no message is left
+-- the whole base, if no message remains
 pub whole_loads : (version : Version) (cursor number : ℕ) (bytes : List ℕ) (all : List Stored) (rest : List ℕ) → Begins version cursor number all rest bytes → number ≡ length all
     → LoadOf bytes (Ok (map (message_in version) all, cursor, length bytes - length rest))
 whole_loads version cursor number bytes all rest b many =

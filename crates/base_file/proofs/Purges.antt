@@ -74,7 +74,7 @@ place_split all i cursor m at =
     ap (λ l. l ++ (map stub_of (drop (i + 1) (take cursor all)) ++ drop cursor all)) (front_more all i m at)
     ∙ append_assoc (take i all) (m ∷ []) (map stub_of (drop (i + 1) (take cursor all)) ++ drop cursor all)
 
--- and once it is a stub too
+-- the same list after that message became a stub
 pub place_joined : (all : List Filed) (i cursor : ℕ) (m : Filed) → slice_get all i ≡ Some m → i < cursor
     → from_place all i cursor ≡ take i all ++ stub_of m ∷ (map stub_of (drop (i + 1) (take cursor all)) ++ drop cursor all)
 place_joined all i cursor m at before =

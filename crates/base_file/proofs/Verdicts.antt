@@ -21,7 +21,7 @@ use Rattle.base_file.specs.BaseFile.{has_wrong_form, has_wrong_last, has_wrong_s
 use Rattle.base_file.specs.Loading.{UnlessWrong, is_wrong, said_last, wrong_last}
 use Rattle.base_file.proofs.Loaded.{filed_with, right_last}
 
--- a text that says an echo is wrong where it is not the one that is written
+-- a text that parses is wrong if the tosser writes it in another way
 pub text_wrong : (text : List ℕ) (e : EchoText) (dropped : ℕ) → list_any is_zero text ≡ false → EchoOf text e dropped → is_wrong_text text ≡ not (bytes_eq (text_of e) text)
 text_wrong text e dropped zero says =
     let read : not (is_none (text_refusal text)) ≡ false = ap (λ o. not (is_none o)) (says_accepted text e dropped says) in
@@ -75,7 +75,7 @@ damaged_by version cursor earlier s =
     regrouped (is_other_kind version s.kind) (has_wrong_sender s) (has_wrong_string s) (has_wrong_last version s)
     (has_wrong_form version cursor (length earlier) s) (is_known earlier (key_of (message_in version s)))
 
--- it is damaged where it is wrong, and else where an earlier message has its key
+-- a message is damaged if it is wrong, or if an earlier message has its key
 pub wrong_damaged : (version : Version) (cursor place : ℕ) (earlier : List Filed) (s : Stored) → place ≡ length earlier → is_wrong version cursor place s ≡ true
     → is_damaged version cursor earlier s ≡ true
 wrong_damaged version cursor place earlier s at_end wrong =

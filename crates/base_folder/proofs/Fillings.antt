@@ -132,7 +132,7 @@ unfilled_as_caused strange path files store.TooMany why is = subst (λ (w : Open
 pub full_at : {D : Type 0} (state : D → DiskState) (keyed : ℕ → ℕ → List ℕ → ℕ) (path at : List ℕ) (base : Base) → path ≡ at → IsFilledFull state keyed path base → IsFilledFull state keyed at base
 full_at state keyed path at base same full = record { disk = full.disk; folder = full.folder; at = full.at ∙ same; full = full.full }
 
--- a folder that is opened is not too much
+-- opening a folder never reports too much
 pub never_many : {T : Type 0} (strange : Bool) (path : List ℕ) (files : Files) (why : OpenError) → IsWrong strange path files why → IsErrOf {T = T} (Err why) (unread.Wrong fault.TooMany) → ⊥
 never_many strange path files why was is = let same : why ≡ unread.Wrong fault.TooMany = cc (is) in subst (λ (w : OpenError). IsWrong strange path files w) same was
 

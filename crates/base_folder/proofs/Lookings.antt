@@ -26,7 +26,7 @@ use Rattle.base_folder.specs.declared.open_error.OpenError.{OpenError}
 use Rattle.base_folder.specs.declared.open_error.OpenError.TheVariants as unread
 use Rattle.base_folder.proofs.Wrongs.{one_end}
 
--- an error that was handed on as it is
+-- an error passed on unchanged
 pub err_is : {T E : Type 0} (P : E → Type 0) (e : E) (r : Result T E) → IsErrAnd r (λ x. x ≡ e) → P e → IfErr r P
 err_is P e (Ok x) same is = absurd same
 err_is P e (Err x) same is = subst P (sym same) is
@@ -48,7 +48,7 @@ none_between first last log same =
     let none : last - first ≡ 0 = omega (arith, same) in
     ap (λ (n : ℕ). length (take n (drop first log))) none
 
--- a folder with this log can be read after looks, where it has messages
+-- a folder with this log and messages is readable after looks
 pub looked_at : (path : List ℕ) (d e : DiskState) (log : Log) (folder : Folder) → ChangesNothing d e → IsRead log → IsFresh path folder → folder.end ≡ log.end → folder.keys ≡ log.end.told.keys
     → Honestly d (IsLogIn path d.seen log) → Honestly e (StandsFor path (base_at d path log.end.told) d.seen) → IsLookedAt e folder
 looked_at path d e log folder quiet read fresh same keys is stands =

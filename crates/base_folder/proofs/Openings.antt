@@ -50,7 +50,7 @@ opened_run_since keyed path d e f base quiet opening =
     (λ alone. inl (record { outside = λ m out named flushed. alone.outside m out (quiet.named m (λ h. h) named) (quiet.flushed m (λ h. h) flushed) ∙ quiet.seen m; stands = alone.stands }))
     (λ left. inr (quiet.no_more c left)) or)
 
--- a folder that was claimed holds the same base: its key changes only where it has no message
+-- a claimed folder holds the same base, since its key changes only without messages
 pub claimed_same : (keyed : ℕ → ℕ → List ℕ → ℕ) → HaveRoom keyed → (d : DiskState) (f g : Folder) (base : Base) → IsOpen d f → g ≡ with_mark f g.told.mark → (0 < f.keys → SameKey f.told.mark g.told.mark)
     → (f.told.mark.owner ≢ 0 → g ≡ f) → HoldsBase keyed (held_by d f) base → HoldsBase keyed (held_by d g) base
 claimed_same keyed fits d f g base opened only key kept holds =

@@ -23,7 +23,7 @@ use Rattle.base_folder_store.proofs.Waits.{written_held}
 pub committed_beside : (d : DiskState) (f g : Folder) → IsBesideIn f g → committed_by d g ≡ committed_by d f
 committed_beside d f g beside = λ i. base_at d (beside.path i) (beside.end i).told
 
--- where its two files are as they were, it can be read still
+-- a folder with unchanged files remains readable
 readable_same : (d e : DiskState) (f : Folder) → e.seen (messages_of (path_of f) f.end.told.number) ≡ d.seen (messages_of (path_of f) f.end.told.number)
     → e.seen (keys_of (path_of f) f.end.told.number) ≡ d.seen (keys_of (path_of f) f.end.told.number) → IsReadable d f → IsReadable e f
 readable_same d e f messages keys was = record {
@@ -77,7 +77,7 @@ many_readable keyed d f base readable holds =
     let long = keys_all d f readable.legible in
     omega (arith, many, long)
 
--- under another cursor it is open still
+-- with another cursor it is still open
 pub cursor_open : (d : DiskState) (f : Folder) (cursor : ℕ) → IsOpen d f → IsOpen d (record f { told = record f.told { cursor = cursor } })
 cursor_open d f cursor was = record {
   names = was.names;

@@ -12,7 +12,7 @@ use Rattle.base_folder_store.specs.Answers.{Answers, HasReadCause}
 use Rattle.base_folder_store.specs.Held.{HoldsBase}
 use Rattle.base_folder_store.specs.Left.{HasPurgeCause}
 
--- where an error was handed on
+-- the call passes on an error
 pub answers_error : {T U : Type 0} (P : T → Type 0) (Q : U → Type 0) (e : StoreError) (r : Result U StoreError) → IsErrAnd r (λ x. x ≡ e) → Answers {T = T} P (Err e) → Answers Q r
 answers_error P Q e (Ok x) same was = absurd same
 answers_error P Q e (Err error.Damaged) same was = subst (λ (y : StoreError). Answers P (Err y)) (sym same) was
@@ -28,7 +28,7 @@ answers_give P Q gives (Err error.Memory) was = tt
 answers_give P Q gives (Err error.Device) was = tt
 answers_give P Q gives (Err error.TooMany) was = tt
 
--- and where one that is no damage was handed on
+-- the call passes on an error other than damage
 pub answers_whole : {T U : Type 0} (Q : U → Type 0) (e : StoreError) (r : Result U StoreError) → IsErrAnd r (λ x. x ≡ e) → (IsErrOf {T = T} (Err e) error.Damaged → ⊥) → Answers Q r
 answers_whole Q e (Ok x) same none = absurd same
 answers_whole Q e (Err error.Damaged) same none = absurd (none (ap (λ (x : StoreError). Err x) (sym same)))
@@ -36,7 +36,7 @@ answers_whole Q e (Err error.Memory) same none = tt
 answers_whole Q e (Err error.Device) same none = tt
 answers_whole Q e (Err error.TooMany) same none = tt
 
--- an error that was handed on as it is
+-- an error passed on unchanged
 pub handed_on : {T U E : Type 0} (e f : E) (r : Result T E) → IsErrAnd r (λ x. x ≡ e) → IsErrOf r f → IsErrOf {T = U} (Err e) f
 handed_on e f (Ok x) same is = absurd same
 handed_on {E = E} e f (Err x) same is =

@@ -33,7 +33,7 @@ entries_few : (all : List Stored) → AllByRecursion (IsStored Second) all → 1
 entries_few [] sizes = omega arith
 entries_few (s ∷ all) sizes = omega (arith, stored_some s sizes.0, entries_few all sizes.1, length-append (stored_bytes Second s) (flat_map (stored_bytes Second) all))
 
--- so eight bytes count the entries where they count the messages
+-- if eight bytes count the messages, they count the entries
 keys_few : (keyed : ℕ → ℕ → List ℕ → ℕ) (bytes : BaseBytes) (base : Base) → HoldsBase keyed bytes base → 16 * length base.messages < 2 ^ 64
 keys_few keyed bytes base holds =
     let files = holds.files in

@@ -38,7 +38,7 @@ piece_place keys from piece i is within =
     ∙ ap (λ (l : List ℕ). from_le_bytes w64 (take 8 l)) (drop-append-le (16 * i) piece is.rest (omega (arith, inside)))
     ∙ ap (λ (l : List ℕ). from_le_bytes w64 l) (take-append-le 8 (drop (16 * i) piece) is.rest (omega (arith, long, inside)))
 
--- two entries tell where the first message begins and ends, or one where it is the last
+-- two entries give the start and the end of the first message, or one entry if it is the last
 module _ (messages keys piece : List ℕ) (place : ℕ) (is : IsPieceOf keys place piece) (inside : place < length keys / 16) (two : length piece / 16 ≡ min 2 (length keys / 16 - place)) where
   begins_there : place_at piece 0 ≡ place_at keys place
   begins_there =

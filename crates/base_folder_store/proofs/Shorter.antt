@@ -30,7 +30,7 @@ in_line line =
     let front = drop (prefix_len is_blank rest) rest in
     omega (arith, length-drop (prefix_len is_feed line) line, length-drop (length msgid_word) fed, length-drop (prefix_len is_blank rest) rest, length-take (length front - suffix_len is_blank front) front)
 
--- nor more than all its lines
+-- the id has no more bytes than all lines
 in_lines : (p q : List ℕ → Bool) (f : List ℕ → List ℕ) → ((line : List ℕ) → length (f line) ≤ length line) → (kept : List (List ℕ)) (id : List ℕ) → find p (map f (filter q kept)) ≡ Some id
     → length id ≤ length (flat_map ended kept)
 in_lines p q f short [] id found = absurd (cc)
@@ -103,7 +103,7 @@ stub_is m id has = ap (stub_with m) has
 front_same : (short : Bool) (m : Filed) (id : List ℕ) → length (front_bytes (stored_as true (stub_with m (Some id)))) ≡ length (front_bytes (stored_as short m))
 front_same short m id = refl
 
--- with an id it is saved in short
+-- with an id it is saved in short form
 with_id : (short : Bool) (m : Filed) (id : List ℕ) → msgid_of m.echo.kept ≡ Some id → IsLess short m (stub_with m (Some id))
 unfolding stored_at
 with_id short m id has =

@@ -33,7 +33,7 @@ outside_same path d = record {
 pub names_kept : (f g : Folder) → g.names ≡ f.names → g.told ≡ f.told → IsNamed f → IsNamed g
 names_kept f g names told was = subst (λ (t : CommitRecord). AreNames g.names t.number) (sym told) (subst (λ (n : Names). AreNames n f.told.number) (sym names) was)
 
--- so many bytes of the messages count
+-- the number of counted bytes of the messages
 pub messages_count : (d : DiskState) (path : List ℕ) (end : End) (told : CommitRecord) → IsStaged d path end told → length (base_at d path told).messages ≡ told.messages
 messages_count d path end told staged = length-take-le told.messages (bytes_in (d.seen (messages_of path told.number))) staged.messages_long
 
@@ -41,7 +41,7 @@ messages_count d path end told staged = length-take-le told.messages (bytes_in (
 pub committed_staged : (d : DiskState) (path : List ℕ) (after : End) (told : CommitRecord) → IsAtRest d path after → after.told ≡ told → IsStaged d path after told
 committed_staged d path after told rest is = subst (λ (t : CommitRecord). IsStaged d path after t) is (rest_staged d path after after.told.cursor after.told.mark rest)
 
--- the folder with one message more that waits, and its entry
+-- the folder with one more waiting message, and its entry
 module _ (d : DiskState) (f g : Folder) (bytes : List ℕ) (digest : ℕ) (was : IsOpen d f) (more : OneMoreWaits f g bytes digest) where
   regrouped : and_keys (and_messages (base_at d (path_of f) f.told) (f.waiting.messages.items ++ bytes)) (f.waiting.keys.items ++ entry (next_place f) digest) ≡ and_keys (and_messages (held_by d f) bytes) (entry (next_place f) digest)
   regrouped = λ i. record {

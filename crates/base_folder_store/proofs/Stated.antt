@@ -66,7 +66,7 @@ went_on d e keyed f g h k (Ok done) stays same kept = record {
 }
 went_on d e keyed f g h k (Err failed) stays same kept = tt
 
--- calls may be made where the folder is still open
+-- the store allows calls if the folder is still open
 pub usable_after : {T : Type 0} (e : DiskState) (g : Folder) (r : Result T StoreError) → IsNamed g → Honestly e (OnOk r (IsOpen e g)) → OnOk r (IsUsable e g)
 usable_after e g (Ok done) named opened = record { named = named; opened = opened }
 usable_after e g (Err failed) named opened = tt
@@ -98,7 +98,7 @@ may_commit d e keyed f g h k path run = record {
   same = same_folder d e keyed f g h k path;
 }
 
--- where a base is held, an answer is not that a message is damaged
+-- if the folder holds a base, the answer is not damage
 pub not_damaged : {T : Type 0} (P : T → Type 0) (r : Result T StoreError) → Answers P r → IsErrOf r error.Damaged → ⊥
 not_damaged P (Ok value) was is = absurd (cc)
 not_damaged P (Err error.Damaged) was is = was
@@ -115,7 +115,7 @@ read_cause s t P before now r cause answers = record {
   damaged = λ honest is base keeps. not_damaged (P base) r (answers honest base keeps) is;
 }
 
--- the answer where there is one
+-- the answer, if there is one
 pub answered : {T : Type 0} (P : T → Type 0) (r : Result T StoreError) → Answers P r → IfOk r P
 answered P (Ok value) was = was
 answered P (Err e) was = tt
@@ -129,7 +129,7 @@ handed_cause {T} {U} s t P before now e cause answers = record {
   damaged = λ honest is base keeps. not_damaged (P base) (Err e) (answers honest base keeps) (ap (λ (x : StoreError). Err x) (same_error {T = U} (Err e) e error.Damaged refl is));
 }
 
--- a message that is not there is damage where no base is held
+-- a missing message is damage if the folder holds no base
 pub none_there : {T : Type 0} (s : StoreState) (now place count : ℕ) → Honestly s.disk ((base : Base) → s.keeps base → place < length base.messages)
     → Honestly s.disk ((base : Base) → s.keeps base → count ≡ length base.messages) → count ≤ place → HasStoreCause {T = T} s s now now (Err error.Damaged)
 none_there s now place count within many past = record {

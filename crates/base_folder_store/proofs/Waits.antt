@@ -15,7 +15,7 @@ nothing_more b = λ i. record { messages = append-nil b.messages i; keys = appen
 pub written_held : (d : DiskState) (f : Folder) → IsWritten f → held_by d f ≡ base_at d (path_of f) f.told
 written_held d f none = (λ i. and_keys (and_messages (base_at d (path_of f) f.told) (none.messages i)) (none.keys i)) ∙ nothing_more (base_at d (path_of f) f.told)
 
--- so many bytes are written, and wait behind them
+-- the number of bytes written, then waiting
 pub count_across : (file waiting : List ℕ) (written : ℕ) → written ≤ length file → length (take written file ++ waiting) ≡ written + length waiting
 count_across file waiting written room =
     let front = length-take-le written file room in

@@ -102,7 +102,7 @@ module _ (d0 : DiskState) (path : List ℕ) (end : End) (told : CommitRecord) (s
   abbrev pub P : Files → Type 0
   P = IsBeforeOrAfter path d0 first next
 
-  -- the base from before, where the log has its closed gate still
+  -- the base before, while the log still has its closed gate
   before_log : (a c : Files) (gate : ℕ) (rest : List ℕ) → StandsFor path first a → ((m : List ℕ) → m ≢ log_of path → c m ≡ a m) → (old : List ℕ) → bytes_in (a (log_of path)) ≡ opened bodies ++ closed ∷ old
       → gate ≢ 1 → bytes_in (c (log_of path)) ≡ opened bodies ++ gate ∷ rest → StandsFor path first c
   before_log a c gate rest stands same old was shut now =

@@ -70,7 +70,7 @@ up_to front gate rest =
     ap (λ (l : List ℕ). take (length front + 1) l) (sym (append_assoc front (gate ∷ []) rest))
     ∙ take_at (front ++ gate ∷ []) rest (length front + 1) (omega (arith, length-append front (gate ∷ [])))
 
--- the closed gate stays where a record behind it is cut short
+-- a torn record after the closed gate keeps the gate
 pub torn_record : (front : List ℕ) (gate : ℕ) (tail : List ℕ) (count : ℕ) (old new : Option (List ℕ)) → TornWrite (length front + 1) count old new → bytes_in old ≡ front ++ gate ∷ tail
     → bytes_in new ≡ front ++ gate ∷ drop (length front + 1) (bytes_in new)
 torn_record front gate tail count old new torn is =

@@ -42,7 +42,7 @@ module _ (d0 : DiskState) (path : List ℕ) (end : End) (rest : IsAtRest d0 path
       let named = one.named (keys_of path number) (keys_not_messages path number number) (rest.log.named (keys_of path number) (keys_in path number)) in
       alone_changed d0 path end rest TornMaking d1 d2 (keys_of path number) (keys_beside path end.told.number number other) named messages_run two
 
--- the same where the log alone counts
+-- the same if only the log counts
 module _ (d0 : DiskState) (path : List ℕ) (on : IsOnDisk d0 (log_of path)) (named : AreNamed path d0) (number : ℕ) (d1 : DiskState) (one : Made d0 d1 (messages_of path number)) where
   pub log_first : LeavesOnly d0 d1 (LogAlone d0 path on)
   log_first =

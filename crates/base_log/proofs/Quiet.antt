@@ -24,7 +24,7 @@ base_quiet d e path told quiet = λ i. record {
 pub seen_quiet : (d e : DiskState) → ChangesNothing d e → e.seen ≡ d.seen
 seen_quiet d e quiet = λ i m. quiet.seen m i
 
--- the log is where it was
+-- the log is unchanged
 pub log_quiet : (d e : DiskState) (path : List ℕ) (end : End) → ChangesNothing d e → IsLogAt d path end → IsLogAt e path end
 log_quiet d e path end quiet was = record {
   bodies = was.bodies;

@@ -38,7 +38,7 @@ front_taken n bytes le =
 pub front_long : (front bytes : List ℕ) → IsFrontOf front bytes → length front ≤ length bytes
 front_long front bytes is = omega (arith, ap length is, length-take (length front) bytes)
 
--- the base that is seen, where the files are as they are seen
+-- the shown base, if the files are as shown
 pub TellsBase-seen : (told : CommitRecord) (path : List ℕ) (d : DiskState) (c : Files) → told.number < 10 → told.messages ≤ length (bytes_in (d.seen (messages_of path told.number)))
     → told.keys ≤ length (bytes_in (d.seen (keys_of path told.number))) → c (messages_of path told.number) ≡ d.seen (messages_of path told.number)
     → c (keys_of path told.number) ≡ d.seen (keys_of path told.number) → TellsBase told path (base_at d path told) c

@@ -23,7 +23,7 @@ failed_since before mid now le (inr (full, same)) = elim (eq-or-lt_of_le le) [
 pub same_error : {T : Type 0} (r : Result T StoreError) (e f : StoreError) → r ≡ Err e → r ≡ Err f → e ≡ f
 same_error r e f one other = cc
 
--- the failure of a call after others, of which the store holds a base where it held one
+-- the failure of a call after others that kept a base in the store
 pub cause_after : {A T : Type 0} (old mid new : StoreState) (before between now : ℕ) (r : Result A StoreError) (e : StoreError) → before ≤ between
     → Honestly new.disk ((base : Base) → old.keeps base → (next : Base) × mid.keeps next) → r ≡ Err e → HasStoreCause mid new between now r → HasStoreCause {T = T} old new before now (Err e)
 cause_after {A} {T} old mid new before between now r e le holds is cause =

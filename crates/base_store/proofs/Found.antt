@@ -171,7 +171,7 @@ pub record IsFrontOf (keys own heads before : List ℕ) : Type 0 where
   pub even : 16 * (length own / 16) ≡ length own
   pub chains : AreChains own heads before
 
--- an index that took a piece to its keys, or none
+-- an index that took a piece into its keys, or failed to
 pub kept_more : {T E : Type 0} (r : Result T E) (keys piece more : List ℕ) (from : ℕ) (index : Index) → more ≡ (if is_ok r then index.keys.items ++ piece else index.keys.items) → length index.keys.items / 16 ≡ from → IsPieceOf keys from piece
     → IsIndexOf keys index → IsFrontOf keys more index.heads.items index.before.items
 kept_more (Ok done) keys piece more from index items at is was =
@@ -202,7 +202,7 @@ pub none_map : {A P Q : Type 0} (r : Option A) → (P → Q) → IfNone r P → 
 none_map (Some x) gives was = tt
 none_map None gives was = gives was
 
--- so many keys it has then
+-- the number of keys after that
 pub taken_size : {T E : Type 0} (r : Result T E) (own piece more : List ℕ) (from : ℕ) {count : ℕ} → count ≡ length more / 16 → more ≡ (if is_ok r then own ++ piece else own) → length own / 16 ≡ from → 16 * (length own / 16) ≡ length own
     → OnOk r (count ≡ from + length piece / 16)
 taken_size (Ok done) own piece more from counts items at even = let long = ap (λ (l : List ℕ). length l) items ∙ length-append own piece in omega (arith, counts, long, at, even)

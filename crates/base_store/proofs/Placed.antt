@@ -87,7 +87,7 @@ cut_out front here rest =
     ap (λ (l : List ℕ). drop (length front) l) (take-append-add front (here ++ rest) (length here) ∙ ap (λ (l : List ℕ). front ++ l) (take-append_seam here rest))
     ∙ drop-append_seam front here
 
--- so many bytes up to a message, and through it
+-- the number of bytes up to a message, and through it
 bytes_through : (before : List Stored) (s : Stored) → length (bytes_of (before ++ (s ∷ []))) ≡ length (bytes_of before) + length (stored_bytes Second s)
 bytes_through before s =
     ap (λ (l : List ℕ). length l) (flat_map-append (stored_bytes Second) before (s ∷ []) ∙ ap (λ (l : List ℕ). bytes_of before ++ l) (append-nil (stored_bytes Second s)))

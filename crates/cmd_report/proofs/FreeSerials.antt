@@ -12,7 +12,7 @@ use Rattle.model_steps.proofs.FirstRefusals.{refusal_first}
 use Rattle.model_steps.proofs.Posted.{allowed}
 use Rattle.cmd_report.specs.FreeSerial.{IsFirstFree, is_taken, serial_after}
 
--- the serials of so many first steps are taken
+-- the serials of the first steps are in use
 abbrev pub AreTaken : LinkFile → List Filed → ℕ → ℕ → Type 0
 AreTaken file base start steps = (k : ℕ) → k < steps → is_taken file base (serial_after start k) ≡ true
 
@@ -82,7 +82,7 @@ free_where_allowed file base tag draft serial stamp may =
     let all = allowed file base tag draft serial stamp may in
     all.new
 
--- one with which that is refused because it is known is taken
+-- a serial that a refusal reports as known is in use
 pub taken_where_known : (file : LinkFile) (base : List Filed) (tag : List ℕ) (draft : Draft) (start steps serial : ℕ) (stamp : Stamp) (why : PostFault)
     → serial ≡ serial_after start steps → IsPostFault file base tag draft serial stamp why → why ≡ post.KnownSerial → is_taken file base (serial_after start steps) ≡ true
 taken_where_known file base tag draft start steps serial stamp why at is known =

@@ -10,7 +10,7 @@ use Rattle.std.proofs.KnownBytes.{Appends-nil, Appends-trans}
 use Rattle.disk_io.specs.Device.{SendsFront}
 use Rattle.cmd_status.specs.Lines.{PassesOn, WritesFront}
 
--- lines behind no others are those lines
+-- lines after no lines are those lines
 pub alone : (none lines more : List ℕ) → none ≡ [] → lines ≡ none ++ more → lines ≡ more
 alone none lines more nothing whole = whole ∙ ap (λ n. n ++ more) nothing
 
@@ -68,7 +68,7 @@ begun_after a b c lines mid first begun =
       };
     }
 
--- all that was kept back was written, too
+-- it also wrote all bytes held back
 pub sent_after : (a b c : Option (List ℕ)) (lines mid : List ℕ) → PassesOn lines mid a b → Appends b c mid → Appends a c lines
 sent_after a b c lines mid first out =
     subst (Appends a c) (sym first.whole) (Appends-trans a b c first.went mid first.written out)
@@ -86,7 +86,7 @@ begun_kept a b c lines begun none =
       };
     }
 
--- a beginning of no lines is none
+-- a front of no lines is empty
 no_front : (went rest : List ℕ) → [] ≡ went ++ rest → went ≡ []
 no_front [] rest is = refl
 no_front (x ∷ went) rest is = absurd cc

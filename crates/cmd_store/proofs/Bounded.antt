@@ -63,7 +63,7 @@ stop_many : (old new : List ℕ) (tally : Tally) (why : TossStepError) (result :
 stop_many old new tally (toss.Packet why) result is many = absurd (cc (is.0, many))
 stop_many old new tally (toss.Store cause) result is many = handed_many cause (sym is ∙ many)
 
--- a packet that the store held too much for
+-- a packet with too much in the store
 pub reports_many : (old new : List ℕ) (answer : Result Tally StoppedToss) (result : Result (Option Fault) StoreError) → ReportsIn old new answer result → IsErrOf result TooMany → IsErrOf (toss_answer (stop_in answer)) TooMany
 reports_many old new (Ok tally) result is many = absurd (cc (is.0, many))
 reports_many old new (Err stopped) result is many = stop_many old new stopped.tally stopped.stop result is many

@@ -24,7 +24,7 @@ pub found_message : (o : Option Filed) (found : ReplyFields) → FindsOn o (Ok f
 found_message None found is = absurd is
 found_message (Some m) found is = (m, refl, is)
 
--- where no words were found the command stops
+-- without words the command stops
 pub reply_stopped : (o : Option Filed) (answer : Answer) (system : SystemState) (body : List ℕ) (old : Output) (why : CommandError) → FindsOn o (Err why) → RepliesOn {A = Unit {0}} o answer system body old old (Err why)
 reply_stopped None answer system body old (Met fault) is = (is, refl)
 reply_stopped None answer system body old (Store cause) is = absurd is

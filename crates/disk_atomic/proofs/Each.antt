@@ -20,7 +20,7 @@ module _ {X : Type 0} (R : X → X → Type 0) (flip : (x y : X) → R x y → R
       ⊎_elim (λ (e : k < i). flip (get_or xs k d) (get_or xs i d) (pairs k i d e lt)) (λ (le : i ≤ k). pairs i k d (omega arith) within) (cases_lt k i) in
       subst (λ (y : X). R y (get_or xs k d)) (get_or_default xs i d z lt) there
 
-  -- the elements up to this one, behind the step
+  -- the elements up to this one, after the step
   pub behind : (P Q : X → Type 0) → ((y : X) → R x y → P y → Q y) → Q x → AllWithin P xs 0 i → AllWithin Q xs 0 (i + 1)
   behind P Q keeps now was = AllWithin-more Q xs 0 i (λ k d low high. keeps (get_or xs k d) (apart k d (omega arith) (omega arith)) (was k d low high)) (at Q now)
 

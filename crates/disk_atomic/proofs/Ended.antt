@@ -35,7 +35,7 @@ AtLeft l m = (m ≡ l.staging.now) ⊎ (m ≡ l.path.now)
 pub ends_same : (cursor : ℕ) (a b : Files) (l : Left) → b l.staging.now ≡ a l.staging.now → b l.path.now ≡ a l.path.now → EndsAs cursor a b l
 ends_same cursor a b l staging path = record { committed = λ lt. inr staging; untouched = λ le. path; either = inl path }
 
--- where the cursor was moved, a naming is the end
+-- if the cursor was moved past the packet, its naming finishes it
 pub named_finishes : (cursor : ℕ) (l : Left) → l.before < cursor → (a c : Files) → Names l.path.now l.staging.now a c → Finishes cursor l a c
 named_finishes cursor l lt a c n = record { others = n.others; ends = record { committed = λ is. n.stands; untouched = λ le. absurd (omega arith); either = n.either } }
 
@@ -159,7 +159,7 @@ none_finished cursor found d0 d1 quiet =
     weaker_run d0 d1 d0.may_leave (OneStepOn (FinishesSome cursor found 0) d0) quiet.run
     (λ c left. (c, left, record { others = λ m out. refl; ends = AllWithin-none (EndsAs cursor c c) found 0; same = λ k z low high. (refl, refl) }))
 
--- where it was not, the removal is
+-- if it was not, the removal finishes it
 pub removed_finishes : (cursor : ℕ) (l : Left) → cursor ≤ l.before → l.staging.now ≢ l.path.now → (old new : DiskState) → old.is_named l.staging.now
     → ChangesAt (ThisPath l.staging.now) (ThisPath l.staging.now) (ThisPath l.staging.now) (ChangesFile old l.staging.now TornRemoval) old new → LeavesOnly old new (OneStepOn (Finishes cursor l) old)
 removed_finishes cursor l le other old new named call =

@@ -8,7 +8,7 @@ use Rattle.disk_io.specs.Steps.{IsWrittenAt}
 use Rattle.disk_atomic.specs.Changes.{IsGrowing}
 use Rattle.disk_atomic.proofs.Whole.{some_is_there}
 
--- bytes behind bytes
+-- bytes followed by bytes
 pub are_both : (a b : List ℕ) → AreBytes a → AreBytes b → (i : ℕ) → slice_index (a ++ b) i < 256
 are_both [] b one two i = two i
 are_both (x ∷ a) b one two zero = one zero

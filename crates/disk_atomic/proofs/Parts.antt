@@ -59,7 +59,7 @@ all_on_disk disk path there named flushed = record { seen = file_of_bytes (disk.
 pub on_disk_as : (disk : DiskState) (path bytes : List ℕ) → HasOnDisk disk path (bytes_in (disk.seen path)) → bytes_in (disk.seen path) ≡ bytes → HasOnDisk disk path bytes
 on_disk_as disk path bytes has is = record { seen = has.seen ∙ ap (λ l. Some l) is; named = has.named; flushed = has.flushed }
 
--- a part of a file stays where the file does
+-- an unchanged file keeps its parts
 pub part_still : (d e : DiskState) (path : List ℕ) (from to : ℕ) → e.seen path ≡ d.seen path → (e.is_honest → d.is_honest) → HasPart d path from to → HasPart e path from to
 part_still d e path from to same since part = record {
   there = λ honest. subst (λ (f : Option (List ℕ)). IsSome f) (sym same) (part.there (since honest));

@@ -21,12 +21,12 @@ written_whole before after bytes empty there written =
 pub some_is_there : (file : Option (List ℕ)) (bytes : List ℕ) → file ≡ Some bytes → IsSome file
 some_is_there file bytes is = subst (λ f. IsSome f) (sym is) refl
 
--- no file, where a test for one failed
+-- no file, since a test for one failed
 pub not_there : (file : Option (List ℕ)) (found : Bool) → (IsTrue found ↔ IsSome file) → found ≡ false → file ≡ None
 not_there None found tests is = refl
 not_there (Some bytes) found tests is = let yes : found ≡ true = tests.1 refl in absurd (cc (yes, is))
 
--- a file, where a test for none failed
+-- a file, since a test for its absence failed
 pub there_unless : (file : Option (List ℕ)) (free : Bool) → (IsTrue free ↔ (file ≡ None)) → free ≡ false → IsSome file
 there_unless None free tests is = let yes : free ≡ true = tests.1 refl in absurd (cc (yes, is))
 there_unless (Some bytes) free tests is = refl
@@ -36,7 +36,7 @@ none_is_not_there file none some =
     let nothing : IsSome {T = List ℕ} None = subst (λ (f : Option (List ℕ)). IsSome f) none some in
     absurd (cc nothing)
 
--- two files that are there are the same where their bytes are
+-- two existing files are the same if their bytes are
 pub same_files : (one other : Option (List ℕ)) (first second : List ℕ) (same : Bool) → IsSome one → IsSome other → first ≡ bytes_in one → second ≡ bytes_in other
     → same ≡ bytes_eq first second → (same ≡ true) ↔ (one ≡ other)
 same_files one other first second same here there is_one is_other tests =

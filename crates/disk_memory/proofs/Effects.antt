@@ -88,7 +88,7 @@ step_crash s x p R keeps seen kept c left = (
 abbrev pub Effect : List ℕ → (Option (List ℕ) → Option (List ℕ) → Type 0) → (List ℕ → Type 0) → (List ℕ → Type 0) → DiskState → DiskState → Type 0
 Effect p R unnamed shared old new = ChangesAt (ThisPath p) unnamed shared (ChangesFile old p R) old new
 
--- where it failed
+-- the effect of a failed call
 pub no_effect : (s : List Step) (p : List ℕ) (R : Option (List ℕ) → Option (List ℕ) → Type 0) (unnamed shared : List ℕ → Type 0) → ((f : Option (List ℕ)) → R f f)
     → Effect p R unnamed shared (disk_after s) (disk_after s)
 no_effect s p R unnamed shared none = record {

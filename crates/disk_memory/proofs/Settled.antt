@@ -36,7 +36,7 @@ or_left false b is = absurd cc
 apart : (a b : List ℕ) → bytes_eq a b ≡ false → bytes_eq b a ≡ false
 apart a b is = false_from_ne_true (bytes_eq b a) (λ same. let no : bytes_eq a b ≡ true = (bytes_eq-Decides a b).1 (sym ((bytes_eq-Decides b a).0 same)) in cc)
 
--- where one of two has no name, it is the other
+-- if one of two is not named, the named one is the other
 other_named : (b : Bool) (x y : Shown) → x.named ≡ false → (cond b x y).named ≡ true → (b ≡ false) × (y.named ≡ true)
 other_named true x y none is = absurd (let no = sym none ∙ is in cc)
 other_named false x y none is = (refl, is)

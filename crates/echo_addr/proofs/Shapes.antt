@@ -36,7 +36,7 @@ count_of_none p [] none = refl
 count_of_none p (y ∷ s) none =
     sum_by-cons (λ b. cond (p b) 1 0) y s ∙ ap (λ t. cond t 1 0 + count_by p s) none.0 ∙ ap (λ n. 0 + n) (count_of_none p s none.1)
 
--- one passes, and none around it
+-- exactly one element passes
 pub count_of_one : (p : ℕ → Bool) (s : List ℕ) (x : ℕ) (r : List ℕ) → NonePass p s → p x ≡ true → NonePass p r → count_by p (s ++ x ∷ r) ≡ 1
 count_of_one p s x r before passes after =
     let front = count_of_none p s before in

@@ -9,7 +9,7 @@ use Rattle.std.proofs.lemmas.Bool.{lt-ltb, cond-true}
 use Rattle.echo_addr.specs.Address.{is_slash}
 use Rattle.echo_addr.specs.Entries.{is_blank, tokens}
 
--- a byte where no list is cut
+-- a byte that is no blank
 abbrev pub IsInk : ℕ → Type 0
 IsInk b = is_blank b ≡ false
 

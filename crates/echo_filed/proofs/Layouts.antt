@@ -190,7 +190,7 @@ nothing_field = record {
   any_fits = refl;
 }
 
--- so many of the bytes, where there are as many
+-- this many bytes from the front, if there are as many
 abbrev front_of : ℕ → List ℕ → Option (List ℕ × List ℕ)
 front_of n bytes = cond (nat_lt (length bytes) n) None (Some (take n bytes, drop n bytes))
 

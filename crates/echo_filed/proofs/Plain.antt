@@ -82,7 +82,7 @@ no_zero (b ∷ bytes) h =
     let parts = or_parts (is_zero b) (list_any is_zero bytes) h in
     (eqb-false b 0 parts.0, no_zero bytes parts.1)
 
--- bytes of which none is 00
+-- bytes without a 00
 pub some_bytes : (bytes : List ℕ) → list_any is_zero bytes ≡ false → HasNoZero bytes
 some_bytes bytes h = All-from_recursion (λ b. b ≢ 0) bytes (no_zero bytes h)
 

@@ -57,7 +57,7 @@ link_found sorted more links a updates same b =
 abbrev has_tag : List ℕ → Area → Bool
 has_tag tag area = bytes_eq area.tag tag
 
--- a number is found just where there is such an area
+-- a number is found exactly if there is such an area
 number_is : (areas : List Area) (tag : List ℕ) (found : Option ℕ) → IsNumberOf areas tag found → is_some found ≡ is_some (find (has_tag tag) areas)
 number_is areas tag None is = sym (ap is_some is)
 number_is [] tag (Some i) is = absurd (omega (arith, is.0))
@@ -90,7 +90,7 @@ module _ {K : Type 0} (tag_of : K → List ℕ) where
     pub area_found : is_some (lookup (is_key tag) es) ≡ is_some (find (has_tag tag) areas)
     area_found = number_is areas tag (lookup (is_key tag) es) (leads tag)
 
-    -- none has it
+    -- no area has the tag
     pub no_area : lookup (is_key tag) es ≡ None → find (has_tag tag) areas ≡ None
     no_area e = subst (IsNumberOf areas tag) e (leads tag)
 

@@ -36,7 +36,7 @@ word_read word (Err f) ok err =
 ended_first : (piece : List ℕ) (pieces : List (List ℕ)) → HasFirst pieces → ended_pieces (piece ∷ pieces) ≡ without_return piece ∷ ended_pieces pieces
 ended_first piece pieces h = ap (λ ps. ended_pieces (piece ∷ ps)) h.is ∙ ap (λ ps. without_return piece ∷ ended_pieces ps) (sym h.is)
 
--- the first line, where it has an end, and those after it
+-- the first line, if it has an end, and the later lines
 pub line_ended : (bytes line rest : List ℕ) (end : ℕ) → IsFirstByte (is_byte 10) bytes (Some end) → line ≡ without_return (take end bytes)
     → rest ≡ drop (end + 1) bytes → file_lines bytes ≡ line ∷ file_lines rest
 unfolding file_lines

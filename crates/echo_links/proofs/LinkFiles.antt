@@ -38,7 +38,7 @@ one_address [] h = absurd (true≢false (sym h))
 one_address (word ∷ []) h = address_read word h
 one_address (word ∷ (next ∷ more)) h = absurd (true≢false (sym h))
 
--- a chain of refusals of which none applies
+-- a chain of refusals that do not apply
 pub passed : {F : Type 0} (b : Bool) (f : F) (rest : Option F) → cond b (Some f) rest ≡ None → (b ≡ false) × (rest ≡ None)
 passed true f rest h = absurd (cc)
 passed false f rest h = (refl, h)
@@ -53,7 +53,7 @@ either_none : {F : Type 0} (a b : Option F) → option_or a b ≡ None → (a �
 either_none None b h = (refl, h)
 either_none (Some f) b h = absurd (cc)
 
--- the links of a line: each in range, and none the same as one before
+-- the links of a line: each in range, and different from the earlier ones
 links_read : (number : ℕ) (before words : List (List ℕ)) → links_fault number before words ≡ None → AllByRecursion IsAddress (map address_in words)
 links_read number before [] h = tt
 links_read number before (word ∷ more) h =

@@ -162,7 +162,7 @@ knows_more earlier line old new knows adds = record {
 
 -- ---- all lines
 
--- so many lines were read of the bytes, and these bytes are left
+-- the reader has read `number` lines, and `rest` has the remaining bytes
 pub record LinesRead (bytes : List ℕ) (number : ℕ) (rest : List ℕ) (r : Reading) : Type 0 where
   pub earlier : List (List ℕ)
   pub knows : Knows earlier r

@@ -84,7 +84,7 @@ crc_two bytes a b rest =
 
 -- ---- eight bytes
 
--- the checksum of a byte with so many bytes 00 after it
+-- the checksum of a byte followed by this many bytes 00
 abbrev pub entry : ℕ → ℕ → ℕ
 entry zeros byte = crc (byte ∷ replicate zeros 0)
 

@@ -51,7 +51,7 @@ unfolding lines_of
 lines_split text piece rest cut =
     ap (λ ps. map (strip_last 13) (without_empty_last ps)) cut ∙ ap (map (strip_last 13)) (ended_piece is_feed piece rest)
 
--- the first line, where it has an end, and those after it
+-- the first line, if it has an end, and the later lines
 pub lines_cut : (text line piece rest : List ℕ) → position_or_len is_feed text < length text → piece ≡ before_first is_feed text → rest ≡ after_first is_feed text
     → line ≡ strip_last 13 piece → lines_of text ≡ line ∷ lines_of rest
 lines_cut text line piece rest found before after last =

@@ -87,7 +87,7 @@ number-other limits given start a b ns fits size took not_two not_none =
     (λ r. let front = number_at-front ns r size in at_number limits given start start (ns ++ r) IsOtherNumber fits refl
     (refl, omega (arith, length-append ns r), λ e. not_two (sym front ∙ e), λ e. not_none (sym front ∙ e)))
 
--- a message begins that is one too many
+-- one message too many begins
 pub number-many : (limits : Limits) (given start : ℕ) (a b : Option (List ℕ)) (ns : List ℕ) → start < 2 ^ 64 → length ns ≡ 2 → Consumes a b ns
     → number_at 0 ns ≡ 2 → given ≡ limits.messages → IfSome a (λ bs. NextFault limits given start bs (fault.TooManyMessages start))
 number-many limits given start a b ns fits size took two many =

@@ -17,7 +17,7 @@ push x (Got s r) = Got (x ∷ s) r
 push x Cut = Cut
 push x Long = Long
 
--- a string of at most so many bytes
+-- a string of at most this many bytes
 pub string : ℕ → List ℕ → FieldRead
 string zero [] = Cut
 string zero (x ∷ xs) = cond (x == 0) (Got [] xs) Long

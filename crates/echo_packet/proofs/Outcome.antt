@@ -37,7 +37,7 @@ go_on (Whole m r) next = put m (next r)
 go_on (End r) next = Ends [] r
 go_on (Wrong f r) next = Stops f r
 
--- at most so many messages and the terminator
+-- at most this many messages and the terminator
 run : ℕ → Limits → ℕ → List ℕ → Ending
 run zero limits given r = Ends [] r
 run (suc k) limits given r = go_on (verdict limits given r) (λ rest. run k limits (given + 1) rest)

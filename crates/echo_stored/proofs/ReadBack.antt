@@ -34,7 +34,7 @@ padded_back size name short h =
     let more : suc k ≡ size - length name = omega arith in
     subst (λ (n : ℕ). until_zero (name ++ replicate n 0) ≡ name) more (before_zero name (replicate k 0) h)
 
--- the field behind some bytes
+-- the field after some bytes
 field_back : (front name rest : List ℕ) (place size : ℕ) → length front ≡ place → length name < size → HasNoZero name
     → field_at place size (front ++ (padded size name ++ rest)) ≡ name
 field_back front name rest place size behind_front short h =

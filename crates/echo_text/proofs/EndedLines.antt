@@ -162,7 +162,7 @@ kept_text p none first text body tail n f t =
     (pieces_append (lines body) (filter p (lines tail)) (pieces_of_lines body)
     (recursion_from_All IsPiece (filter p (lines tail)) (All-filter p IsPiece (lines tail) (All-from_recursion IsPiece (lines tail) (pieces_of_lines tail)))))
 
--- such bytes are the same where their lines are
+-- such bytes are equal if their lines are
 same_test : (a b : Bool) → (a ≡ true → b ≡ true) → (b ≡ true → a ≡ true) → a ≡ b
 same_test true b there back = sym (there refl)
 same_test false false there back = refl

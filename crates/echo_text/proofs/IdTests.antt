@@ -1,4 +1,4 @@
--- The test of an id holds exactly where the bytes are the parts of one.
+-- The test of an id passes exactly if the bytes are the parts of one.
 use Rattle.std.proofs.Common.{◌≡◌, ◌≢◌, ℕ, ◌+◌, ◌-◌, ◌<◌, ◌≤◌, ◌==◌, ◌||◌, ◌&&◌, not, nat_lt, Bool, true, false, List, [], ◌∷◌, ◌++◌, length, get_or, take, drop, reverse, refl, sym, ap, subst, ◌∙◌, arith}
 use Rattle.std.specs.List.{AllPass, list_all, suffix_len}
 use Rattle.std.specs.Str.Parse.{AllDigits, digits_value}

@@ -66,7 +66,7 @@ origin_outside line h =
     ap (λ x. (starts_with nat_eq x seen_prefix || starts_with nat_eq x control_word) || is_blank_line line) is
     ∙ no_blank_line line (32 ∷ (42 ∷ two.rest)) is refl
 
--- a kind of lines of which none is dropped from a tail
+-- a kind of lines that a tail never loses
 module _ (p : List ℕ → Bool) (stays : (line : List ℕ) → p line ≡ true → is_tail_line line ≡ true → is_kept_control line ≡ true) where
   of_tail : (lines : List (List ℕ)) → all_tail lines ≡ true → filter p (filter is_kept_control lines) ≡ filter p lines
   of_tail [] all = refl

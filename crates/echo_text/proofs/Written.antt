@@ -43,7 +43,7 @@ prefixed_pieces prefix piece (rest ∷ more) bytes = (
   prefixed_pieces prefix piece more bytes.1,
 )
 
--- all lines with the prefix pass, or none does
+-- all lines with the prefix pass, or all fail
 all_prefixed : (p : List ℕ → Bool) (prefix : List ℕ) → ((rest : List ℕ) → p (prefix ++ rest) ≡ true) → (rests : List (List ℕ))
     → list_all p (prefixed prefix rests) ≡ true
 all_prefixed p prefix passes [] = refl
@@ -69,7 +69,7 @@ after_prefixed prefix after [] = refl
 after_prefixed prefix after (rest ∷ more) =
     ap (λ r. r ∷ map (after_word prefix) (prefixed prefix more)) (after rest) ∙ ap (λ rs. rest ∷ rs) (after_prefixed prefix after more)
 
--- tail lines of which none is shed
+-- tail lines without a shed one
 record IsKeptEnding (ending : List (List ℕ)) : Type 0 where
   kept : filter is_kept_control ending ≡ ending
   no_seen : filter is_seen ending ≡ []

@@ -72,7 +72,7 @@ begun limits sender file old first before tally failed ready none =
       later = omega arith;
     }
 
--- so many messages were counted
+-- the count is the number of messages
 counted_same : (limits : Limits) (sender : Address) (s t : SystemState) (before left : Option (List ℕ)) (given at : ℕ) (tried tally : Tally) (failed still : ℕ) → HasGone limits sender s before left given at tried t failed still
     → all_counted tally ≡ given → all_counted tried ≡ all_counted tally
 counted_same limits sender s t before left given at tried tally failed still gone counted =
@@ -90,7 +90,7 @@ read_faulty limits sender file base before left after given at tally f failed st
   count = counted_same limits sender (state_in file base) (state_in file next) before left given at tried tally failed still gone counted;
 }
 
--- where the store failed the messages before were read
+-- if the store failed, the reader had read the earlier messages
 pub read_so_far : {A : Type 0} (limits : Limits) (sender : Address) (file : LinkFile) (base : Base) (before left after : Option (List ℕ)) (given at : ℕ) (tally : Tally) (failed still : ℕ)
     → (tried : Tally) × (next : Base) × HasGone limits sender (state_in file base) before left given at tried (state_in file next) failed still → all_counted tally ≡ given
     → ReadsMessages {A = A} limits sender file base before after (all_counted tally) (Err stop.Memory)

@@ -19,7 +19,7 @@ one_header h k r s is are same = (
   sym (drop_at (header_bytes h) r 58 (length-header_bytes h is)) ∙ ap (drop 58) same ∙ drop_at (header_bytes k) s 58 (length-header_bytes k are),
 )
 
--- bytes that begin with a header can be read, where the device does not fail
+-- bytes that begin with a header open, unless the device fails
 pub opens : (h : Header) (rest : List ℕ) (f : PacketFault) → IsHeader h → ((at : ℕ) → f ≢ fault.Read at) → FrontFault (header_bytes h ++ rest) f → ⊥
 opens h rest (fault.Truncated at) is alive wrong =
     let short = wrong.1 in omega (arith, length-append (header_bytes h) rest, length-header_bytes h is)

@@ -77,7 +77,7 @@ in_found x (y ∷ ys) h = elim h [
   | inr later ↦ or_right (same_address x y) (list_any (same_address x) ys) (in_found x ys later)
 ]
 
--- an address is among those of a list just where it is in their set
+-- an address is in a list exactly if it is in its set
 pub among_set : (x : Address) (all : List Address) → list_any (same_address x) (address_set all) ≡ list_any (same_address x) all
 unfolding address_set
 among_set x all = elim (cases_Bool (list_any (same_address x) all)) [

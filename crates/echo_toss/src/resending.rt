@@ -33,8 +33,8 @@ pub struct Resend<'a> {
     pub stamp: Stamp,
 }
 
-/// Makes a packet again. It has the copy that a scan exports of each scanned message of the area from the number on,
-/// if that is not purged and has the address among its targets. The store is only looked at.
+/// Makes a packet again. It has the copies, as scans export them, of scanned messages of the area from the number on.
+/// They are all that are not purged and have the address among their targets. The store is only looked at.
 pub fn resend_in<T: Store>(
     alloc: Global,
     links: &LinkFile,
