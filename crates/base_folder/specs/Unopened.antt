@@ -20,8 +20,7 @@ pub record HasOpened (keyed : ℕ → ℕ → List ℕ → ℕ) (disk : DiskStat
   pub held : HoldsBase keyed (held_by disk folder) base
   pub committed : HoldsBase keyed (committed_by disk folder) base
 
--- A run that opens a folder: a crash leaves the same base, or files that it might have left before. Everything outside
--- is unchanged.
+-- Opening a folder: a crash leaves the same base, or files that it might have left before. The rest of the disk is unchanged.
 pub record OpensOnly (path : List ℕ) (old new : DiskState) : Type 0 where
   pub any_moment : Honestly new ((keyed : ℕ → ℕ → List ℕ → ℕ) (base : Base) → StandsForBase keyed path base old.seen → LeavesOnly old new (StandsForBaseOrWasLeft keyed path old base))
   pub outside : KeepsOutside path old new

@@ -52,7 +52,7 @@ pub record IsCutShort (strange : Bool) (path : List ℕ) (files : Files) (n : �
   pub broken : IsBroken path files
   pub whole : AreWhole (take end.told.keys (bytes_in (files (keys_of path end.told.number)))) end.told.messages (length (bytes_in (files (messages_of path end.told.number)))) n
 
--- The folder has none of these faults.
+-- The folder has no such fault.
 pub record IsSound (strange : Bool) (path : List ℕ) (files : Files) : Type 0 where
   pub folder : IsNoFolder strange path files → ⊥
   pub whole : (n : ℕ) → IsCutShort strange path files n → ⊥

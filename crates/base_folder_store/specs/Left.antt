@@ -74,8 +74,7 @@ pub record IsStagedFew (before after : DiskState) (old new : Folder) (bytes : Li
   pub staged : held_by after new ≡ with_stored (held_by before old) bytes digest
   pub fits : length (held_by after new).messages < 2 ^ 64
 
--- A failure of the device is reported only if its count rose. On an honest disk, damage is reported only if these bytes
--- hold no base.
+-- A device failure is reported only if its count rose. On an honest disk, damage is reported only if the bytes hold no base.
 pub record HasPurgeCause {T : Type 0} (disk : DiskState) (bytes : BaseBytes) (before now : ℕ) (result : Result T StoreError) : Type 0 where
   pub later : before ≤ now
   pub failed : IsErrOf result error.Device → Failed before now
