@@ -1,13 +1,13 @@
 -- The packets of a scan before and after some of its messages.
-use Rattle.std.proofs.Common.{◌≡◌, ◌∙◌, ⊎_elim, ◌⊎◌, ◌+◌, Bool, true, false, List, [], ◌∷◌, ◌++◌, map, length, inl, inr, refl, subst, sym, ap, arith}
+use Rattle.std.proofs.Common.{◌≡◌, ◌∙◌, ◌+◌, Bool, true, false, List, [], ◌∷◌, ◌++◌, map, length, inl, inr, refl, sym, ap, arith}
 use Rattle.std.specs.Prelude.{filter, not}
-use Rattle.std.proofs.lemmas.Bool.{cases_Bool, lt-ltb, ltb-true, not-true}
+use Rattle.std.proofs.lemmas.Bool.{lt-ltb, ltb-true, not-true}
 use Rattle.echo_addr.specs.declared.address.Address.{Address}
 use Rattle.echo_filed.proofs.Choices.{IsIn}
 use Rattle.echo_toss.specs.declared.counting.CountedPacket.{CountedPacket}
 use Rattle.echo_toss.specs.Counts.{begun_with, copies_out, counted_to, counted_with, has_messages}
 use Rattle.echo_toss.specs.Exports.{Outgoing}
-use Rattle.echo_toss.proofs.Counts.{filter_in, in_filter, more_in}
+use Rattle.echo_toss.proofs.Counts.{in_filter, more_in}
 
 -- a packet that has messages has some with more of them
 pub has_with : (more : List Outgoing) (p : CountedPacket) → has_messages p ≡ true → has_messages (counted_with more p) ≡ true

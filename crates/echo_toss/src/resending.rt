@@ -2,7 +2,6 @@
 ghost use Rattle.std.specs.Prelude.{◌≡◌, [], ◌∷◌, ◌++◌, map, filter, OnOk};
 ghost use Rattle.model_steps.specs.Resending.{is_resent, is_whole_in};
 ghost use Rattle.model_steps.specs.Scanning.{copy_to};
-ghost use Rattle.echo_toss.specs.Exports.{copy_out, goes_out};
 
 use crate::outgoing::prepared;
 use crate::packing::push_copy;
