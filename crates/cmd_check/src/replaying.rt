@@ -1,5 +1,5 @@
 //! What `replay` answers.
-ghost use Rattle.std.specs.Prelude.{◌≡◌, ◌⊎◌, ℕ, List, None, Ok, IfErr, IfOk};
+ghost use Rattle.std.specs.Prelude.{◌⊎◌, ℕ, List, None, Ok, IfErr, IfOk};
 ghost use Rattle.cmd_status.specs.Devices.{output_of};
 ghost use Rattle.cmd_status.specs.Ended.{IsOutOfMemory};
 ghost use Rattle.cmd_status.specs.Inputs.{AreLinkFiles};

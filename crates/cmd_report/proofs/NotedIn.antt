@@ -7,7 +7,6 @@ use Rattle.echo_links.specs.Links.{LinkFile}
 use Rattle.echo_packet.specs.declared.limits.Limits.{Limits}
 use Rattle.base_store.specs.Store.{CommitsNothing, GoesOn, StoreState}
 use Rattle.base_store.proofs.Runs.{looks_commit, looks_go_on, no_look}
-use Rattle.model_steps.specs.Tossing.{tossing}
 use Rattle.echo_toss.specs.declared.tally.Tally.{Tally}
 use Rattle.echo_toss.specs.PacketsIn.{state_in}
 use Rattle.echo_toss.specs.Tallies.{all_counted, tally_of}

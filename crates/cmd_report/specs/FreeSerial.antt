@@ -4,7 +4,6 @@ use Rattle.std.specs.List.{list_any}
 use Rattle.echo_text.specs.Ids.{id_of}
 use Rattle.echo_filed.specs.Filed.{Filed, has_id}
 use Rattle.echo_links.specs.Links.{LinkFile}
-use Rattle.model_steps.specs.declared.fault.PostFault.TheVariants as post
 use Rattle.cmd_report.specs.declared.posting.NewMessage.{NewMessage}
 
 -- A message of the base has the id that the system gives with this serial.

@@ -22,7 +22,6 @@ use Rattle.cmd_store.specs.Answered.{AnswersOn, RefusesNone}
 use Rattle.cmd_store.specs.Scanned.{ArePlanned, IsScannedAt, ScansOn, files_made}
 use Rattle.cmd_store.specs.declared.command_error.CommandError.{CommandError}
 use Rattle.cmd_store.specs.declared.command_error.CommandError.TheVariants.{Met, Store}
-use Rattle.cmd_store.specs.Stops.{store_answer}
 
 -- ---- the counted packets are those of the scan
 

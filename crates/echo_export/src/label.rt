@@ -1,8 +1,8 @@
 //! The charset that a message names.
-ghost use Rattle.std.specs.Prelude.{◌≡◌, ◌≤◌, ◌==◌, not, length, drop, option_copied, take_while, reverse, MatchOption, IfOk, string_bytes};
+ghost use Rattle.std.specs.Prelude.{◌≡◌, ◌≤◌, ◌==◌, not, length, option_copied, take_while, reverse, IfOk, string_bytes};
 ghost use Rattle.echo_addr.specs.Entries.{is_blank};
 ghost use Rattle.echo_text.specs.Lines.{lines};
-ghost use Rattle.echo_export.specs.Label.{charset_for, charset_word, label_of, name_in, named_in, names_charset, text_as, without_zeros};
+ghost use Rattle.echo_export.specs.Label.{charset_for, label_of, name_in, text_as, without_zeros};
 
 use echo_addr::is_blank;
 use echo_charset::Charset;

@@ -11,7 +11,7 @@ ghost use Rattle.base_file.specs.Base.{Base};
 ghost use Rattle.base_store.specs.Store.{HasStoreCause, LooksOn};
 ghost use Rattle.model_steps.specs.Scanning.{exported, message_out, targets};
 ghost use Rattle.echo_toss.specs.Bounds.{IsFullWhenRead};
-ghost use Rattle.echo_toss.specs.Exports.{GrowsByMessageAt, has_some, nowhere, outgoing_of, sent_of};
+ghost use Rattle.echo_toss.specs.Exports.{GrowsByMessageAt, nowhere, outgoing_of, sent_of};
 
 use crate::sets::{address_set, entry_set};
 use base_store::{Store, StoreError};

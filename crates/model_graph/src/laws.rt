@@ -1,6 +1,6 @@
 //! Laws about the definitions. Each law is the contract of a function that does nothing.
 
-ghost use Rattle.std.specs.Prelude.{◌≡◌, ◌≢◌, ◌↔◌, ℕ, ◌<◌, Bool, IsTrue, List, ◌++◌, length, map, reverse};
+ghost use Rattle.std.specs.Prelude.{◌≢◌, ◌↔◌, ℕ, ◌<◌, Bool, IsTrue, List, ◌++◌, length, map, reverse};
 ghost use Rattle.model_graph.specs.Walk.{Simple, Walk, Reaches};
 ghost use Rattle.model_graph.specs.Cycle.{Cycle, IsCycle, NoCycle, Polygons};
 ghost use Rattle.model_graph.specs.Renaming.{IsRenaming};

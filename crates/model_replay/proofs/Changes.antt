@@ -10,7 +10,6 @@ use Rattle.model_steps.specs.declared.draft.Draft.{Draft}
 use Rattle.model_steps.specs.declared.stamp.Stamp.{Stamp}
 use Rattle.model_steps.specs.declared.fault.PostFault.{PostFault}
 use Rattle.model_steps.specs.declared.fault.PostFault.TheVariants as fault
-use Rattle.model_steps.specs.declared.fault.ScanFault.TheVariants as scan_fault
 use Rattle.model_steps.specs.declared.packet.Packet.{Packet}
 use Rattle.model_steps.specs.Posting.{IsPostFault, post_refusal, posted, posting}
 use Rattle.model_steps.specs.SystemState.{SystemState, state_with}

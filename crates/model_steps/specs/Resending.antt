@@ -1,18 +1,14 @@
 -- Packets made again from scanned messages.
-use Rattle.std.specs.Prelude.{◌≡◌, ℕ, ◌&&◌, not, Bool, true, false, List, map, filter, take, drop, bytes_eq, is_some, Result, Ok, Err}
+use Rattle.std.specs.Prelude.{ℕ, ◌&&◌, not, Bool, List, map, filter, take, drop, bytes_eq, is_some}
 use Rattle.echo_addr.specs.declared.address.Address.{Address}
 use Rattle.echo_packet.specs.Message.{Message}
 use Rattle.echo_text.specs.Echo.{msgid_of}
 use Rattle.echo_links.specs.Links.{LinkFile}
 use Rattle.echo_filed.specs.Filed.{Filed}
 use Rattle.echo_filed.specs.Stubs.{is_stub}
-use Rattle.model_steps.specs.declared.fault.ScanFault.{ScanFault}
-use Rattle.model_steps.specs.declared.fault.ScanFault.TheVariants as fault
 use Rattle.model_steps.specs.declared.packet.Packet.{Packet}
 use Rattle.model_steps.specs.declared.stamp.Stamp.{Stamp}
 use Rattle.model_steps.specs.Scanning.{copy_to, goes_to, header_to}
-use Rattle.model_steps.specs.Stamps.{is_stamp}
-use Rattle.model_steps.specs.SystemState.{SystemState}
 
 -- The message belongs to the area, and no purge removed its text.
 abbrev pub is_whole_in : List ℕ → Filed → Bool
@@ -36,9 +32,3 @@ resent_packet file stamp area to first base cursor = record {
   header = header_to file stamp to;
   messages = resent file area to first base cursor;
 }
-
--- The answer of a system to a request for such a packet. The system does not change.
-abbrev pub IsResent : SystemState → Stamp → List ℕ → Address → ℕ → Result Packet ScanFault → Type 0
-IsResent s stamp area to first (Ok packet) = (is_stamp stamp ≡ true) × (packet ≡ resent_packet s.file stamp area to first s.base s.cursor)
-IsResent s stamp area to first (Err fault.BadStamp) = is_stamp stamp ≡ false
-IsResent s stamp area to first (Err fault.Memory) = is_stamp stamp ≡ true

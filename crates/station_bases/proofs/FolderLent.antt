@@ -3,7 +3,6 @@ use Rattle.std.proofs.Common.{◌≡◌, ◌≢◌, ◌↔◌, ◌≤◌, ◌++�
 use Rattle.std.proofs.lemmas.List.{drop_at}
 use Rattle.std.specs.Prelude.{IsSome}
 use Rattle.echo_filed.specs.Filed.{Filed}
-use Rattle.base_file.specs.Base.{Base}
 use Rattle.disk_io.specs.Disk.{DiskState, Files, IsIn, bytes_in}
 use Rattle.disk_io.specs.Runs.{OneStepOn}
 use Rattle.disk_io.specs.Synced.{IsOnDisk}

@@ -1,5 +1,5 @@
 //! A base file of version 2 is opened: its messages are judged where they are, and their entries made.
-ghost use Rattle.std.specs.Prelude.{◌≡◌, ◌≤◌, ◌<◌, ◌+◌, ◌-◌, ◌/◌, ◌++◌, ◌||◌, ◌&&◌, ◌^◌, not, nat_lt, min, ℕ, [], List, true, false, length, drop, IfOk, IfSome, IsSome, OnErr, OnOk, Ok};
+ghost use Rattle.std.specs.Prelude.{◌≡◌, ◌≤◌, ◌<◌, ◌+◌, ◌-◌, ◌/◌, ◌++◌, ◌||◌, ◌&&◌, not, nat_lt, min, ℕ, [], List, true, false, length, drop, IfOk, IfSome, IsSome, OnErr, OnOk, Ok};
 ghost use Rattle.disk_io.specs.Disk.{Honestly, bytes_in};
 ghost use Rattle.disk_io.specs.Runs.{ChangesNothing, HasCause};
 ghost use Rattle.echo_filed.specs.Filed.{Filed};
@@ -8,7 +8,7 @@ ghost use Rattle.base_file.specs.Base.{Base, is_known};
 ghost use Rattle.base_file.specs.BaseFile.{LoadOf};
 ghost use Rattle.base_file.specs.Pieces.{BeginsWith};
 ghost use Rattle.base_store.specs.Keys.{digested_key, entry};
-ghost use Rattle.station_bases.specs.Entries.{AreEntriesOf, AreIndexed, CanLookUp, HoldEntries, IsWithinFile, entry_digest};
+ghost use Rattle.station_bases.specs.Entries.{AreEntriesOf, AreIndexed, CanLookUp, HoldEntries, entry_digest};
 ghost use Rattle.station_bases.specs.EntryOpening.{AreJudged, HasJudged, IsPartOf, IsSoundIn, StaysIndexed};
 
 use crate::entries::{Entries, HEAD};

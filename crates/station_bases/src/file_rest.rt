@@ -1,5 +1,5 @@
 //! What a store on a base file has but its disk.
-ghost use Rattle.std.specs.Prelude.{◌≡◌, ◌<◌, length, slice_get, IfOk, IsErrOf, OnErr, OnOk};
+ghost use Rattle.std.specs.Prelude.{◌≡◌, ◌<◌, length, slice_get, IfOk, IsErrOf, OnOk};
 ghost use Rattle.std.specs.List.{list_any};
 ghost use Rattle.disk_io.specs.Disk.{Honestly};
 ghost use Rattle.disk_io.specs.Runs.{ChangesNothing};
