@@ -1,4 +1,4 @@
--- What is found in blocks, and the loops of all links in turn.
+-- The findings in blocks, and the loops of all links in turn.
 use Rattle.std.proofs.Common.{◌≡◌, ◌+◌, ◌<◌, ◌≤◌, ◌&&◌, ◌⊎◌, ◌↔◌, ◌++◌, ℕ, zero, suc, Bool, true, IsTrue, Option, Some, None, List, [], ◌∷◌, length, map, get_or, refl, sym, ap, ◌∙◌, subst, arith, inl, inr}
 use Rattle.std.specs.Prelude.{Contains}
 use Rattle.std.proofs.lemmas.Bool.{cases_eq, cases_lt}
@@ -141,7 +141,7 @@ block_within members block top one_top b a k lt_b lt_a of =
       | inr above ↦ omega (arith, (one_top b lt_b).0, above.1)
     ]
 
--- the first pinch of a block is what was found in it
+-- the first pinch of a block is the finding in it
 pub first_is_found : (rows : List (List ℕ)) (graph : IsGraph rows) (block top rank : ℕ → ℕ) (are : AreBlocks (linked rows) (length rows) block top rank) (loops : List (Option BlockLoop)) →
     AreFoundIn (linked rows) (length rows) block top loops → (at one c k : ℕ) → IsBlockOfLink block top at one k → k < length rows → FirstInBlock (linked rows) at one c →
     (l : BlockLoop) × (get_or loops k None ≡ Some l) × (l.at ≡ at) × (l.one ≡ one)

@@ -9,7 +9,7 @@ use Rattle.model_graph.specs.Blocks.{IsLastBefore}
 use Rattle.model_graph.specs.Rows.{IsAscending}
 use Rattle.model_graph.proofs.PartStarts.{push_ascending}
 
--- what was found so far, from the last member down to the bound, and the next
+-- the findings so far, from the last member down to the bound, and the next
 pub record Walked (block : ℕ → ℕ) (k members : ℕ) (found : List ℕ) (next : Option ℕ) : Type 0 where
   pub bound : ℕ
   pub within : bound ≤ members
@@ -212,7 +212,7 @@ module _ (members : List ℕ) (up : IsAscending members) (top i x : ℕ) (inside
       ])
       true (λ h. h) (λ h. inl refl) (λ e. absurd cc) (λ e. absurd cc) (λ e. omega (arith, above))
 
-  -- one member more, by what was tested
+  -- one member more, by the result of its test
   pub TopAdded-step : (added after : Bool) (names now : List ℕ) → TopAdded members top i added names →
       ((added ≡ false) × (top < x) × (now ≡ names ++ top ∷ [])) ⊎ (((added ≡ true) ⊎ (x ≤ top)) × (now ≡ names)) →
       ((top ≤ x) × (after ≡ true)) ⊎ ((x < top) × (after ≡ added)) → TopAdded members top (i + 1) after (now ++ x ∷ [])

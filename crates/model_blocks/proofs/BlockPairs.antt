@@ -26,7 +26,7 @@ module _ (links : ℕ → ℕ → Bool) where
     | inr e ↦ inr (ends_at z a y d c at_y (subst (λ (v : ℕ). Around links z v y) e around))
   ]
 
-  -- what is no member is on no walk
+  -- a walk between members passes members only
   module _ (members : ℕ) (within : (a b : ℕ) → IsTrue (links a b) → b < members) where
     pub on_walk : (x : ℕ) (rest : List ℕ) (y : ℕ) → Walk links x rest y → x < members → (v : ℕ) → Among v (x ∷ rest) → v < members
     on_walk x [] y walk lt v among = elim among [ inl e ↦ omega (arith, e) | inr none ↦ absurd none ]

@@ -146,7 +146,7 @@ RowsOf-more links names count rows row r up own =
           ];
     }
 
--- a number stands in a row where it is linked
+-- the row of i contains each link of i
 pub in_row : (rows : List (List ℕ)) (i j : ℕ) → IsTrue (linked rows i j) → Contains (links_at rows i) j
 in_row rows i j h = (let (k, lt, is) = place_of (links_at rows i) j h in (k, lt, get_or_default_zero (links_at rows i) k j lt ∙ is))
 

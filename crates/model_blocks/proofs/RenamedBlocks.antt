@@ -1,4 +1,4 @@
--- The loops of blocks of a graph whose members get other names, where the names keep the order.
+-- The loops of blocks, after a renaming that keeps the order of the members.
 use Rattle.std.proofs.Common.{inl, inr, sym, ap, subst, ◌∙◌, Bool, IsTrue, List, ◌∷◌, map}
 use Rattle.model_graph.specs.Walk.{Among, Simple}
 use Rattle.model_blocks.specs.BlockLoops.{AreInOneBlock, FirstInBlockBy, IsLoopOfBlockBy}

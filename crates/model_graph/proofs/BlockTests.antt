@@ -30,7 +30,7 @@ IsLastBefore-passed block k x (Some last) differ h = (
       ],
 )
 
--- what was found for the members before, and for one more
+-- the last members of each block, for the members before and for one more
 previous_more : (block : ℕ → ℕ) (members x : ℕ) (previous last : List (Option ℕ)) (found : Option ℕ) → LastMembers block members x previous last →
     (block x < members → IsLastBefore block (block x) x found) →
     (y : ℕ) → y < x + 1 → block y < members → IsLastBefore block (block y) y (get_or (previous ++ found ∷ []) y None)

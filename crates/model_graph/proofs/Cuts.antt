@@ -9,7 +9,7 @@ use Rattle.model_graph.proofs.Steps.{first_step}
 use Rattle.model_graph.proofs.Around.{Around-step, Around-trans, Around-sym, Beyond-from_no_around, no_around-from_Beyond}
 
 module _ {A : Type 0} (can : CanTell A) (linked : A → A → Bool) where
-  -- what lies beyond what lies beyond x lies beyond x
+  -- Beyond is transitive: what lies beyond y lies beyond x if y lies beyond x
   pub Beyond-trans : (x y f c : A) → Beyond linked y f c → Beyond linked x f y → Beyond linked x f c
   Beyond-trans x y f c beyond_y beyond_x rest w =
       let passes_y = beyond_y rest w in
@@ -116,7 +116,7 @@ module _ {A : Type 0} (can : CanTell A) (linked : A → A → Bool) (simple : Si
       λ none. elim (link_cases f y u c reaches to_u link other) [ inl joined ↦ absurd (none joined) | inr beyond ↦ beyond ],
     )
 
-    -- what holds of f, and of each member whose way it holds of, holds of all that reach f
+    -- a property of f spreads along the ways to all members that reach f
     pub along_ways : (f : A) (P : A → Type 0) → P f → ((y u : A) → y ≢ f → Reaches linked y f → IsWay linked f y u → P u → P y) →
         (y : A) → Reaches linked y f → P y
     along_ways f P start next y reaches = within (length reaches.0) y reaches.0 (omega arith) reaches.1

@@ -12,7 +12,7 @@ use Rattle.model_graph.proofs.Around.{Around-itself, Around-step, Around-trans, 
 pub levels_differ : {A : Type 0} (level : A → ℕ) (a b : A) → level a < level b → a ≢ b
 levels_differ level a b lt e = let same = ap level e in absurd (omega arith)
 
--- what is linked with no walk around b parted is linked
+-- if all links are parted, two links of b that a walk around b joins are linked
 pub linked_if_joined : {A : Type 0} (linked : A → A → Bool) → Parted linked → (b a c : A) → IsTrue (linked b a) → IsTrue (linked b c) →
     a ≢ c → Around linked b a c → IsTrue (linked a c)
 linked_if_joined linked parted b a c to_a to_c other around =

@@ -13,11 +13,11 @@ use Rattle.model_graph.proofs.Rows.{linked_within}
 use Rattle.model_graph.proofs.Visits.{level_cases}
 use Rattle.model_graph.proofs.PinchSearch.{Simple-from_graph}
 
--- the level as a number, 0 for what has none
+-- the level as a number; 0 without a level
 abbrev pub height : List (Option ℕ) → ℕ → ℕ
 height levels x = unwrap_or (level_of levels x) 0
 
--- the parent, or the member itself for what has none
+-- the parent, or the member itself if it has none
 abbrev pub parent_or_self : List (Option ℕ) → ℕ → ℕ
 parent_or_self parents x = unwrap_or (parent_of parents x) x
 
@@ -199,7 +199,7 @@ module _ (rows : List (List ℕ)) (levels parents : List (Option ℕ)) (graph : 
             (λ m e. none-some (suc m) (sym (no_level_past a past) ∙ e))
       ]
 
-  -- the parent of what is above level 0
+  -- the parent of a member above level 0
   parent_above : (a : ℕ) → 0 < height levels a → (p : ℕ) × (parent_of parents a ≡ Some p) × IsParentAt (linked rows) levels a (Some p)
   parent_above a high =
       elim (level_cases (parent_of parents a)) [
@@ -237,7 +237,7 @@ module _ (rows : List (List ℕ)) (levels parents : List (Option ℕ)) (graph : 
       let same : has.0 ≡ 0 = sym (height_at levels a has.0 has.1) ∙ low in
       has.1 ∙ ap Some same
 
-  -- what is no member has no links to walk along
+  -- a number past the members reaches only itself
   stays_past : (a b : ℕ) → length rows ≤ a → Reaches (linked rows) a b → a ≡ b
   stays_past a b past ([], same) = same
   stays_past a b past (c ∷ rest, walk) = let inside = linked_within rows a c walk.0 in absurd (omega arith)

@@ -25,7 +25,7 @@ pub row_place : (rows : List (List ℕ)) (at c : ℕ) (row : List ℕ) → row �
 row_place rows at c row is link =
     subst (λ (links : List ℕ). (k : ℕ) × (k < length links) × (get_or links k 0 ≡ c)) (sym is) (place_of (links_at rows at) c link)
 
--- what stands later in a row is not smaller
+-- items of a row ascend
 pub row_rises : (rows : List (List ℕ)) (at : ℕ) (row : List ℕ) → IsGraph rows → row ≡ links_at rows at → (i j : ℕ) → i < j → j < length row → get_or row i 0 < get_or row j 0
 row_rises rows at row graph is =
     subst (λ (links : List ℕ). (i j : ℕ) → i < j → j < length links → get_or links i 0 < get_or links j 0) (sym is) (graph.ascending at)

@@ -1,4 +1,4 @@
--- The named loop of a graph whose members get other names, where the names keep the order.
+-- The named loop of a graph, after a renaming that keeps the order of the members.
 use Rattle.std.proofs.Common.{◌≡◌, ◌-◌, ◌++◌, ◌⊎◌, inl, inr, refl, sym, ap, subst, ◌∙◌, arith, ℕ, zero, suc, Bool, IsTrue, List, [], ◌∷◌, length, map, take, drop, reverse}
 use Rattle.std.proofs.lemmas.List.{length-map, map-append, take-map, drop-map}
 use Rattle.model_graph.specs.Walk.{Simple, Among, IsAt, Walk}
@@ -18,7 +18,7 @@ map-reverse name (x ∷ xs) =
 map-turned : {A B : Type 0} (name : A → B) (k : ℕ) (xs : List A) → map name (turned k xs) ≡ turned k (map name xs)
 map-turned name k xs = map-append name (drop k xs) (take k xs) ∙ (ap (λ ys. ys ++ map name (take k xs)) (sym (drop-map name k xs)) ∙ ap (λ ys. drop k (map name xs) ++ ys) (sym (take-map name k xs)))
 
--- what stands in a list of names is the name of what stands there
+-- an item of a mapped list is the name of the item at the same index
 IsAt-map : {A B : Type 0} (name : A → B) (xs : List A) (i : ℕ) (y : B) → IsAt (map name xs) i y → (x : A) × IsAt xs i x × (name x ≡ y)
 IsAt-map name [] i y at = absurd (omega (arith, at.0))
 IsAt-map name (x ∷ xs) zero y at = (x, (omega arith, refl), at.1)

@@ -56,7 +56,7 @@ Among-turned x k ring among =
       | inr after ↦ Among-append_left x (drop k ring) (take k ring) after
     ]
 
--- what is written of a cycle is the cycle, with the same members
+-- the written form of a cycle is a cycle
 pub IsCycle-written : (links : ℕ → ℕ → Bool) → Simple links → (ring loop : List ℕ) → IsWritten ring loop → IsCycle links ring → IsCycle links loop
 IsCycle-written links simple ring loop written cycle =
     let round = IsCycle-begun_at links ring cycle written.goes_round.0 in
@@ -124,7 +124,7 @@ pub length-turned : (ring : List ℕ) (k : ℕ) → length (turned k ring) ≡ l
 length-turned ring k =
     length-append (drop k ring) (take k ring) ∙ (omega (arith, length-append (take k ring) (drop k ring), ap length (take-append-drop k ring)))
 
--- what stands at a place is read there
+-- the item at an index
 at_place : (xs : List ℕ) (i x : ℕ) → IsAt xs i x → get_or xs i 0 ≡ x
 at_place xs i x at = sym (get_or_default xs i x 0 at.0) ∙ at.1
 

@@ -29,7 +29,7 @@ linked_within rows a b h =
           absurd (false≢true (subst (λ (row : List ℕ). list_any (λ link. link == b) row ≡ true) (get_or_past rows a [] past) h))
     ]
 
--- what stands later in an ascending list is not smaller
+-- a later item of an ascending list is not smaller
 pub rising : (row : List ℕ) → IsAscending row → (i j : ℕ) → i ≤ j → j < length row → get_or row i 0 ≤ get_or row j 0
 rising row up i j le lt =
     elim (cases_eq i j) [

@@ -7,7 +7,7 @@ use Rattle.model_graph.proofs.Members.{Among-append_cases, Different-push}
 use Rattle.model_graph.proofs.Walks.{link_to, walk_append}
 use Rattle.model_graph.proofs.Cycles.{cycle_turned}
 
--- the first member of a list reversed stands last
+-- reversal puts the first member last
 pub reverse-cons : {A : Type 0} (x : A) (xs : List A) → reverse (x ∷ xs) ≡ reverse xs ++ x ∷ []
 reverse-cons x xs = reverse-append (x ∷ []) xs
 
