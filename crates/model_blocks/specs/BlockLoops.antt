@@ -23,8 +23,8 @@ pub record FirstInBlockBy {A : Type 0} (Before : A → A → Type 0) (linked : A
   pub first : (e d f : A) → IsPinchBy Before linked e d f → AreInOneBlock linked b a e d →
       Before b e ⊎ ((b ≡ e) × (Before a d ⊎ ((a ≡ d) × NotAfter Before c f)))
 
--- A cycle with two members that are not linked: the loop of the first pinch of its block, which has b and a, with the first
--- walk around it, as it is written.
+-- A cycle with two members that are not linked. It is the written form of the first pinch of the block of b and a, with the
+-- first walk around it.
 pub record IsLoopOfBlockBy {A : Type 0} (Before : A → A → Type 0) (linked : A → A → Bool) (b a : A) (loop : List A) : Type 0 where
   pub other : A
   pub rest : List A
@@ -34,7 +34,7 @@ pub record IsLoopOfBlockBy {A : Type 0} (Before : A → A → Type 0) (linked : 
   pub cycle : IsCycle linked loop
   pub unlinked : HasUnlinked linked loop
 
--- The same of numbers.
+-- The definitions above for numbers.
 abbrev pub FirstInBlock : (ℕ → ℕ → Bool) → ℕ → ℕ → ℕ → Type 0
 FirstInBlock linked b a c = FirstInBlockBy (λ x y. x < y) linked b a c
 
@@ -63,13 +63,13 @@ IsWhole linked members = (z x y : ℕ) → x < members → y < members → z ≢
 abbrev pub number_of : List ℕ → ℕ → ℕ
 number_of numbers member = slice_index numbers member
 
--- A member but the first has a link to a smaller number, one but `last` a link to a greater.
+-- Each member except the first has a link to a smaller number, and each except `last` one to a greater number.
 pub record IsBetween (linked : ℕ → ℕ → Bool) (members last : ℕ) (number : ℕ → ℕ) (x : ℕ) : Type 0 where
   pub bound : number x < members
   pub smaller : x ≢ 0 → (d : ℕ) × IsTrue (linked x d) × (number d < number x)
   pub greater : x ≢ last → (d : ℕ) × IsTrue (linked x d) × (number x < number d)
 
--- So has each, and the first is linked with `last`.
+-- Every member is so between others, and the first is linked with `last`.
 pub record AreNumbers (linked : ℕ → ℕ → Bool) (members last : ℕ) (number : ℕ → ℕ) : Type 0 where
   pub closed : IsTrue (linked 0 last)
   pub each : (x : ℕ) → x < members → IsBetween linked members last number x
@@ -78,7 +78,7 @@ pub record AreNumbers (linked : ℕ → ℕ → Bool) (members last : ℕ) (numb
 abbrev pub placed : List ℕ → (ℕ → ℕ → Bool) → ℕ → ℕ → Bool
 placed names linked i j = (nat_lt i (length names) && nat_lt j (length names)) && linked (slice_index names i) (slice_index names j)
 
--- Whether the block, or its top, has the member.
+-- The member is in the block, or is its top.
 abbrev pub InBlock : (ℕ → ℕ) → (ℕ → ℕ) → ℕ → ℕ → Type 0
 InBlock block top k v = (block v ≡ k) ⊎ (v ≡ top k)
 
@@ -90,7 +90,7 @@ HaveOneTop members block top = (x : ℕ) → x < members → (block x < members)
 abbrev pub AreWithin : (ℕ → ℕ) → (ℕ → ℕ) → ℕ → ℕ → ℕ → Type 0
 AreWithin block top k b a = InBlock block top k b × InBlock block top k a
 
--- What a block has: its first pinch with its loop, or no pinch.
+-- The finding in a block: its first pinch with its loop, or no pinch.
 abbrev pub IsFoundIn : (ℕ → ℕ → Bool) → (ℕ → ℕ) → (ℕ → ℕ) → ℕ → Option BlockLoop → Type 0
 IsFoundIn linked block top k None = (b a c : ℕ) → AreWithin block top k b a → ¬ IsPinchBy (λ x y. x < y) linked b a c
 IsFoundIn linked block top k (Some l) =
@@ -106,15 +106,15 @@ pub record AreFoundIn (linked : ℕ → ℕ → Bool) (members : ℕ) (block top
 abbrev pub BeginsEarlier : (ℕ → ℕ → Bool) → ℕ → ℕ → ℕ → ℕ → Type 0
 BeginsEarlier linked b a e d = IsBefore e d b a × ((f : ℕ) × IsPinch linked e d f) × AreInOneBlock linked b a e d
 
--- A link of this member does so.
+-- Member e has such an earlier link.
 abbrev pub HasEarlierAt : (ℕ → ℕ → Bool) → ℕ → ℕ → ℕ → Type 0
 HasEarlierAt linked b a e = (d : ℕ) × IsTrue (linked e d) × BeginsEarlier linked b a e d
 
--- A link of one of the first members does.
+-- A member below `upto` has such an earlier link.
 abbrev pub HasEarlier : (ℕ → ℕ → Bool) → ℕ → ℕ → ℕ → Type 0
 HasEarlier linked b a upto = (e : ℕ) × (e < upto) × HasEarlierAt linked b a e
 
--- What the loops are looked up in is known.
+-- The judge knows the blocks of the graph and the finding in each.
 abbrev pub CanJudge : (ℕ → ℕ → Bool) → ℕ → Judge → Type 0
 CanJudge linked members (ByBlock blocks loops) =
     AreBlocks linked members (block_of blocks) (top_of blocks) (rank_of blocks) × AreFoundIn linked members (block_of blocks) (top_of blocks) loops.items

@@ -2,7 +2,7 @@
 use Rattle.std.specs.Prelude.{◌≡◌, ◌≢◌, ◌+◌, ◌<◌, ◌≤◌, ◌⊎◌, ℕ, suc, Bool, IsTrue, Option, Some, None, List, length, slice_index}
 use Rattle.model_graph.specs.Levels.{level_of}
 
--- Around a member with a level each link, but the one that is left out, has a level at most one higher.
+-- Around a member with a level each link except the one left out has a level at most one higher.
 abbrev pub IsSettledFlood : (ℕ → ℕ → Bool) → ℕ → List (Option ℕ) → Type 0
 IsSettledFlood linked without levels =
     (a b m : ℕ) → level_of levels a ≡ Some m → IsTrue (linked a b) → b ≢ without → (n : ℕ) × (level_of levels b ≡ Some n) × (n ≤ m + 1)

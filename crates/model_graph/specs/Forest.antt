@@ -4,7 +4,7 @@ use Rattle.model_graph.specs.Walk.{Reaches}
 use Rattle.model_graph.specs.Levels.{level_of}
 use Rattle.model_graph.specs.Floods.{IsSettledFlood}
 
--- The members before `upto` have levels, which begin at one root for all that a walk joins, the first of them.
+-- The members before `upto` have levels. All that a walk joins have one root: the first of them.
 pub record IsForest (linked : ℕ → ℕ → Bool) (members upto : ℕ) (levels : List (Option ℕ)) : Type 0 where
   pub all : (a : ℕ) → a < upto → (m : ℕ) × (level_of levels a ≡ Some m)
   pub lower : (a m : ℕ) → level_of levels a ≡ Some (suc m) → (b : ℕ) × IsTrue (linked a b) × (level_of levels b ≡ Some m)

@@ -44,7 +44,7 @@ pub record NamedLoopBy {A : Type 0} (Before : A → A → Type 0) (linked : A �
   pub unlinked : HasUnlinked linked loop
   pub named : (ring : List A) × IsFirstRing Before linked ring × IsWrittenBy Before ring loop
 
--- The same of numbers.
+-- The definitions above for numbers.
 abbrev pub NoLater : List ℕ → List ℕ → Type 0
 NoLater xs ys = NoLaterBy (λ x y. x < y) xs ys
 

@@ -3,7 +3,7 @@ use Rattle.std.specs.Prelude.{◌≡◌, ◌≢◌, ◌==◌, ◌+◌, ◌<◌, 
 use Rattle.std.specs.List.{list_any}
 use Rattle.model_graph.specs.Levels.{level_of}
 
--- How many have no level yet.
+-- The number of members without a level.
 abbrev pub unlevelled : List (Option ℕ) → ℕ
 unlevelled [] = 0
 unlevelled (None ∷ levels) = unlevelled levels + 1

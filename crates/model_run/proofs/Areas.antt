@@ -75,7 +75,7 @@ pub map-map : {X Y Z : Type 0} (g : Y → Z) (f : X → Y) (xs : List X) → map
 map-map g f [] = refl
 map-map g f (x ∷ xs) = ap (λ (zs : List _). g (f x) ∷ zs) (map-map g f xs)
 
--- a link of an area is one of an area that is there
+-- a file with a link of an area has the area
 pub link-has_area : (file : LinkFile) (tag : List ℕ) (a : Address) → is_link file tag a ≡ true → has_area file tag ≡ true
 unfolding links_of
 link-has_area file tag a h = found (area_of file tag) h
@@ -140,6 +140,6 @@ module _ (laws : Laws) (files : List LinkFile) (tag : List ℕ) (tidy : files_ar
     area-carries s at_s h = any-to (λ file. same_address file.system (address_of s) && has_area file tag) s.file files (file-in s at_s)
         (and-from (same_address (address_of s) (address_of s)) (has_area s.file tag) (laws.addresses.full (address_of s) (address_of s) refl) h)
 
-    -- the systems have addresses of their own
+    -- no two systems have one address
     pub one-system : (s z : System) → Among s ss → Among z ss → address_of s ≡ address_of z → s ≡ z
     one-system = one_name address_of ss addresses_differ

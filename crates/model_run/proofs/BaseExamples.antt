@@ -1,4 +1,4 @@
--- Base files by computation: what is saved, what is read, and each fault.
+-- Base files by computation: saved bytes, reading them, and each fault.
 use Rattle.std.proofs.Common.{◌≡◌, ℕ, List, [], ◌∷◌, ◌++◌, ◌^◌, ◌<◌, refl, true, false, codes, length, lit<, lit≤, inl}
 use Rattle.std.specs.Fmt.{digits}
 use Rattle.echo_addr.specs.Entries.{entries, pair_of, tokens}
@@ -38,7 +38,7 @@ whole_bytes kind = fields_bytes kind ++ (small 78 ++ text_bytes)
 abbrev short_bytes : List ℕ
 short_bytes = fields_bytes 2 ++ (4 ∷ codes "TEST" ++ (small 15 ++ id_text))
 
--- what is saved: no message, the posting before the scan, the posting after the scan and a purge
+-- saved bytes: no message, the posting before the scan, the posting after the scan and a purge
 empty_base : saved_bytes [] 0 ≡ codes "ECHOBAS2" ++ (small 0 ++ small 0)
 unfolding saved_bytes head_bytes
 empty_base = refl
@@ -98,7 +98,7 @@ stored kind = stored_with kind 0 text_bytes
 abbrev stored_short : ℕ → Stored
 stored_short kind = record (stored kind) { tag = codes "TEST"; last = id_text }
 
--- its fields are of their sizes
+-- its fields fit their sizes
 pub size_with : (version : Version) (kind zone : ℕ) (last : List ℕ) → kind < 2 ^ 8 → zone < 2 ^ 16 → length last < 2 ^ 32
     → IsStored version (stored_with kind zone last)
 size_with version kind zone last small_kind small_zone short_last = record {

@@ -29,7 +29,7 @@ pub record IsKept (b h : Filed) : Type 0 where
 IsKept-itself : (m : Filed) → IsKept m m
 IsKept-itself m = record { form = inl refl; key = refl; sender = refl }
 
--- before the cursor each message of the base is kept; from there on the base is what was filed
+-- before the cursor the base keeps each filed message or its stub; from there on it equals the history
 abbrev pub Kept : ℕ → List Filed → List Filed → Type 0
 Kept zero base history = base ≡ history
 Kept (suc c) [] history = ⊥
@@ -80,7 +80,7 @@ Kept-count key (suc c) (b ∷ base) (h ∷ history) k =
     let P : Key → ℕ = λ own. if same_key own key then 1 else 0 in
     omega (arith, ap P k.0.key, Kept-count key c base history k.1)
 
--- what was filed has its key in the base
+-- the base has the key of each filed message
 pub Kept-in : (c : ℕ) (base history : List Filed) → Kept c base history → (h : Filed) → Among h history →
     (b : Filed) × Among b base × (key_of b ≡ key_of h)
 Kept-in zero base history k m i = (m, (let P : List Filed → Type 0 = λ ms. Among m ms in subst P (sym k) i), refl)
@@ -116,7 +116,7 @@ Kept-front (suc c) (b ∷ base) (h ∷ history) k m i =
       | inr t ↦ (let (n, j, e) = Kept-front c base history k.1 m t in (n, inr j, e))
     ]
 
--- what stands at one place of both
+-- messages at one index of base and history
 pub Kept-at : (c : ℕ) (base history : List Filed) → Kept c base history → (i : ℕ) (b h : Filed) →
     nth i base ≡ Some b → nth i history ≡ Some h → IsKept b h
 Kept-at zero base history k i b h e f =
@@ -183,7 +183,7 @@ module _ (laws : Laws) (s : System) (ok : SystemOk s) where
       let (b, i, e) = Kept-in s.cursor s.base s.history ok.kept has.0 has.1 in
       any-to (λ m. same_key (key_of m) key) b s.base i (laws.keys.full (key_of b) key (e ∙ has.2))
 
-  -- what is known the history has
+  -- the history has each key that the base knows
   pub known-in_history : (key : Key) → is_known s.base key ≡ true → HasKey key s.history
   known-in_history key known =
       let (b, i, t) = any-from (λ m. same_key (key_of m) key) s.base known in

@@ -36,7 +36,7 @@ body_lines : body_posting.echo.kept ≡ body_kept
 unfolding posted posted_lines id_of trimmed lines digits
 body_lines = refl
 
--- the id is that of the first MSGID line, and the SEEN-BY line keeps nobody out
+-- the id is that of the first MSGID line, and the SEEN-BY line of the body excludes no link
 body_id : msgid_of body_posting.echo.kept ≡ Some id_text
 unfolding posted posted_lines id_of trimmed lines digits msgid_of begins after_word
 body_id = refl

@@ -21,7 +21,7 @@ second-more own e g [] = refl
 second-more own e g (h ∷ []) = refl
 second-more own e g (h ∷ k ∷ path) = refl
 
--- the first system that the message went to from the poster: it stands second in PATH, or holds the message itself
+-- the first system after the poster on the message's way: the second entry of PATH, or the holder itself
 abbrev branch : Address → Filed → NetNode
 branch x m = second (net_node_of x) m.echo.path
 
@@ -31,7 +31,7 @@ module _ (linked : Address → Address → Bool) (Carrier : Address → Type 0) 
     (apart : (a b : Address) → Carrier a → Carrier b → net_node_of a ≡ net_node_of b → a ≡ b) where
   open spread use {posting}
 
-  -- what comes from a system other than the poster is of its branch
+  -- a message from a system other than the poster keeps its branch
   same_branch : (x : Address) (m : Filed) (c : Came linked Holds x m) → c.from ≢ f → branch x m ≡ branch c.from c.original
   same_branch x m c other =
       elim (source linked Carrier f Holds spread c.from c.original c.holds) [
@@ -54,7 +54,7 @@ module _ (linked : Address → Address → Bool) (Carrier : Address → Type 0) 
       let none : c.original.echo.path ≡ [] = ap (λ (n : Filed). n.echo.path) is_posting ∙ spread.no_path in
       ap (λ (es : List NetNode). second (net_node_of x) es) (c.path ∙ ap (λ (es : List NetNode). es ++ net_node_of c.from ∷ []) none)
 
-  -- whom a system sends the message is of its branch
+  -- a system other than the poster sends a message within its branch
   sent_on : (u : Address) (n : Filed) → Holds u n → u ≢ f → (y : Address) (k : Filed) → Holds y k → IsTrue (linked u y) →
       is_seen_by n y ≡ false → branch u n ≡ branch y k
   sent_on u n at_u u_other y k at_y link unseen =
@@ -67,7 +67,7 @@ module _ (linked : Address → Address → Bool) (Carrier : Address → Type 0) 
       let Q : Address → Type 0 = λ a. branch a c.original ≡ branch u c.original in
       sym (same_branch y k c (λ e. u_other (sym from ∙ e)) ∙ (subst Q (sym from) refl ∙ ap (λ (m : Filed). branch u m) same))
 
-  -- who stands in SEEN-BY is a link of the poster or of the branch
+  -- a system in SEEN-BY is a link of the poster, or belongs to the branch
   module _ (y : Address) (k : Filed) (at_y : Holds y k) (y_other : y ≢ f) where
     seen_side : (n : ℕ) (x : Address) (m : Filed) → length m.echo.path ≤ n → Holds x m → x ≢ f → is_seen_by m y ≡ true →
         IsTrue (linked f y) ⊎ (branch x m ≡ branch y k)
@@ -167,7 +167,7 @@ module _ (linked : Address → Address → Bool) (Carrier : Address → Type 0) 
     (known : (a b : Address) → IsTrue (linked a b) → Carrier b)
     (apart : (a b : Address) → Carrier a → Carrier b → net_node_of a ≡ net_node_of b → a ≡ b) (a : Address)
     (closed : (x y : Address) → IsTrue (linked f x) → IsTrue (linked f y) → IsTrue (linked x y) → Touches linked a x → Touches linked a y) where
-  -- a system of a branch whose first system is a, or a link of it
+  -- a system that holds a message of a branch; the branch begins with a or a link of a
   record IsClose (x : Address) : Type 0 where
     message : Filed
     holds : Holds x message

@@ -80,7 +80,7 @@ history-renewed tag run files same events history = record {
     scanned s z r = ap (λ (n : ℕ). take n z.history) r.cursor ∙ ap (λ (ms : List Filed). take s.cursor ms) r.history
 
 module _ (laws : Laws) (tag : List ℕ) where
-  -- a run of tidy files, and what has passed
+  -- a run of tidy files, and its past
   pub record Stands (files : List LinkFile) (run : Run) : Type 0 where
     pub tidy : Tidy files tag
     pub past : List REvent
@@ -181,7 +181,7 @@ module _ (laws : Laws) (tag : List ℕ) where
   abbrev pub IsNewKey : List REvent → Key → Type 0
   IsNewKey past k = (n : RFiled) → Among n (rules.filed past) → k ≢ n.text.key
 
-  -- what is owed of a posting: in the past just those got it who had the area (`was`), or it is new and just these have the area
+  -- a posting has its receivers: in the past exactly the systems with `was` got it, or it is new and exactly they have the area
   pub record Owed (was : Address → Type 0) (files : List LinkFile) (past : List REvent) (run : Run) (m : Filed) : Type 0 where
     pub posted : Posted run m
     pub due : Given was past (key_of m) ⊎ (IsNewKey past (key_of m) × ((a : Address) → was a → Carries files tag a) × ((a : Address) → Carries files tag a → was a))
@@ -226,7 +226,7 @@ module _ (laws : Laws) (tag : List ℕ) where
           p (recent-p new.0) a (λ c. without (new.2 a c))
     ]
 
-    -- what is owed stays so over a change and an epoch
+    -- a posting keeps its receivers over a change and an epoch
     pub owed-epoch : (epoch : Epoch) (change : Change files run epoch.files) → Owed was epoch.files (stands-epoch files run epoch st change).past (after_epoch run epoch) m
     unfolding entered stands-epoch
     owed-epoch epoch change = record {
@@ -255,7 +255,7 @@ module _ (laws : Laws) (tag : List ℕ) where
           )
         ]
 
-  -- what was posted in an epoch is owed to those who have the area in it
+  -- the receivers of a posting of an epoch are the systems with the area in it
   pub owed-begins : (files : List LinkFile) (begun : Run) (st : Stands files begun) (after : Run) (at : Standing files tag st.past after) → Outlives begun after → (before : Run) →
       ((z : System) → Among z begun.systems → (m : Filed) → Among m z.history → (s : System) × Among s before.systems × (address_of s ≡ address_of z) × Among m s.history) →
       (m : Filed) → PostedBetween tag before after m → Owed (Carries files tag) files st.past after m

@@ -1,4 +1,4 @@
--- What stands in the packets of a scan.
+-- The contents of the packets of a scan.
 use Rattle.std.proofs.Common.{◌≡◌, ◌≢◌, inl, inr, refl, sym, subst, ap, ◌∙◌, ℕ, List, [], ◌∷◌, ◌++◌, map, Option, Some, None}
 use Rattle.std.specs.Prelude.{Bool, true, false, filter, not, ◌&&◌, is_none, unwrap_or, option_map}
 use Rattle.std.specs.List.{flat_map}

@@ -73,7 +73,7 @@ module _ {K M : Type 0} (key : M → K) (same : K → K → Bool) (tells : Tells
         ]
       ]
 
-  -- a key that is there at most once names one message
+  -- a key that occurs at most once names one message
   pub count-names_one : (k : K) (ms : List M) → count key same k ms ≤ 1 → (a b : M) → Among a ms → Among b ms →
       key a ≡ k → key b ≡ k → a ≡ b
   count-names_one k [] h a b at_a at_b e q = absurd at_a

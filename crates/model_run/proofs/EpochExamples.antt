@@ -1,5 +1,5 @@
--- Nets whose link files change, by computation: one that stays in order, and for each premise of the law on
--- such nets a run that misses it and is not orderly.
+-- Nets with changing link files, by computation: one that stays in order, and for each premise of the law on such nets
+-- a run that misses it and is not orderly.
 use Rattle.std.proofs.Common.{◌≡◌, ℕ, List, [], ◌∷◌, refl, codes, map}
 use Rattle.std.specs.Prelude.{Bool, true, filter}
 use Rattle.std.specs.Fmt.{digits}
@@ -107,8 +107,8 @@ one_lists = file 1 (2 ∷ []) ∷ (file 2 [] ∷ (without 3 ∷ []))
 abbrev untidy_since : Run
 untidy_since = run_of_epochs (epoch pair [] ∷ (epoch one_lists (post 0 ∷ (scan 0 ∷ (Delivery 0 ∷ []))) ∷ []))
 
--- a system that begins anew with an empty base, at the address of one that moved to another address, and
--- that posts with a serial that was used there
+-- a system starts over with an empty base, at the address of one that moved to another address; it posts with a
+-- serial used there before
 abbrev anew : List LinkFile
 anew = without 9 ∷ (file 2 (1 ∷ []) ∷ (without 3 ∷ (file 1 (2 ∷ []) ∷ [])))
 
@@ -133,9 +133,9 @@ record Epochs : Type 0 where
   not_served : shown first on_its_way ≡ line (1 ∷ (0 ∷ (0 ∷ []))) (0 ∷ (1 ∷ (0 ∷ []))) true
   -- or one is sent a message twice
   sent_twice : sent_count (address 4) first sent_by_two.packets ≡ 2
-  -- a change to files that are not tidy: what comes is not filed
+  -- a change to files that are not tidy: the arriving message is not filed
   not_linked : shown first untidy_since ≡ line (1 ∷ (0 ∷ (0 ∷ []))) (0 ∷ (1 ∷ (0 ∷ []))) true
-  -- a system begun anew: its posting is taken for the old one, which 1:10/2 has
+  -- a system that starts over: 1:10/2 takes its posting for the old one with that key
   taken_for_old : subjects first begun_anew ≡ (codes "00000001" ∷ []) ∷ ((codes "00000001" ∷ []) ∷ ([] ∷ ((codes "Other" ∷ []) ∷ [])))
   and_settled : is_settled begun_anew ≡ true
 

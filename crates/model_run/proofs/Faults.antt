@@ -1,4 +1,4 @@
--- Each grave fault does harm, and where none of them stands the area is tidy.
+-- Each grave fault does harm, and an area without one is tidy.
 use Rattle.std.proofs.Common.{◌≡◌, ◌⊎◌, inl, inr, ℕ, arith, IsTrue, List, [], ◌∷◌}
 use Rattle.std.specs.List.{list_any}
 use Rattle.echo_addr.specs.declared.address.Address.{Address}

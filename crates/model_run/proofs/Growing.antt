@@ -52,7 +52,7 @@ pub tossing-append : (sender : Address) (ms ns : List Message) (s : System) → 
 tossing-append sender [] ns s = refl
 tossing-append sender (q ∷ ms) ns s = tossing-append sender ms ns (filing s (tossing s.file s.base sender q))
 
--- what has come to be of a system and its packets stays
+-- the history of a system and its sent packets only grow
 pub record Lasts (s z : LoneSystem) : Type 0 where
   pub system : IsLater s.system z.system
   pub sent : (since : List Packet) × (z.sent ≡ s.sent ++ since)
@@ -80,7 +80,7 @@ Lasts-again s t z a b = record {
   );
 }
 
--- events keep what has come to be
+-- events let the history and the sent packets only grow
 scan-lasts : (s : LoneSystem) (stamp : Stamp) (b : Bool) → IsLoneLeft s → Lasts s (if b then with_scanned stamp s else s)
 scan-lasts s stamp true left = record {
   system = record {

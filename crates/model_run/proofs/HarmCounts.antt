@@ -30,7 +30,7 @@ has-one key (x ∷ ms) m h e =
       | inr t ↦ (let later = has-one key ms m t e in omega arith)
     ]
 
--- what is counted is there
+-- a counted message is in the list
 pub counted : (key : Key) (ms : List Filed) → 1 ≤ count key ms → (m : Filed) × Among m ms × (key_of m ≡ key)
 counted key [] h = absurd (omega (arith, h))
 counted key (m ∷ ms) h =
@@ -41,7 +41,7 @@ counted key (m ∷ ms) h =
           (n, inr i, e))
     ]
 
--- what is sent stands in a packet to the address
+-- a sent message is in a packet to the address
 pub sent-packet : (a : Address) (key : Key) (ps : List Packet) → 1 ≤ sent_count a key ps →
     (q : Packet) × Among q ps × (destination q ≡ a) × ((m : Filed) × Among m (copies q) × (key_of m ≡ key))
 sent-packet a key [] h = absurd (omega (arith, h))

@@ -1,4 +1,4 @@
--- Items of lists by their index, and what stands behind some of them.
+-- Items of lists by their index, and the items behind some of them.
 use Rattle.std.proofs.Common.{◌≡◌, inl, inr, refl, sym, subst, ap, ◌∙◌, ℕ, zero, suc, ◌+◌, ◌<◌, arith, List, [], ◌∷◌, ◌++◌, length, map, Some, None}
 use Rattle.std.specs.Prelude.{Bool, false, not}
 use Rattle.std.specs.List.{position_or_len}
@@ -8,7 +8,7 @@ use Rattle.model_run.specs.Run.{nth, change}
 use Rattle.model_run.proofs.Lists.{yes_or_no}
 use Rattle.model_run.proofs.Targets.{some_same, none_some}
 
--- an item stands at each index below the length, and at no other
+-- there is an item at each index below the length, and at no other
 pub nth-below : {X : Type 0} (i : ℕ) (xs : List X) → i < length xs → (x : X) × (nth i xs ≡ Some x)
 nth-below i [] less = absurd (omega arith)
 nth-below zero (x ∷ xs) less = (x, refl)

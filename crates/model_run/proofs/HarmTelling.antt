@@ -1,4 +1,4 @@
--- What can be read off a run tells that a posting does no harm.
+-- Observations on a run that show that a posting does no harm.
 use Rattle.std.proofs.Common.{◌≡◌, inl, inr, refl, sym, subst, ap, ◌∙◌, ℕ, ◌≤◌, arith, List, [], ◌∷◌, Some}
 use Rattle.std.specs.Prelude.{Bool, true, bytes_eq, if◌then◌else◌, slice_get}
 use Rattle.std.specs.List.{AllByRecursion}

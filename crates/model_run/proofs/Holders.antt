@@ -217,7 +217,7 @@ module _ (files : List LinkFile) (known : LawsOfRuns files) (tag : List ℕ) (on
         let few = once a.index a.system a.at a.area_there in
         counted-one (key_of p) a.system.history (omega (arith, few)) m n a.filed (subst P (sym same) b.filed) a.key b.key
 
-    -- who sent what came
+    -- the sender of a message that came
     record Sent (x : Address) (m : Filed) : Type 0 where
       export : Export
       maker : System
@@ -335,7 +335,7 @@ module _ (files : List LinkFile) (known : LawsOfRuns files) (tag : List ℕ) (on
               )
         ]
 
-    -- what is filed was scanned
+    -- each filed message was scanned
     was_scanned : (x : Address) (m : Filed) (a : Holds x m) → Among m (take a.system.cursor a.system.history)
     was_scanned x m a =
         let s = a.system in

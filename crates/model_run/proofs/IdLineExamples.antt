@@ -1,4 +1,4 @@
--- Messages of an id line alone, by computation: what is saved of them, and whether a purge changes them.
+-- Messages with just an id line, by computation: their saved bytes, and whether a purge changes them.
 use Rattle.std.proofs.Common.{◌≡◌, ℕ, List, [], ◌∷◌, ◌++◌, refl, None, codes, lit<, lit≤}
 use Rattle.echo_addr.specs.Entries.{entries, pair_of, tokens}
 use Rattle.echo_text.specs.Lines.{after_word, begins, lines, trimmed}

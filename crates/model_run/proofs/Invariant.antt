@@ -1,4 +1,4 @@
--- What is true of a run by the rules at all times.
+-- Properties of a run by the rules at all times.
 use Rattle.std.proofs.Common.{◌≡◌, ◌≢◌, ◌⊎◌, IsTrue, List, map, Some, None}
 use Rattle.model_graph.specs.Walk.{Among, Different}
 use Rattle.model_graph.specs.Beyond.{Beyond, IsWay}
@@ -19,7 +19,7 @@ Source {A} net f m =
     ((f ≡ m.at) × (m.sender ≡ None) × ((d : A) → IsTrue (net.carries d) → Among (net.net_node d) m.text.seen → d ≡ m.at))
     ⊎ ((u : A) × (m.sender ≡ Some u) × Parent net m.at f m.text.seen u)
 
--- what was filed, what was exported, the copies that were sent, and those that came
+-- the filed and exported messages, the copies sent, and the copies that came
 pub record View (A N K C : Type 0) : Type 0 where
   pub filed : List (Filed A N K C)
   pub exported : List (Filed A N K C)

@@ -14,7 +14,7 @@ use Rattle.model_run.specs.Run.{System, change, filing, tossing_at}
 use Rattle.model_run.proofs.Lists.{any-from, any-to, not_both}
 use Rattle.model_run.proofs.HarmSteps.{tossing-is}
 
--- 1 for what is not known
+-- 1 for an unknown key
 abbrev pub weight : Bool → ℕ
 weight b = if b then 0 else 1
 
@@ -28,7 +28,7 @@ abbrev pub all_lacking : List Key → List System → ℕ
 all_lacking keys [] = 0
 all_lacking keys (s ∷ ss) = lacking keys s.base + all_lacking keys ss
 
--- what is known stays known
+-- a known key stays known
 known-more : (base : List Filed) (m : Filed) (key : Key) → is_known base key ≡ true → is_known (base ++ m ∷ []) key ≡ true
 known-more base m key h =
     let (n, i, e) = any-from (λ n. same_key (key_of n) key) base h in
@@ -53,7 +53,7 @@ lacking-less (key ∷ keys) base m = omega (
   less_weight (is_known base key) (is_known (base ++ m ∷ []) key) (known-more base m key),
 )
 
--- fewer, where one of them is filed anew
+-- fewer, if one of them is filed now
 lacking-fewer : (keys : List Key) (base : List Filed) (m : Filed) → Among (key_of m) keys → is_known base (key_of m) ≡ false →
     lacking keys (base ++ m ∷ []) < lacking keys base
 lacking-fewer [] base m h new = absurd h

@@ -60,7 +60,7 @@ nth-among {X} i x [] h = absurd (none_some h)
 nth-among zero x (y ∷ xs) h = inl (let e : Some y ≡ Some x = h in cc)
 nth-among (suc i) x (y ∷ xs) h = inr (nth-among i x xs h)
 
--- where an item is changed: what is at an index was there before, or is the changed item
+-- after a change an item at an index is an old item, or the changed one
 pub nth-change : {X : Type 0} (i j : ℕ) (f : X → X) (z : X) (xs : List X) → nth j (change i f xs) ≡ Some z →
     ((i ≢ j) × (nth j xs ≡ Some z)) ⊎ ((i ≡ j) × ((x : X) × (nth j xs ≡ Some x) × (z ≡ f x)))
 nth-change {X} i j f z [] h = absurd (none_some h)
@@ -73,7 +73,7 @@ nth-change (suc i) (suc j) f z (x ∷ xs) h =
       | inr k ↦ inr (ap suc k.0, k.1)
     ]
 
--- and what was there is there yet, or changed
+-- each old item stays, or is changed
 pub nth-changed : {X : Type 0} (i j : ℕ) (f : X → X) (x : X) (xs : List X) → nth j xs ≡ Some x →
     ((i ≢ j) × (nth j (change i f xs) ≡ Some x)) ⊎ ((i ≡ j) × (nth j (change i f xs) ≡ Some (f x)))
 nth-changed {X} i j f x [] h = absurd (none_some h)

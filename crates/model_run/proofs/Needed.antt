@@ -55,7 +55,7 @@ sent_once earlier is_filed first = record {
   one_each = (λ h. h, tt);
 }
 
--- 1 alone is told nothing wrong by an empty SEEN-BY
+-- an empty SEEN-BY misleads no receiver if 1 is the only one
 told : (x : ℕ) → Among x (1 ∷ []) → HasSeenBy (polygon 2) (posted 0) (1 ∷ []) x []
 told x h = record {
   others = λ l i link. absurd (elim h [
@@ -143,7 +143,7 @@ can-be-kept = record {
     kept telling = settling-kept 1 telling (λ e. cc)
     kept keys = settling-kept 1 keys (λ e. cc)
 
--- where a copy has another content, so has what is filed
+-- without the rule, a copy may have another content, and so the filed message
 pub keeping-needed : IsNeeded keeping
 keeping-needed = record {
   net = polygon 2;
@@ -177,7 +177,7 @@ sending-needed = record {
     others telling apart = (told, (told, (λ d carrier h. absurd h, tt)))
     others keys apart = (tt, (tt, (λ m h. absurd h, tt)))
 
--- in a triangle 1 is not told that 2 is sent the message too, and sends it there
+-- in a triangle the SEEN-BY for 1 lacks 2, which is sent the message too, and 1 sends it there again
 abbrev untold : List (Event ℕ ℕ ℕ ℕ)
 untold = Exports (received 1) (2 ∷ []) (λ x. says 1) ∷ come 1 ∷ Exports (posted 0) (1 ∷ 2 ∷ []) (λ x. says 1) ∷ post 0 ∷ []
 
@@ -238,7 +238,7 @@ telling-needed = record {
     others telling apart = absurd (apart refl)
     others keys apart = (tt, (tt, (tt, (λ m h. absurd h, tt))))
 
--- in a chain 1 is told that 2 has the message, and does not pass it on
+-- in a chain the SEEN-BY for 1 lists 2, and 1 does not pass the message on
 abbrev hides : Text ℕ ℕ ℕ
 hides = record { key = 7; content = 1; seen = 1 ∷ 2 ∷ [] }
 
@@ -301,7 +301,7 @@ hiding_none-needed = (
     others telling apart = absurd (apart refl)
     others keys apart = (tt, (tt, (tt, (λ m h. absurd h, tt))))
 
--- two systems give one key to two messages, and one is sent what has the key of its own
+-- two systems give one key to two messages, and one system is sent the other message with its own key
 pub keys-needed : IsNeeded keys
 keys-needed = record {
   net = polygon 2;

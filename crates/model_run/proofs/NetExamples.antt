@@ -54,8 +54,8 @@ post i = Posting i (codes "TEST") draft 1 stamp
 abbrev pub scan : ℕ → RunEvent
 scan i = Scanning i stamp
 
--- what is printed of a run: messages of the area filed and waiting, system by system; packets, and packets
--- that did not come; whether all has settled
+-- the printed numbers of a run: messages of the area filed and waiting, system by system; packets, and packets that did
+-- not come; whether all has settled
 pub record Shown : Type 0 where
   pub filed_there : List ℕ
   pub waiting_there : List ℕ
@@ -106,7 +106,7 @@ purged_run = run_of chain (
     post 0 ∷ (scan 0 ∷ (Purging 0 ∷ (Delivery 0 ∷ (Purging 1 ∷ (scan 1 ∷ (Purging 1 ∷ (Delivery 1 ∷ (Delivery 0 ∷ (post 0 ∷ [])))))))))
     )
 
--- two messages in one packet, whose toss stops after the first, and then comes whole
+-- two messages in one packet; the toss stops after the first, and then the whole packet comes
 abbrev two_posted : List RunEvent
 two_posted = post 0 ∷ (Posting 0 (codes "TEST") draft 2 stamp ∷ (scan 0 ∷ []))
 
@@ -120,9 +120,9 @@ tossed_again_run = run_of chain (two_posted ++ PartDelivery 0 1 ∷ (Delivery 0 
 abbrev pub first_key : Key
 first_key = ById (codes "TEST") (codes "1:10/1 00000001")
 
--- On the chain and on the triangle all have the message, and nothing waits; on the star the packet to
--- 1:10/3 was lost. On the ring, which is not tidy, each filed the message once. On the purged chain, where
--- ids alone are left, what comes again is known, and a known serial is refused.
+-- On the chain and on the triangle all have the message, and nothing waits; on the star the packet to 1:10/3 was lost.
+-- On the ring, which is not tidy, each filed the message once. On the purged chain only ids are left: a repeated message
+-- is known, and a known serial is refused.
 record Runs : Type 0 where
   chain_shown : shown chain_run ≡ line (1 ∷ (1 ∷ (1 ∷ []))) (0 ∷ (0 ∷ (0 ∷ []))) 2 0 true
   came_twice : chain_run.delivered ≡ 1 ∷ (0 ∷ [])
@@ -217,7 +217,7 @@ two_areas = record {
 abbrev posted_in : List ℕ → Filed
 posted_in tag = posted two_areas tag draft 1 stamp
 
--- a message from 1:10/2 whose SEEN-BY lists no one
+-- a message from 1:10/2 with an empty SEEN-BY
 abbrev unlisted : Filed
 unlisted = record {
   sender = Some (address 2);

@@ -1,4 +1,4 @@
--- What is filed stays over changes of link files, and each posting is of some epoch.
+-- Filed messages stay over changes of link files, and each posting belongs to some epoch.
 use Rattle.std.proofs.Common.{◌≡◌, inl, inr, refl, sym, subst, ap, ◌∙◌, ℕ, arith, List, [], ◌∷◌, ◌++◌, append_assoc, map}
 use Rattle.std.specs.Prelude.{Bool, ◌&&◌}
 use Rattle.std.specs.List.{list_any}
@@ -119,7 +119,7 @@ module _ (laws : Laws) (names : List Address) where
   between-some [] epoch named = between-first epoch [] named
   between-some (first ∷ earlier) epoch named = between-first first (earlier ++ epoch ∷ []) named
 
-  -- what is filed stays
+  -- filed messages stay
   pub epochs-keep : (earlier later : List Epoch) → Named names (earlier ++ later) → Outlives (run_of_epochs earlier) (run_of_epochs (earlier ++ later))
   epochs-keep [] later named = record { later = λ s h. absurd h }
   epochs-keep (first ∷ earlier) later named =
@@ -176,7 +176,7 @@ module _ (laws : Laws) (names : List Address) where
               (any-to (λ x. same_key (key_of x) (key_of m)) m z.history l (laws.keys.full (key_of m) (key_of m) refl)))) f)))
         ]
       where
-        -- what has its key at an earlier time is the message itself
+        -- an earlier message with its key is the message itself
         is-there : (now : List Epoch) → Named names (now ++ later) → (y : System) → Among y (run_of_epochs (now ++ later)).systems → Among m y.history →
             (z : System) → Among z (run_of_epochs now).systems → address_of z ≡ address_of y → (n : Filed) → Among n z.history → key_of n ≡ key_of m → Among m z.history
         is-there now named_now y at_y i z j here n k same =

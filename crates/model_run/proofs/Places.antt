@@ -19,7 +19,7 @@ use Rattle.model_run.proofs.RulesLists.{Among-map_to}
 use Rattle.model_run.proofs.Targets.{some_same, none_some}
 use Rattle.model_run.proofs.Areas.{one_name as different-same}
 
--- in a list of different images an image stands at one index
+-- in a list of different images an image has one index
 different-index : {X Y : Type 0} (g : X → Y) (xs : List X) → Different (map g xs) → (i j : ℕ) (x y : X) → nth i xs ≡ Some x → nth j xs ≡ Some y → g x ≡ g y → i ≡ j
 different-index {X} {Y} g [] d i j x y at_i at_j e = absurd (none_some at_i)
 different-index g (z ∷ xs) d zero zero x y at_i at_j e = refl

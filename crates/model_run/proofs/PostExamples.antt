@@ -1,4 +1,4 @@
--- Postings by computation: what is accepted, and the first refusal that applies.
+-- Postings by computation: accepted ones, and the first refusal that applies.
 use Rattle.std.proofs.Common.{◌≡◌, [], ◌∷◌, refl, Some, None, codes, replicate}
 use Rattle.std.specs.Fmt.{digits}
 use Rattle.echo_text.specs.Lines.{after_word, begins, lines, trimmed}
@@ -97,7 +97,7 @@ next_serial : posting first_file (first_posting ∷ []) (codes "TEST") draft 2 s
 unfolding posting post_refusal posted posted_lines id_of trimmed lines digits msgid_of begins after_word
 next_serial = refl
 
--- an empty line of the body is kept, also the last one
+-- the posting keeps an empty line of the body, also the last one
 empty_line_kept : lines (97 ∷ (13 ∷ (13 ∷ []))) ≡ (97 ∷ []) ∷ ([] ∷ [])
 unfolding lines
 empty_line_kept = refl

@@ -1,4 +1,4 @@
--- Whose posting shows a fault.
+-- The poster that shows each fault.
 use Rattle.std.proofs.Common.{◌≡◌, ◌≢◌, ◌⊎◌, inl, inr, sym, subst, ◌∙◌, ℕ, IsTrue, List, ◌∷◌}
 use Rattle.std.specs.Prelude.{Bool}
 use Rattle.echo_addr.specs.declared.address.Address.{Address}

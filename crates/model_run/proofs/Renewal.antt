@@ -10,7 +10,7 @@ use Rattle.model_run.proofs.Bases.{SystemOk}
 use Rattle.model_run.proofs.WellFormed.{RunOk, start-ok}
 use Rattle.model_run.proofs.Areas.{address_of}
 
--- the files are of these systems, in order
+-- the files belong to these systems, in order
 abbrev pub SameSystems : List System → List LinkFile → Type 0
 SameSystems ss files = map address_of ss ≡ addresses files
 
@@ -61,7 +61,7 @@ renewed-files [] (s ∷ ss) same = absurd (none_left (sym same))
 renewed-files (file ∷ files) (s ∷ ss) same = ap (λ (fs : List LinkFile). file ∷ fs) (renewed-files files ss (later_same same))
 
 module _ (laws : Laws) where
-  -- what holds of systems on every net holds of them with files that were read, whichever systems they are of
+  -- a property of systems on every net is one of systems with any files that were read
   renewed-each : (files : List LinkFile) → FilesFit files → (ss : List System) → ((s : System) → Among s ss → SystemOk s) →
       (z : System) → Among z (with_files files ss) → SystemOk z
   renewed-each files fit [] each z h = (start-ok laws files fit).systems z h

@@ -103,7 +103,7 @@ module _ (files : List LinkFile) (known : LawsOfRuns files) where
     abbrev Quiet : Run → Type 0
     Quiet run = (s : System) → Among s run.systems → drop s.cursor s.base ≡ []
 
-    -- no file is of the address that the packet goes to
+    -- no file has the address that the packet goes to
     abbrev GoesNowhere : Packet → Type 0
     GoesNowhere p = (file : LinkFile) → Among file files → file.system ≢ destination p
 

@@ -15,7 +15,7 @@ use Rattle.model_run.proofs.RulesLists.{Among-map_from}
 use Rattle.model_run.proofs.Steps.{Has-cases, posting-keeps, arrival-keeps, coming-keeps, exporting-keeps}
 
 module _ {A N K C : Type 0} (net : Net A N) (Same : C → C → Type 0) where
-  -- what is known of a run by the rules
+  -- a run by the rules
   abbrev pub ByRules : List (Event A N K C) → Type 0
   ByRules run = Always (IsPossible net) run × ((rule : Rule) → Kept net Same run rule)
 

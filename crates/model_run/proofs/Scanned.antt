@@ -152,7 +152,7 @@ module _ (laws : Laws) (tag : List ℕ) (s : System) (ok : SystemOk s) where
         )
       ]
 
-  -- of those of the area where the key is of the area
+  -- for a key of the area, only messages of the area count
   abbrev in_area : Filed → Bool
   in_area m = bytes_eq m.echo.tag tag
 

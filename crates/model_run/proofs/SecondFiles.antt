@@ -25,7 +25,7 @@ use Rattle.model_run.proofs.Resting.{runs-settle}
 use Rattle.model_run.proofs.HarmSteps.{after_one_more, along, run-files}
 use Rattle.model_run.proofs.Targets.{some_same, none_some}
 
--- no item that passes stands before the first
+-- no item before the first passes
 first_is_least : {X : Type 0} (p : X → Bool) (xs : List X) (i : ℕ) (x : X) → nth i xs ≡ Some x → p x ≡ true → position_or_len p xs ≤ i
 first_is_least {X} p [] i x at t = absurd (none_some at)
 first_is_least {X} p (y ∷ xs) i x at t =

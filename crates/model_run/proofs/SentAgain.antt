@@ -26,7 +26,7 @@ use Rattle.model_run.proofs.WholeRuns.{run-ok}
 use Rattle.model_run.proofs.ExportLog.{run-logged}
 use Rattle.model_run.proofs.RulesLists.{Among-map_from}
 
--- what is a stub and is not purged has no id
+-- a stub that is not purged has no id
 no-id : (id : Option (List ℕ)) (stub : Bool) → not (is_some id && stub) ≡ true → stub ≡ true → id ≡ None
 no-id None stub whole is = refl
 no-id (Some id) stub whole is = absurd (true≢false (sym (let P : Bool → Type 0 = λ b. not b ≡ true in subst P is whole)))

@@ -30,8 +30,8 @@ pub record Came (linked : Address → Address → Bool) (Holds : Address → Fil
   pub seen_from : (y : Address) → is_seen_by m y ≡ true → (is_seen_by original y ≡ true) ⊎ IsNear linked from y
   pub seen_to : (y : Address) → (is_seen_by original y ≡ true) ⊎ IsNear linked from y → is_seen_by m y ≡ true
 
--- each carrier holds the message, once, and but for the poster it has it from a link; a link that is not listed has
--- it from nobody else
+-- each carrier holds the message once; each except the poster has it from a link; an unlisted link has it from no other
+-- system
 pub record Spread (linked : Address → Address → Bool) (Carrier : Address → Type 0) (f : Address) (Holds : Address → Filed → Type 0) : Type 0 where
   pub posting : Filed
   pub at_poster : Holds f posting
@@ -64,7 +64,7 @@ module _ (linked : Address → Address → Bool) (Carrier : Address → Type 0) 
         | inr came ↦ inr came
       ]
 
-  -- what has a sender came from it
+  -- a message with a sender came from it
   pub came_from : (x : Address) (m : Filed) → Holds x m → (u : Address) → m.sender ≡ Some u → (c : Came linked Holds x m) × (c.from ≡ u)
   came_from x m h u e =
       elim (source x m h) [
@@ -103,7 +103,7 @@ module _ (linked : Address → Address → Bool) (Carrier : Address → Type 0) 
       let P : Address → Type 0 = λ a. IsTrue (linked y a) in
       subst P from c.back
 
-  -- who stands in SEEN-BY from the poster on is sent it by nobody but the poster
+  -- only the poster sends the message to a system in the poster's SEEN-BY
   module _ (y : Address) (near : IsNear linked f y) where
     listed : (n : ℕ) (x : Address) (m : Filed) → length m.echo.path ≤ n → Holds x m → x ≢ f → is_seen_by m y ≡ true
     listed zero x m few h other =

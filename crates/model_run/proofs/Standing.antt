@@ -1,4 +1,4 @@
--- What is true of a run of tidy files at all times: its history in the area is one by the rules.
+-- Properties of a run of tidy files at all times: its history in the area keeps the rules.
 use Rattle.std.proofs.Common.{◌≡◌, ◌≢◌, ◌⊎◌, inl, inr, refl, sym, subst, ap, ◌∙◌, ℕ, List, [], ◌∷◌, ◌++◌, take, map, Option, Some, None}
 use Rattle.std.specs.Prelude.{true, false}
 use Rattle.std.proofs.lemmas.List.{take-append-le}
@@ -45,8 +45,8 @@ module _ (laws : Laws) where
   pub can_keys : CanTell Key
   can_keys = Tells-can same_key laws.keys
 
--- of a run of these files: the history of the area is a past in which all had settled, and what happened since
--- by the rules in the net of these files
+-- the history of the area in a run of these files: a settled past, and the events since then by the rules of the net of
+-- these files
 pub record Standing (files : List LinkFile) (tag : List ℕ) (past : List REvent) (run : Run) : Type 0 where
   pub ok : RunOk run
   pub same_files : map (λ (s : System). s.file) run.systems ≡ files
@@ -68,7 +68,7 @@ module _ (laws : Laws) (files : List LinkFile) (tag : List ℕ) (tidy : Tidy fil
   filed-event s h m i area =
       (st.history.filed (filed_as (address_of s) m)).1 (record { system = s; there = h; message = m; filed = i; area = area; same = refl })
 
-  -- and what was filed at its address it has
+  -- and it has each message filed at its address
   pub filed-here : (s : System) → Among s run.systems → (k : Key) → rules.Has (address_of s) k (rules.filed whole) → HasKey k s.history
   filed-here s h k has =
       let (m, i, at, key) = has in
@@ -78,7 +78,7 @@ module _ (laws : Laws) (files : List LinkFile) (tag : List ℕ) (tidy : Tidy fil
       let P : System → Type 0 = λ t. Among is.message t.history in
       (is.message, subst P one is.filed, ap (λ (f : RFiled). f.text.key) (sym is.same) ∙ key)
 
-  -- what was posted by the events was posted by a system that wrote its id
+  -- the system of a posting event wrote the posting's id
   pub wrote-event : (p : RFiled) → Among p (rules.filed whole) → p.sender ≡ None → Wrote tag p.at p.text.key
   wrote-event p h own =
       let is = (st.history.filed p).0 h in

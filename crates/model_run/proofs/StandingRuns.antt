@@ -50,7 +50,7 @@ posted-parts : (file : LinkFile) (tag : List ℕ) (draft : Draft) (serial : ℕ)
 unfolding posted
 posted-parts file tag draft serial stamp = (refl, refl)
 
--- a change of what has the index is one by what becomes of it
+-- changes with the same effect on the item at the index are equal
 change-at : {X : Type 0} (i : ℕ) (f g : X → X) (x : X) (xs : List X) → nth i xs ≡ Some x → f x ≡ g x → change i f xs ≡ change i g xs
 change-at i f g x [] at e = refl
 change-at zero f g x (y ∷ xs) at e =

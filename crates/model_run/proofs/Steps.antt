@@ -1,4 +1,4 @@
--- Each event keeps what is true of a run by the rules.
+-- Each event keeps the invariant of a run by the rules.
 use Rattle.std.proofs.Common.{◌≡◌, ◌≢◌, ◌⊎◌, inl, inr, refl, sym, subst, ap, ◌∙◌, IsTrue, List, [], ◌∷◌, ◌++◌, map, Some, None}
 use Rattle.std.proofs.lemmas.List.{map-append}
 use Rattle.model_graph.specs.Walk.{Among, Different}

@@ -85,7 +85,7 @@ module _ {A N : Type 0} (can : CanTell A) (net : Net A N) (tidy : Tidy net) wher
               })
         ]
 
-    -- what a target is told is in order there
+    -- the SEEN-BY for a target is in order there
     pub told-parent : (to : List A) → ((l : A) → IsTarget net m l → Among l to) → (x : A) (seen : List N) →
         IsTarget net m x → HasSeenBy net m to x seen → Parent net x f seen m.at
     told-parent to all x seen target told =

@@ -1,4 +1,4 @@
--- Who tells plainly tells as the rule asks.
+-- A plain SEEN-BY keeps the rule.
 use Rattle.std.proofs.Common.{◌≡◌, ◌≢◌, ◌⊎◌, inl, inr, refl, sym, ◌∙◌, IsTrue, List, [], ◌∷◌, subst}
 use Rattle.model_graph.specs.Beyond.{Beyond}
 use Rattle.model_run.specs.Nets.{Net, Tidy}

@@ -74,7 +74,7 @@ module _ (laws : Laws) (tag : List ℕ) where
   stands-after (epoch ∷ later) files run st go =
       stands-after later epoch.files (after_epoch run epoch) (stands-epoch laws tag files run epoch st go.0) go.1
 
-  -- what is owed at the end of all epochs
+  -- the receivers of a message at the end of all epochs
   record Ended (was : Address → Type 0) (run : Run) (m : Filed) : Type 0 where
     files : List LinkFile
     stands : Stands laws tag files run
@@ -118,7 +118,7 @@ module _ (laws : Laws) (tag : List ℕ) where
       let begun = begun-first epoch fit tidy in
       record { tidy = tidy; past = begun.past; standing = events-stand laws epoch.files tag tidy begun.past epoch.events (start epoch.files) begun.standing }
 
-  -- what is owed of a message of some epoch, at the end
+  -- the receivers of a message of some epoch, at the end
   owed-of : (earlier : List Epoch) (epoch : Epoch) (later : List Epoch) → TidyThroughout (earlier ++ epoch ∷ later) tag → (m : Filed) →
       IsOf tag earlier epoch m → Ended (Carries epoch.files tag) (run_of_epochs (earlier ++ epoch ∷ later)) m
   unfolding begun-first stands-first stands-epoch
@@ -184,7 +184,7 @@ module _ (laws : Laws) (tag : List ℕ) where
   run-ok : (epochs : List Epoch) → TidyThroughout epochs tag → RunOk (run_of_epochs epochs)
   run-ok epochs t = epochs-ok laws epochs nothing_yet t.fit (record { systems = λ s h. absurd h; packets = λ p h. absurd h })
 
-  -- what was sent, by the events
+  -- the copies sent, by the events
   module _ (files : List LinkFile) (run : Run) (st : Stands laws tag files run) where
     abbrev whole : List REvent
     whole = st.standing.recent ++ st.past

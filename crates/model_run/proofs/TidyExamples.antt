@@ -41,18 +41,18 @@ unknown_link : ¬ Tidy (file 1 (9 ∷ []) ∷ []) test
 unfolding links_of
 unknown_link t = is_false (t.joined.known (address 1) (address 9) refl)
 
--- clause 5: a link that stands in one file
+-- clause 5: a link in just one file
 in_one_file : ¬ Tidy one_sided test
 unfolding links_of
 in_one_file t = is_false (t.joined.both (address 1) (address 2) refl)
 
--- clause 6: a chain over two zones, whose ends have one net and node
+-- clause 6: a chain over two zones; its ends have one net and node
 same_net_node : ¬ Tidy over_zones test
 same_net_node t =
     let e = t.joined.apart (address 1) far refl refl refl in
     absurd (omega (arith, ap (λ (a : Address). a.zone) e))
 
--- clause 7: a triangle beside a lone system
+-- clause 7: a triangle and a lone system
 no_walk : ¬ Tidy beside test
 unfolding links_of
 no_walk t = stuck (t.joined.connected (address 4) (address 1) refl refl)

@@ -44,7 +44,7 @@ to_another = file 1 (2 ∷ (3 ∷ [])) ∷ (file 2 (1 ∷ []) ∷ (without 3 ∷
 abbrev twins : List LinkFile
 twins = carrier (address 1) (far ∷ []) ∷ (carrier far (address 1 ∷ []) ∷ [])
 
--- none of them is tidy
+-- these nets are not tidy
 two_of_one_address : ¬ Tidy second_file test
 two_of_one_address t = t.joined.one_file.1.0 (inl refl)
 

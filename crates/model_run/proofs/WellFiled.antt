@@ -79,7 +79,7 @@ module _ (laws : Laws) where
   key-later : (key : Key) (s z : System) → IsLater s z → HasKey key s.history → HasKey key z.history
   key-later key s z later has = (has.0, filed-later s z later has.0 has.1, has.2)
 
-  -- what came from a link is known then
+  -- the key of a message from a link is known then
   key-filed : (s : System) → SystemOk s → (sender : Address) (q : Message) → IsFromLink s.file sender q →
       HasKey (key_of (received sender q)) (filing s (tossing s.file s.base sender q)).history
   key-filed s ok sender q from =
