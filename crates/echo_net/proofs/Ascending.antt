@@ -35,14 +35,14 @@ searched_place {X} {R} o exact xs x up (Err i) inside found =
     ]
 
 module _ {X : Type 0} {R : X → X → Ordering} (o : IsTotalOrder R) (xs : List X) (up : IsStrictlySortedBy R xs) where
-  -- what stands earlier comes first
+  -- an earlier item comes first in the order
   pub earlier_less : (i j : ℕ) (x y : X) → IsAt xs i x → IsAt xs j y → i < j → R x y ≡ Less
   earlier_less i j x y at_x at_y lt =
       let x_is : get_or xs i x ≡ x = at_x.1 in
       let y_is : get_or xs j x ≡ y = get_or_default xs j x y at_y.0 ∙ at_y.1 in
       sym (ap (λ (z : X). R z (get_or xs j x)) x_is ∙ ap (λ (z : X). R x z) y_is) ∙ Less-from_sorted R xs i j x up lt at_y.0
 
-  -- what stands no earlier does not come first
+  -- a later item does not come first in the order
   pub later_not_before : (i j : ℕ) (x y : X) → IsAt xs i x → IsAt xs j y → i ≤ j → is_lt (R y x) ≡ false
   later_not_before i j x y at_x at_y le =
       let x_is : get_or xs i x ≡ x = at_x.1 in

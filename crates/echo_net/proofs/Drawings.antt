@@ -1,4 +1,4 @@
--- An area as it is drawn: what its lists hold, and what is told of each member.
+-- The drawing of an area: the contents of its lists, and the facts of each member.
 use Rattle.std.specs.Prelude.{Contains}
 use Rattle.std.specs.Cmp.{both_ways}
 use Rattle.std.proofs.Common.{◌≡◌, ◌<◌, ◌+◌, ◌↔◌, inl, inr, ℕ, Bool, true, false, IsTrue, if◌then◌else◌, List, [], ◌∷◌, ◌++◌, length, map, take, get_or, refl, sym, ap, subst, ◌∙◌, arith}
@@ -79,7 +79,7 @@ step_taken first round i d from all new inside links last is =
       sym (last_or-push first (take i round) x) ∙ ap (last_or first) (sym more),
     )
 
--- what was put in order holds what it held
+-- sorting keeps the members
 pub held_again : {X : Type 0} (before after all : List X) → before ≡ all → ((x : X) → Contains after x ↔ Contains before x) → (x : X) → Contains after x ↔ Contains all x
 held_again {X} before after all is same x = (
   λ h. subst (λ (xs : List X). Contains xs x) is ((same x).0 h),
@@ -118,7 +118,7 @@ pair_from files tag m listed = turned (address_before m.to m.from) refl
     turned false is =
         subst (IsDrawnPair files tag) (sym (upward_where m false is)) (let drawn : IsDrawnPair files tag m = (is, inl listed) in drawn)
 
--- and what is drawn is such a link
+-- and each drawn pair has such a link
 pair_to : (files : List LinkFile) (tag : List ℕ) (l : Link) → IsDrawnPair files tag l → (m : Link) × IsTrue (lists files tag m.from m.to) × (upward m ≡ l)
 pair_to files tag l (up, inl listed) = (l, listed, upward_where l false up)
 pair_to files tag l (up, inr listed) = (back l, listed, turned (address_before l.from l.to) refl)
@@ -167,7 +167,7 @@ links_in_order IsMember all up members = record {
   members = members;
 }
 
--- what is told of each is the same
+-- equal functions give equal lists
 same_each : {X Y : Type 0} (f g : X → Y) → ((x : X) → f x ≡ g x) → (xs : List X) → map f xs ≡ map g xs
 same_each f g same [] = refl
 same_each f g same (x ∷ xs) = ap (λ y. y ∷ map f xs) (same x) ∙ ap (λ ys. g x ∷ ys) (same_each f g same xs)

@@ -1,4 +1,4 @@
--- Addresses that stand twice among some systems.
+-- Addresses that occur twice among some systems.
 use Rattle.std.proofs.Common.{◌≡◌, ◌<◌, ◌+◌, ◌&&◌, ◌↔◌, ℕ, suc, Some, None, List, [], ◌∷◌, ◌++◌, length, get_or, refl, sym, subst, ap, ◌∙◌, arith, inl, inr}
 use Rattle.std.specs.Prelude.{Contains, slice_get}
 use Rattle.std.specs.List.Sorted.{IsStrictlySortedBy}
@@ -57,7 +57,7 @@ Different-from_places (x ∷ xs) apart = (
 
 module _ (systems : List Address) (owners : List Owner) (all : (o : Owner) → Contains owners o ↔ IsAt systems o.file o.system)
     (up : IsStrictlySortedBy owner_order owners) where
-  -- an address that stands twice has two owners next to each other
+  -- an address that occurs twice has two owners next to each other
   pair_of : (a : Address) → StandsTwice systems a → (k : ℕ) × (k + 1 < length owners) × ((d : Owner) → (get_or owners k d).system ≡ a) × ((d : Owner) → (get_or owners (k + 1) d).system ≡ a)
   pair_of a (i, j, lt, at_i, at_j) =
       let x = owner a i in
@@ -85,7 +85,7 @@ module _ (systems : List Address) (owners : List Owner) (all : (o : Owner) → C
         | inr alike ↦ nat_less x.file y.file alike.1
       ]
 
-  -- two owners of one address next to each other stand for an address that stands twice
+  -- two owners of one address next to each other show an address that occurs twice
   pub shared_from : (k : ℕ) (l : Link) → IsShared owners k (k + 1) l → (l.from ≡ l.to) × StandsTwice systems l.from
   shared_from k l one =
       let d = owner l.from 0 in

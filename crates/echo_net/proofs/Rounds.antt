@@ -124,7 +124,7 @@ itself linked simple b a link z =
           (b, b, inl refl, inl refl, Around-itself linked z b other))
     ]
 
--- what comes after another does not come before it
+-- a pair that comes after another does not come before it
 not_back : (b a e d : Address) → Earlier b e ⊎ ((b ≡ e) × (Earlier a d ⊎ (a ≡ d))) → pair_before e d b a ≡ true → ⊥
 not_back b a e d h early =
     elim (or_cases (address_before e b) (same_address e b && address_before d a) early) [

@@ -122,7 +122,7 @@ module _ (links : List Link) (up : IsStrictlySortedBy link_order links) (system 
   at_links : (k : ℕ) (d : Link) → k < length links → IsAt links k (get_or links k d)
   at_links k d inside = (inside, get_or_default links k (get_or links k d) d inside)
 
-  -- links of smaller systems stand first
+  -- links of smaller systems come first
   pub smaller_first : IsPartitionedBy (λ l. address_before l.from system) links
   smaller_first i j d le inside h =
       let l = get_or links i d in

@@ -78,7 +78,7 @@ module _ {X K : Type 0} (key : X → K) (system : X → Address) (xs : List X) (
     ],
   )
 
--- what stands between two neighbours of one net and node has it, too
+-- the systems between two neighbours of one net and node have it, too
 alike_between : (ns : List Neighbour) → IsStrictlySortedBy neighbour_order ns → (i m j : ℕ) (d : Neighbour) → i < m → m ≤ j → j < length ns →
     (get_or ns i d).net_node ≡ (get_or ns j d).net_node → (get_or ns i d).net_node ≡ (get_or ns m d).net_node
 alike_between ns up i m j d lt le inside same =
@@ -227,7 +227,7 @@ module _ (systems : List Address) (neighbours : List Neighbour) (up : IsStrictly
       )
 
   module _ (twins : List Link) (ascend : IsStrictlySortedBy link_order twins) (pairs : (l : Link) → Contains twins l ↔ ((k : ℕ) × IsTwin neighbours k (k + 1) l)) where
-    -- before any two systems of one net and node stand two twins, or they are twins
+    -- two systems of one net and node are twins, or two twins come before them
     twin_before : (a b : Address) → HasTwin (Contains systems) a b → (l : Link) × Contains twins l × (is_gt (link_order l (link a b)) ≡ false)
     twin_before a b h =
         let x = neighbour_of a in

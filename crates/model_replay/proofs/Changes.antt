@@ -50,7 +50,7 @@ after_refusal : (o : SystemState) (tag : List ℕ) (draft : Draft) (serial : ℕ
 after_refusal o tag draft serial stamp f n e same =
     same ∙ sym (state_with-none o) ∙ ap (state_with o) (sym (posting-none o tag draft serial stamp f e))
 
--- what was filed, or refused for another cause than memory, is what happens in a run
+-- a posting that is filed, or refused for another cause than memory, has the effect of a run's event
 pub posted-after : (o : SystemState) (tag : List ℕ) (draft : Draft) (serial : ℕ) (stamp : Stamp) (n : SystemState) → post_refusal o.file o.base tag draft serial stamp ≡ None
     → n ≡ state_with o (Some (posted o.file tag draft serial stamp)) → n ≡ after_posting tag draft serial stamp o
 posted-after o tag draft serial stamp n free h = h ∙ ap (state_with o) (sym (posting-some o tag draft serial stamp free))
@@ -94,7 +94,7 @@ addresses_stay systems packets world i s t d view there same =
 pub nth-read : {X : Type 0} (xs : List X) (i : ℕ) (x : X) → i < length xs → x ≡ get_or xs i x → nth i xs ≡ Some x
 nth-read xs i x within there = sym (nth-slice_get i xs) ∙ slice_get_read xs (length xs) i x refl within there
 
--- the item of an index is what is read there
+-- the item at an index
 pub read-nth : {X : Type 0} (xs : List X) (i : ℕ) (x d : X) → nth i xs ≡ Some x → get_or xs i d ≡ x
 read-nth xs i x d there = get_or_from_slice_get xs i x d (nth-slice_get i xs ∙ there)
 

@@ -58,7 +58,7 @@ exported-append delivered k (p ∷ ps) qs =
     ap (λ (es : List Exported). exported_packet delivered k p ∷ es)
     (exported-append delivered (k + 1) ps qs ∙ ap (λ (n : ℕ). exported_from delivered (k + 1) ps ++ exported_from delivered n qs) e)
 
--- an index past all that were delivered is none of them
+-- an index past all delivered packets is not among them
 pub none_past : (delivered : List ℕ) (k : ℕ) → ((d : ℕ) → Among d delivered → d < k) → list_any (λ d. d == k) delivered ≡ false
 none_past [] k below = refl
 none_past (d ∷ later) k below =

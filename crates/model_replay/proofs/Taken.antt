@@ -36,7 +36,7 @@ use Rattle.model_replay.specs.Worlds.{state_of}
 use Rattle.model_replay.proofs.Exports.{below-with, within-nth}
 use Rattle.model_replay.proofs.Runs.{first-map, state-taking}
 
--- what is known in the one base is known in the other
+-- the second base knows each key that the first knows
 abbrev Knows : List Filed → List Filed → Type 0
 Knows base more = (key : Key) → is_known base key ≡ true → is_known more key ≡ true
 
@@ -60,7 +60,7 @@ known-last base m =
     any-to (λ n. same_key (key_of n) (key_of m)) m (base ++ m ∷ []) (Among-append_right m base (m ∷ []) (inl refl))
     ((same_key_decides (key_of m) (key_of m)).1 refl)
 
--- what becomes of a message whose text is echomail, by the tests
+-- the outcome of a message with an echomail text, by the tests
 abbrev outcome_by : Bool → Bool → Bool → Outcome
 outcome_by area link known =
     if not area then outcome.NoArea else if not link then outcome.NotLinked else if known then outcome.Known else outcome.Filed
@@ -281,7 +281,7 @@ events-taken : (events : List RunEvent) (run : Run) → AreTaken run → AreTake
 events-taken [] run are = are
 events-taken (event ∷ events) run are = events-taken events (after_event run event) (event-taken run event are)
 
--- in every run what was delivered is taken
+-- in every run each delivered packet is taken
 pub run-taken : (files : List LinkFile) (events : List RunEvent) → AreTaken (run_of files events)
 run-taken files events =
     events-taken events (start files) (record { there = λ k among. absurd among; taken = λ k p s among at here. absurd among })

@@ -181,7 +181,7 @@ module _ (laws : Laws) (tag : List ℕ) where
   abbrev pub IsNewKey : List REvent → Key → Type 0
   IsNewKey past k = (n : RFiled) → Among n (rules.filed past) → k ≢ n.text.key
 
-  -- a posting has its receivers: in the past exactly the systems with `was` got it, or it is new and exactly they have the area
+  -- exactly the systems with `was` got the posting in the past, or it is new and exactly they have the area
   pub record Owed (was : Address → Type 0) (files : List LinkFile) (past : List REvent) (run : Run) (m : Filed) : Type 0 where
     pub posted : Posted run m
     pub due : Given was past (key_of m) ⊎ (IsNewKey past (key_of m) × ((a : Address) → was a → Carries files tag a) × ((a : Address) → Carries files tag a → was a))

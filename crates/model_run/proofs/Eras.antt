@@ -1,4 +1,4 @@
--- A net whose links change where all has settled: a settled past, and the events since then by the rules of the
+-- A net with changes of links after all has settled: a settled past, and the events since then by the rules of the
 -- present net.
 use Rattle.std.proofs.Common.{◌≡◌, ◌≢◌, ◌⊎◌, inl, inr, refl, sym, subst, ap, ◌∙◌, IsTrue, List, [], ◌∷◌, ◌++◌, append_assoc, map, Some, None}
 use Rattle.std.specs.Prelude.{true, false}
