@@ -32,7 +32,7 @@ found_at [] i within = absurd (omega (arith, within))
 found_at (x ∷ xs) zero within = (x, refl)
 found_at (x ∷ xs) (suc i) within = found_at xs i (omega (arith, within))
 
--- the copy of the message that is at hand was added
+-- the copy of the fetched message is added
 pub added_at : (file : LinkFile) (area : List ℕ) (to : Address) (messages : List Filed) (i : ℕ) (hand : Option Filed) (old new : List Message)
     → i < length messages → hand ≡ slice_get messages i → new ≡ old ++ copies_at file area to hand → IsResentAt file area to messages i old new
 added_at file area to messages i hand old new within here grown =

@@ -30,7 +30,7 @@ use Rattle.cmd_show.specs.declared.area_counts.AreaCounts.{AreaCounts}
 use Rattle.cmd_show.specs.AreasListed.{AreListed, AreWithin, Ascend, HaveCounts, area_counts, area_line, areas_text, counted_more, counts_of, counts_text, found_counts, is_in, is_purged_in, no_counts}
 use Rattle.cmd_show.specs.Exporting.{state_by, state_of}
 
--- 1 where it is so
+-- 1 for yes
 abbrev one : Bool → ℕ
 one b = cond b 1 0
 
@@ -92,7 +92,7 @@ made messages waiting purged = record { messages = messages; waiting = waiting; 
 same_counts : (a b c x y z : ℕ) → a ≡ x → b ≡ y → c ≡ z → made a b c ≡ made x y z
 same_counts a b c x y z p q r = ap (λ n. made n b c) p ∙ ap (λ n. made x n c) q ∙ ap (λ n. made x y n) r
 
--- one message more is counted where it is of the area, as it is
+-- a message of the area adds one to its counts
 one_counted : (own waits short : Bool) (a b c x y z : ℕ) → x ≡ a + one own → y ≡ b + where_waits waits (one own) → z ≡ c + where_scanned waits (one (own && short))
     → made x y z ≡ cond own (counted_more (made a b c) (state_by waits short)) (made a b c)
 one_counted true true short a b c x y z p q r = same_counts x y z (a + 1) (b + 1) c p q (omega (arith, r))
@@ -118,7 +118,7 @@ within_more i c Purged within = record { messages = omega (arith, within.message
 pub within_next : (i : ℕ) (c : AreaCounts) → AreWithin i c → AreWithin (i + 1) c
 within_next i c within = record { messages = omega (arith, within.messages); waiting = omega (arith, within.waiting); purged = omega (arith, within.purged) }
 
--- a value that was put in, or else what was found before
+-- a value just inserted, or else the one found before
 unwrapped : (b : Bool) (v : AreaCounts) (o : Option AreaCounts) → unwrap_or (cond b (Some v) o) no_counts ≡ cond b v (unwrap_or o no_counts)
 unwrapped true v o = refl
 unwrapped false v o = refl

@@ -72,7 +72,7 @@ pub read_refused : (find : Option Address) (input : List ℕ) (old : Output) (f 
 read_refused find input old f (inl wrong) = inr (inr (record { why = f; is = refl; of_lines = wrong }), refl)
 read_refused find input old f (inr memory) = inr (inl (subst (λ x. IsOutOfMemory (Nodelist x)) (sym memory) tt), refl)
 
--- what is printed of a nodelist
+-- the lines of a nodelist
 right_list : (find : Option Address) (input text : List ℕ) (lines : List Line) (stated : CrcLine) → NodelistOf input lines → stated ≡ crc_line_of input
     → Listed find lines stated text → IsListed find input text (crc_status (crc_line_of input))
 right_list find input text lines stated is agreed listed = record {

@@ -75,7 +75,7 @@ module _ (form : Form) (area : Option (List ℕ)) (first : ℕ) (purged : Bool) 
   printed_none a kept cursor base n before = subst (λ (l : List ℕ). PassesOn (kept ++ l) kept a a) (sym (none_sought cursor base n before)) (none_added a kept)
 
   module _ (base : Base) where
-    -- what was printed before a message that could not be read
+    -- the printed lines before a message that could not be read
     pub begun_before : (a b : Option (List ℕ)) (kept mid : List ℕ) (i n : ℕ) → i ≤ n
         → PassesOn (kept ++ sought_texts form area first purged base.cursor base.messages i) mid a b → WritesFront (kept ++ sought_texts form area first purged base.cursor base.messages n) a b
     begun_before a b kept mid i n within before =
@@ -120,7 +120,7 @@ module _ (form : Form) (area : Option (List ℕ)) (first : ℕ) (purged : Bool) 
   right_export = record { printed = refl; counted = refl }
 
   module _ (asked : Option (List ℕ)) (none : List ℕ) (same : asked ≡ option_map upper area) (nothing : none ≡ []) where
-    -- what was asked for, behind nothing
+    -- the requested messages, after no other line
     whole : none ++ sought_texts form asked first purged base.cursor base.messages (length base.messages) ≡ all
     unfolding all
     whole = ap (λ l. l ++ sought_texts form asked first purged base.cursor base.messages (length base.messages)) nothing ∙ ap (λ u. sought_texts form u first purged base.cursor base.messages (length base.messages)) same

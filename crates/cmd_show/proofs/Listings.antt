@@ -29,7 +29,7 @@ messages_more form area first base cursor n =
     ap (flat_map text) (range_more n) ∙ flat_map-append text (range_with_len 0 n) (n ∷ [])
     ∙ ap (λ t. messages_text form area first base cursor n ++ t) (append-nil (text n))
 
--- the same of a message that was looked up, behind what was kept back
+-- the same for a fetched message, after the lines held back
 message_more : (form : ListForm) (area : Option (List ℕ)) (first : ℕ) (base : List Filed) (cursor i : ℕ) (message : Option Filed) (kept : List ℕ) → message ≡ slice_get base i
     → kept ++ (messages_text form area first base cursor i ++ asked_text form area first cursor i message) ≡ kept ++ messages_text form area first base cursor (i + 1)
 message_more form area first base cursor i message kept is =
@@ -70,7 +70,7 @@ none_asked form area first base cursor (suc n) before =
 pub printed_none : (a : Option (List ℕ)) (kept : List ℕ) (form : ListForm) (area : Option (List ℕ)) (first : ℕ) (base : List Filed) (cursor n : ℕ) → n ≤ first → PassesOn (kept ++ messages_text form area first base cursor n) kept a a
 printed_none a kept form area first base cursor n before = subst (λ (l : List ℕ). PassesOn (kept ++ l) kept a a) (sym (none_asked form area first base cursor n before)) (none_added a kept)
 
--- what was printed before a message that could not be read
+-- the printed lines before a message that could not be read
 pub begun_before : (a b : Option (List ℕ)) (kept mid : List ℕ) (form : ListForm) (area : Option (List ℕ)) (first : ℕ) (base : List Filed) (cursor i n : ℕ) → i ≤ n
     → PassesOn (kept ++ messages_text form area first base cursor i) mid a b → WritesFront (kept ++ messages_text form area first base cursor n) a b
 begun_before a b kept mid form area first base cursor i n within before =

@@ -1,4 +1,4 @@
--- What was printed of a packet.
+-- The lines printed for a packet.
 use Rattle.std.proofs.Common.{◌≡◌, ℕ, ◌+◌, ◌^◌, ◌<◌, ◌⊎◌, inl, inr, Bool, List, [], ◌∷◌, ◌++◌, Option, Result, Ok, Err, OnOk, OnErr, length, refl, sym, ap, ◌∙◌, subst, arith, append_assoc, append-nil, add-zero}
 use Rattle.std.specs.Prelude.{IfErr}
 use Rattle.std.proofs.lemmas.List.{length-append}
@@ -29,7 +29,7 @@ use Rattle.cmd_show.specs.Showing.{AllShown, FrontShown, MessagePasses, PacketPa
 use Rattle.cmd_print.specs.Shown.{MessageShown, MessagesShown, header_lines, end_line}
 use Rattle.cmd_show.specs.Written.{AddsLines}
 
--- the lines of the header and of the messages that were given are on their way, behind those kept back before, and the next message begins at this place
+-- the lines of the header and of the given messages are on their way; the next message begins at this place
 pub record HasPrinted (full : Bool) (bytes rest : List ℕ) (header : Header) (own : Limits) (given at : ℕ) (next : Stage) (kept behind : List ℕ) (old new : Option (List ℕ)) (count place : ℕ) : Type 0 where
   pub messages : List Message
   pub so_far : HasGiven show_limits bytes messages rest header own given at next
@@ -39,7 +39,7 @@ pub record HasPrinted (full : Bool) (bytes rest : List ℕ) (header : Header) (o
   pub each : MessagesShown full 1 58 messages lines
   pub printed : PassesOn (kept ++ (header_lines header ++ lines)) behind old new
 
--- what is wrong with bytes that do not begin with a header
+-- the fault of bytes that do not begin with a header
 front_fault : (bytes : List ℕ) (f : PacketFault) → FrontFault bytes f → (((at : ℕ) → f ≡ fault.Read at → ⊥)) → FaultOf bytes show_limits [] f
 front_fault bytes (fault.Truncated at) h alive = inl (h.0, refl, h.1)
 front_fault bytes (fault.NotType2 at) h alive = (h.0, refl, h.1, h.2)
@@ -66,7 +66,7 @@ header_printed full bytes rest h own given at next kept behind old place so here
   printed = subst (λ t. PassesOn t behind old old) (added ∙ ap (λ t. kept ++ t) (sym (append-nil (header_lines h)))) (none_passed old behind);
 }
 
--- the lines of a message whose number and place have other names
+-- the lines of a message with equal number and place
 moved : (full : Bool) (k l p q : ℕ) (m : Message) (own : List ℕ) → k ≡ l → p ≡ q → MessageShown full k p m own → MessageShown full l q m own
 moved full k l p q m own number place h = subst (λ n. MessageShown full n q m own) number (subst (λ n. MessageShown full k n m own) place h)
 

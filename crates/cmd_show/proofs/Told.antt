@@ -36,7 +36,7 @@ none_told bytes b found begun none = record {
   told = ap (λ f. f ++ faulty_among [] 1 (file_lines bytes)) (sym none);
 }
 
--- what is told of a line and of those behind it
+-- the faulty lines among a line and those after it
 line_first : (earlier : List (List ℕ)) (number : ℕ) (line : List ℕ) (later : List (List ℕ)) (new : SaidBefore) (wrong : Option Wrong) → JudgesLine earlier number line new wrong
     → (good : List (List ℕ)) × IsBefore good new × (faulty_among earlier number (line ∷ later) ≡ line_told wrong ++ faulty_among good (number + 1) later)
 line_first earlier number line later new None judged = (
@@ -113,7 +113,7 @@ module _ (bytes : List ℕ) where
   unfolding faults_of
   first_told = by_fault (file_fault bytes) refl
 
-  -- what is told of a file with this fault is all that is wrong with it
+  -- the reported lines of a file with this fault are all its faults
   pub told_with_fault : (why : LinkFault) (told : List FaultyLine) → file_fault bytes ≡ Some why → told ≡ reported_lines bytes (Some why) → told ≡ faults_of bytes
   unfolding faults_of
   told_with_fault why told is so = so ∙ ap (reported_lines bytes) (sym is)

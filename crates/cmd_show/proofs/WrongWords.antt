@@ -19,7 +19,7 @@ use Rattle.cmd_show.specs.FaultyLines.{link_again, no_address}
 
 -- ---- links
 
--- these links were gone over, none of them wrong, and these words are left
+-- links passed so far without a fault, and the words left
 pub record LinksSeen (number : ℕ) (all later : List (List ℕ)) (sorted : List Address) : Type 0 where
   pub before : List (List ℕ)
   pub faults : links_fault number [] all ≡ links_fault number before later

@@ -4,12 +4,12 @@ use Rattle.std.proofs.lemmas.Bool.{eq-eqb, le-leb, lt-leb, ne_eqb}
 use Rattle.echo_jam.specs.Subfields.{behind_field, control_line, controls_within, field_content, field_kind, first_within}
 
 module _ (kind : ℕ) (bytes : List ℕ) where
-  -- the first subfield is of the kind
+  -- the first subfield has the kind
   pub found_here : (n r : ℕ) → 0 < n → 8 ≤ length bytes → r ≡ field_kind bytes → r ≡ kind → first_within kind n bytes ≡ Some (field_content bytes)
   found_here zero r some long is same = absurd (omega (arith, some))
   found_here (suc n) r some long is same = rw (le-leb 8 (length bytes) long, eq-eqb (field_kind bytes) kind (sym is ∙ same)) refl
 
-  -- it is of another kind
+  -- it has another kind
   pub found_later : (n r : ℕ) → 0 < n → 8 ≤ length bytes → r ≡ field_kind bytes → r ≢ kind → first_within kind n bytes ≡ first_within kind (n - 1) (behind_field bytes)
   found_later zero r some long is other = absurd (omega (arith, some))
   found_later (suc n) r some long is other =

@@ -9,7 +9,7 @@ use Rattle.model_steps.specs.declared.packet.Packet.{Packet}
 use Rattle.model_steps.specs.Tossing.{sender_of, tossing}
 use Rattle.model_run.specs.Run.{Run, System, nth, receiver}
 
--- None of these messages, from one sender, would be filed.
+-- No message in this list, from one sender, would be filed.
 abbrev pub NoneIsFiled : LinkFile → List Filed → Address → List Message → Type 0
 NoneIsFiled file base sender [] = ⊤
 NoneIsFiled file base sender (packed ∷ later) = (tossing file base sender packed ≡ None) × NoneIsFiled file base sender later
