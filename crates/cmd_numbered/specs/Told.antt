@@ -13,11 +13,11 @@ next_at (Some file) end = file.message
 abbrev pub told_line : ℕ → ℕ → List ℕ
 told_line made next = codes "exported " ++ (decimal made ++ (codes " messages, next " ++ (decimal next ++ codes "\n")))
 
--- The line of an export that made the first `n` of the files.
+-- The line of an export that made this many of the files.
 abbrev pub exported_line : Exported → ℕ → List ℕ
 exported_line exported made = told_line made (next_at (slice_get exported.files made) exported.end)
 
--- The line of an export that added the first `n` messages to a JAM base. Next is the first message left, or the end.
+-- The line of an export that added this many messages to a JAM base. Next is the first message left, or the end.
 abbrev pub added_line : JamExport → ℕ → List ℕ
 added_line exported made = told_line made (unwrap_or (slice_get exported.adding.messages.items made) exported.end)
 

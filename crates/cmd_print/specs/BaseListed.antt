@@ -88,7 +88,7 @@ abbrev pub asked_text : ListForm → Option (List ℕ) → ℕ → ℕ → ℕ �
 asked_text form area first cursor i None = []
 asked_text form area first cursor i (Some m) = if is_asked area first i m then listed_text form cursor i m else []
 
--- The lines of the requested messages among the first `n` of a base.
+-- The lines of the requested messages among the first `count` of a base.
 abbrev pub messages_text : ListForm → Option (List ℕ) → ℕ → List Filed → ℕ → ℕ → List ℕ
 messages_text form area first base cursor count =
     flat_map (λ i. asked_text form area first cursor i (slice_get base i)) (range_with_len 0 count)

@@ -49,7 +49,7 @@ abbrev pub addressed_text : Option Address → Line → List ℕ
 addressed_text None line = []
 addressed_text (Some a) line = listed_entry a line
 
--- The lines of the entries among the first `n` lines.
+-- The lines of the entries among the first `count` lines.
 abbrev pub listed_entries : List Line → ℕ → List ℕ
 listed_entries lines count = flat_map (λ i. addressed_text (address_at lines i) (line_at lines i)) (range_with_len 0 count)
 

@@ -114,7 +114,7 @@ event-is-events event net new run apart agrees (inr leads) =
     let l = led event.command net new event.station run apart agrees leads in
     (l.events, inr l.are, l.agrees)
 
--- stations whose bases are empty
+-- stations with empty bases
 first-stations : (links : List (List ℕ)) (files : List LinkFile) → AreLinkFiles links files → Paired HasSystem (map new_station links) (map fresh files)
 first-stations [] [] are = tt
 first-stations [] (file ∷ files) are = absurd are

@@ -1,4 +1,4 @@
--- A command changes only the base of its own station.
+-- A command changes only the base of its station.
 use Rattle.std.proofs.Common.{◌≡◌, ◌≢◌, ◌⊎◌, inl, inr, refl, ap, ◌∙◌, ℕ, zero, suc, Bool, true, false, List, [], ◌∷◌}
 use Rattle.base_file.specs.Base.{Base}
 use Rattle.model_steps.specs.declared.stamp.Stamp.{Stamp}

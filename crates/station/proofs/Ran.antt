@@ -31,7 +31,7 @@ elsewhere_quiet place d0 d1 d2 kept quiet = record {
   honest = λ is. kept.honest (quiet.honest is);
 }
 
--- what stood elsewhere stands there after the command, and after the disk was taken out
+-- other files are unchanged after the command, and after the disk was taken out
 pub elsewhere_after : (place : Place) (d0 d2 : DiskState) (s0 s1 : StoreState) → IsOfPlace place d0 s0 → KeepsBeside s0 s1 → ChangesNothing s1.disk d2 → KeepsElsewhere place d0 d2
 elsewhere_after place d0 d2 s0 s1 of kept quiet =
     let off : (m : List ℕ) → (place.is_own m → ⊥) → s0.is_own m → ⊥ = λ m out own. out (of.own m own) in
@@ -71,7 +71,7 @@ module _ (place : Place) (d0 d2 : DiskState) (s0 s1 : StoreState) (begun : IsOpe
   outside_store c same m out named flushed =
       same m (λ own. out (of.own m own)) (of.elsewhere.named m out named) (of.elsewhere.flushed m out flushed) ∙ of.elsewhere.seen m out
 
-  -- what is committed stands, as it is seen and whatever a crash leaves
+  -- the files hold the committed base, as they are seen and after any crash
   module _ (next : Base) (same : IsSameStore s0 s1) (ready : s1.is_ready) (honest : s1.disk.is_honest) (is : s1.committed next) where
     to_place : (c : Files) → s1.stands next c → place.stands_for next c
     to_place c here = (of.stands next c).0 ((same.stands next c).0 here)

@@ -9,7 +9,7 @@ pub no_size : (file : Option (List ℕ)) (found : Bool) → (IsTrue found ↔ Is
 no_size None found tests is = refl
 no_size (Some bytes) found tests is = let yes : found ≡ true = tests.1 refl in absurd (cc (yes, is))
 
--- of a file that is there, this is its size
+-- the size of an existing file
 pub size_there : (file : Option (List ℕ)) (size : ℕ) → IsSome file → size ≡ length (bytes_in file) → HasSize file (Some size)
 size_there None size there is = absurd (cc there)
 size_there (Some bytes) size there is = ap Some is

@@ -1,4 +1,4 @@
--- Paths beside others are of the same folder.
+-- A staging path is in the folder of its path.
 use Rattle.std.proofs.Common.{◌≡◌, ◌≢◌, ◌∙◌, ◌<◌, ◌^◌, ℕ, List, ◌++◌, All, codes, length, sym, subst, ap, arith, append_assoc, length-append}
 use Rattle.std.specs.Fmt.{decimal}
 use Rattle.std.proofs.lemmas.List.Elements.{All-append, All-from_recursion}

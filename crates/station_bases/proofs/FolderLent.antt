@@ -34,7 +34,7 @@ ended_same path bodies a c same (inr new) = inr (record {
   };
 })
 
--- and stand for the same base
+-- and hold the same base
 stands_same : (path : List ℕ) (base : BaseBytes) (a c : Files) → ((m : List ℕ) → IsIn path m → c m ≡ a m) → StandsFor path base a → StandsFor path base c
 stands_same path base a c same was =
     let told = last_told was.bodies in
@@ -70,7 +70,7 @@ module _ (path : List ℕ) (d e : DiskState) (run : ChangesOnly (Outside path) d
     alone = run.alone m (inside m is) on.alone;
   }
 
-  -- what is staged is so still
+  -- a staged base stays staged
   staged_same : (end : End) (told : CommitRecord) → IsStaged d path end told → IsStaged e path end told
   staged_same end told was =
       let m_in = messages_in path told.number in

@@ -26,7 +26,7 @@ left_alone d e f unread.Device quiet left = tt
 left_alone d e f unread.Raced quiet left = tt
 left_alone d e f (unread.Wrong why) quiet left = nothing_twice d e f quiet left
 
--- what is not opened after a look, for the system that the link file names
+-- a refusal after a look, for the system that the link file names
 pub not_opened : (own other : Address) (strange : Bool) (base path : List ℕ) (part failed : Type 0) (d e f : DiskState) (fault : Fault) → other ≡ own → (part → failed) → ChangesNothing d e
     → IsNotOpened other strange base path part e f fault → IsNotOpened own strange base path failed d f fault
 not_opened own other strange base path part failed d e f fault same more quiet shut = record {

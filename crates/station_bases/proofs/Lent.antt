@@ -1,4 +1,4 @@
--- The disk of a base file that was used beneath it, and the paths beside it.
+-- The disk of a base file after its use for other files, and the staging paths.
 use Rattle.std.proofs.Common.{◌≡◌, ◌≢◌, ◌↔◌, ◌++◌, ℕ, Bool, true, false, IsTrue, List, length, drop, inr, sym, ◌∙◌, ap, refl, subst}
 use Rattle.std.proofs.lemmas.List.{drop_at}
 use Rattle.base_file.specs.Base.{Base}
