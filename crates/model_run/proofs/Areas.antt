@@ -1,4 +1,4 @@
--- What link files say of an area, and the keys of its messages.
+-- The area in link files, and the keys of its messages.
 use Rattle.std.proofs.Common.{◌≡◌, inl, inr, refl, sym, subst, ap, ◌∙◌, ℕ, IsTrue, List, [], ◌∷◌, map, Option, Some, None}
 use Rattle.std.specs.Prelude.{Bool, true, false, bytes_eq, option_map, unwrap_or, is_some, ◌&&◌}
 use Rattle.std.specs.List.{list_any}
@@ -22,7 +22,7 @@ use Rattle.model_run.proofs.TosserPremises.{Laws}
 use Rattle.model_run.proofs.Lists.{not_both, and-parts, and-from, any-to, any-from}
 use Rattle.model_run.proofs.RulesLists.{Among-map_to, Among-map_from}
 
--- the area of a key is that of its message
+-- the area of a message's key is the area of the message
 pub key-tag : (m : Filed) → tag_of (key_of m) ≡ m.echo.tag
 unfolding key_of
 key-tag m = with_id (msgid_of m.echo.kept)
@@ -31,7 +31,7 @@ key-tag m = with_id (msgid_of m.echo.kept)
     with_id None = refl
     with_id (Some id) = refl
 
--- the key of an own id in the area
+-- the key of an id of this address in the area
 abbrev pub Wrote : List ℕ → Address → Key → Type 0
 Wrote tag a k = IsAddress a × ((serial : ℕ) × (k ≡ ById tag (id_of a serial)))
 
@@ -48,7 +48,7 @@ module _ (laws : Laws) where
   bytes-equal x y e =
       (and-parts (bytes_eq x y) (bytes_eq [] []) (laws.keys.full (ById x []) (ById y []) (ap (λ (t : List ℕ). ById t []) e))).0
 
-  -- who wrote a key
+  -- a key has one writer
   pub one-writer : (tag : List ℕ) (f g : Address) (k : Key) → Wrote tag f k → Wrote tag g k → f ≡ g
   one-writer tag f g k wrote_f wrote_g =
       let (serial, e) = wrote_f.1 in
@@ -56,7 +56,7 @@ module _ (laws : Laws) where
       let same : id_of f serial ≡ id_of g other = cc in
       laws.ids f g serial other wrote_f.0 wrote_g.0 same
 
--- of two lists by one test of their places, members with one name are one
+-- members of a list without repeated names are equal if their names are
 pub one_name : {X Y : Type 0} (g : X → Y) (xs : List X) → Different (map g xs) → (x y : X) → Among x xs → Among y xs → g x ≡ g y → x ≡ y
 one_name g [] d x y i j e = absurd i
 one_name g (z ∷ xs) d x y i j e =

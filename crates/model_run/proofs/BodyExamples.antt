@@ -1,4 +1,4 @@
--- Control lines in the body of a posting, by computation: they are lines of the body like others, on each hop.
+-- Control lines in the body of a posting, by computation: they are ordinary lines of the body on each hop.
 use Rattle.std.proofs.Common.{◌≡◌, ℕ, List, [], ◌∷◌, ◌++◌, refl, Some, codes, length}
 use Rattle.std.specs.Fmt.{digits}
 use Rattle.echo_addr.specs.Entries.{entries, pair_of, tokens}
@@ -45,7 +45,7 @@ body_targets : targets first_file body_posting ≡ system 2 ∷ []
 unfolding posted targets links_of
 body_targets = refl
 
--- the text that goes out
+-- the text in the packet
 abbrev body_out : List ℕ
 body_out =
     codes "AREA:TEST" ++ 13 ∷ (1 ∷ codes "MSGID: 1:10/1 00000001" ++ 13 ∷ (codes "SEEN-BY: 10/2" ++ 13
@@ -78,7 +78,7 @@ body_twice : outcomes second_file [] (system 1) (body_copy ∷ (body_copy ∷ []
 unfolding toss_outcome tossing received text_refusal echo_of lines begins after_word trimmed kept_of seen_lists path_lists entry_set entries tokens pair_of links_of key_of msgid_of
 body_twice = refl
 
--- and the last one too, with the same lines
+-- and so does the last one, with the same lines
 abbrev third_file : LinkFile
 third_file = record {
   system = system 3;

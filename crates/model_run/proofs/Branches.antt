@@ -1,4 +1,4 @@
--- A posting spreads in branches, one for each link of the poster: links join no two branches but at those links.
+-- A posting spreads in branches, one for each link of the poster; links join two branches only at those links.
 use Rattle.std.proofs.Common.{◌≡◌, ◌≢◌, ◌⊎◌, inl, inr, refl, sym, subst, ap, ◌∙◌, ℕ, zero, suc, ◌≤◌, arith, IsTrue, List, [], ◌∷◌, ◌++◌, length, Some}
 use Rattle.std.specs.Prelude.{Bool, true, false}
 use Rattle.echo_addr.specs.declared.address.Address.{Address}
@@ -10,7 +10,7 @@ use Rattle.model_steps.specs.Scanning.{is_seen_by}
 use Rattle.model_run.proofs.Lists.{not_both, yes_or_no}
 use Rattle.model_run.proofs.Spreads.{Came, IsNear, Spread, came_from, first_seen, from_poster, longer, near-is, one_or_two, source}
 
--- the second entry of a path, or the entry of the system itself where it has none
+-- the second entry of a path, or the system's entry if there is none
 abbrev pub second : NetNode → List NetNode → NetNode
 second own [] = own
 second own (e ∷ []) = own
@@ -132,7 +132,7 @@ module _ (linked : Address → Address → Bool) (Carrier : Address → Type 0) 
         ]
       ]
 
--- d is a, or a link of it
+-- d is a or a link of a
 abbrev pub Touches : (Address → Address → Bool) → Address → Address → Type 0
 Touches linked a d = (d ≡ a) ⊎ IsTrue (linked a d)
 
@@ -146,7 +146,7 @@ touches-cases linked a d =
       ]
     ]
 
--- of two links of b that are linked with each other c touches both or neither, where b is all that is linked so
+-- of two linked links of b, c touches both or neither, if c is in no kite
 pub closed-by : (linked : Address → Address → Bool) (b c : Address) → ¬ IsTrue (linked b b) →
     ((x y : Address) → IsTrue (linked c x) → IsTrue (linked b y) → IsTrue (linked x y) → y ≢ c → ¬ IsTrue (linked c y) → b ≡ x) →
     (x y : Address) → IsTrue (linked b x) → IsTrue (linked b y) → IsTrue (linked x y) → Touches linked c x → Touches linked c y

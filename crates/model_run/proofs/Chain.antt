@@ -52,7 +52,7 @@ both a b h =
 simple : Simple linked
 simple = record { both_ways = both; no_self = λ a h. elim (chain-parts a a h).2 [ inl e ↦ omega (arith, e) | inr e ↦ omega (arith, e) ] }
 
--- of three in a row that differ the one between is 1
+-- of three different systems in a row the middle one is 1
 middle : (a b c : ℕ) → IsTrue (linked a b) → IsTrue (linked b c) → a ≢ c → b ≡ 1
 middle a b c to_b to_c other =
     let (a_below, b_below, near) = chain-parts a b to_b in

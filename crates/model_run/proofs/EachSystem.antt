@@ -1,4 +1,4 @@
--- What a system keeps by itself it keeps in every run.
+-- An invariant of each single system holds in every run.
 use Rattle.std.proofs.Common.{refl, subst, sym, ℕ, List, [], ◌∷◌, length, Option, Some, None}
 use Rattle.std.specs.Prelude.{Bool, true, false, ◌++◌, take, if◌then◌else◌}
 use Rattle.echo_addr.specs.declared.address.Address.{Address}

@@ -1,4 +1,4 @@
--- Targets of a message, and what an exported copy lists.
+-- Targets of a message, and the entries of an exported copy.
 use Rattle.std.proofs.Common.{◌≡◌, ◌≢◌, ◌⊎◌, inl, inr, refl, sym, subst, ap, ℕ, List, [], ◌∷◌, ◌++◌, map, Option, Some, None}
 use Rattle.std.specs.Prelude.{Bool, true, false, not, ◌&&◌, option_map, unwrap_or}
 use Rattle.echo_addr.specs.declared.address.Address.{Address}
@@ -20,7 +20,7 @@ not-true : (b : Bool) → not b ≡ true → b ≡ false
 not-true true e = absurd (not_both false e refl)
 not-true false e = refl
 
--- whether an address is a link, and among the links
+-- an address that is a link is among the links
 pub link-among : (file : LinkFile) (tag : List ℕ) (a : Address) → is_link file tag a ≡ true → Among a (links_of file tag)
 link-among file tag a h =
     let (b, i, e) = any-from (same_address a) (links_of file tag) h in

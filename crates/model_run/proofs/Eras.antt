@@ -100,7 +100,7 @@ module _ {A N K C : Type 0} (Same : C → C → Type 0) where
     same = λ m p h i own e. absurd h;
   }
 
-  -- what happened since: no posting of it has a key of the past
+  -- the events since then: no posting among them has a key of the past
   pub record Since (net : Net A N) (past recent : List (Event A N K C)) : Type 0 where
     pub rest : Rest past
     pub by_rules : ByRules net Same recent
@@ -198,7 +198,7 @@ module _ {A N K C : Type 0} (can : CanTell A) (can_keys : CanTell K) (net : Net 
     ]
   ]
 
-  -- where the whole has settled, so has what happened since
+  -- if the whole has settled, so have the recent events
   module _ (settled : IsSettled whole) where
     exported-now : (m : Filed A N K C) → Among m (filed recent) → Among m (exported recent)
     exported-now m h =
@@ -226,7 +226,7 @@ module _ {A N K C : Type 0} (can : CanTell A) (can_keys : CanTell K) (net : Net 
         let (m, i, at, key, same) = (every_run-orderly can can_keys net tidy Same compares recent since.by_rules.0 since.by_rules.1).all_filed settled-now p h own x at_x in
         (m, filed-recent recent past m i, at, key)
 
-    -- and all of it is a past
+    -- and the whole is a past
     pub rests : Rest Same whole
     rests = record {
       filed_once = whole-filed_once;
@@ -290,7 +290,7 @@ module _ {A N K C : Type 0} (can : CanTell A) (can_keys : CanTell K) (net : Net 
           ]),
     )
 
-    -- and where all has settled, each with the area has it
+    -- if all has settled, each system with the area has it
     pub given-now : IsSettled whole → p.sender ≡ None → (was : A → Type 0) → ((a : A) → was a → IsTrue (net.carries a)) → ((a : A) → IsTrue (net.carries a) → was a) →
         Given was whole p.text.key
     given-now settled own was to back = record {

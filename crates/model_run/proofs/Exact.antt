@@ -1,4 +1,4 @@
--- Where each carrier's posting does no harm, the area is tidy: so an area is tidy, or some posting does harm.
+-- If no carrier's posting does harm, the area is tidy. So an area is tidy, or some posting does harm.
 use Rattle.std.proofs.Common.{◌≡◌, ◌≢◌, ◌⊎◌, inl, inr, sym, subst, ap, ◌∙◌, ℕ, zero, suc, ◌<◌, arith, IsTrue, List, ◌∷◌, length, Some}
 use Rattle.std.specs.Prelude.{Bool, true}
 use Rattle.std.proofs.lemmas.Bool.{cases_eq}
@@ -90,7 +90,7 @@ module _ (files : List LinkFile) (known : LawsOfRuns files) (tag : List ℕ) (on
       simple : Simple linked
       simple = record { both_ways = both; no_self = no_self }
 
-      -- of the links of b those that c touches are linked with no others
+      -- of two linked links of b, c touches both or neither
       closed : (b c : Address) → IsTrue (linked b c) → (x y : Address) → IsTrue (linked b x) → IsTrue (linked b y) → IsTrue (linked x y) →
           Touches linked c x → Touches linked c y
       closed b c to_c = closed-by linked b c (no_self b) (λ x y near to_y side other unlinked.

@@ -1,4 +1,4 @@
--- The history of an area, as one system changes or scans.
+-- The history of an area over a change or a scan of one system.
 use Rattle.std.proofs.Common.{◌≡◌, ◌⊎◌, inl, inr, refl, sym, subst, ap, ◌∙◌, ℕ, List, [], take, Some}
 use Rattle.echo_addr.specs.declared.address.Address.{Address}
 use Rattle.echo_addr.specs.declared.address.NetNode.{NetNode}
@@ -23,9 +23,9 @@ RCopy = Copy Address NetNode Key Content
 abbrev pub REvent : Type 0
 REvent = Event Address NetNode Key Content
 
--- the system of an index changes
+-- the system at an index changes
 module _ (systems : List System) (i : ℕ) (f : System → System) (s : System) (at_s : nth i systems ≡ Some s) where
-  -- it is there then, and each other one was there before
+  -- the changed system is in the run, and each other system was there before
   pub there-then : Among (f s) (change i f systems)
   there-then = elim (nth-changed i i f s systems at_s) [
     | inl other ↦ absurd (other.0 refl)

@@ -10,7 +10,7 @@ use Rattle.model_run.proofs.Targets.{some_same}
 use Rattle.model_run.proofs.Chain.{chain, chain-parts, chain-tidy}
 use Rattle.model_run.proofs.SmallNets.{polygon, polygon-tidy, linked-parts}
 
--- a message of key 7 with this content, that lists no one
+-- a message of key 7 with this content and an empty SEEN-BY
 abbrev says : ℕ → Text ℕ ℕ ℕ
 says content = record { key = 7; content = content; seen = [] }
 
@@ -21,7 +21,7 @@ posted at = record { at = at; sender = None; text = says 1 }
 abbrev received : ℕ → Filed ℕ ℕ ℕ ℕ
 received content = record { at = 1; sender = Some 0; text = says content }
 
--- and goes out as this
+-- and it is sent as this copy
 abbrev copied : ℕ → Copy ℕ ℕ ℕ ℕ
 copied content = record { from = 0; to = 1; text = says content }
 
@@ -34,7 +34,7 @@ send content = Exports (posted 0) (1 ∷ []) (λ x. says content)
 abbrev come : ℕ → Event ℕ ℕ ℕ ℕ
 come content = Comes (copied content) true
 
--- one who is to be sent a message of 0 of two systems is 1
+-- the only target of a message of 0 in a net of two systems is 1
 only_target : (x : ℕ) → IsTarget (polygon 2) (posted 0) x → Among x (1 ∷ [])
 only_target x target = let (below, under, other) = linked-parts 2 0 x target.link in inl (omega (arith, under, λ (e : x ≡ 0). other (sym e)))
 
@@ -68,7 +68,7 @@ told x h = record {
   behind = λ d carrier beyond other i. absurd i;
 }
 
--- 1 has not filed what 0 posted
+-- 1 has not filed the posting of 0
 not_at_1 : ¬ Has 1 7 (posted 0 ∷ [])
 not_at_1 has = elim has.1 [
   | inl e ↦ (let here = ap (λ (m : Filed ℕ ℕ ℕ ℕ). m.at) e in let there = has.2 in absurd (omega (arith, here, there)))
@@ -124,7 +124,7 @@ settling-kept content sending apart = (
 settling-kept content telling apart = (λ x h. absurd h, (tt, (told, (λ d carrier h. absurd h, tt))))
 settling-kept content keys apart = (tt, (tt, (tt, (λ m h. absurd h, tt))))
 
--- all rules are kept where the content stays
+-- all rules are kept if the content stays
 pub can-be-kept : IsMet
 can-be-kept = record {
   net = polygon 2;

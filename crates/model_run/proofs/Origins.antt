@@ -56,7 +56,7 @@ Among-changed_to (suc i) f x (y ∷ xs) h =
       | inr t ↦ (let (z, j, e) = Among-changed_to i f x xs t in (z, inr j, e))
     ]
 
--- what a system has it keeps
+-- a system keeps its messages
 abbrev pub Keeps : (System → System) → Type 0
 Keeps f = (s : System) (m : Filed) → Among m s.history → Among m (f s).history
 

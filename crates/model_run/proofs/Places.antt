@@ -1,4 +1,4 @@
--- In a net where each address has one file: which system has an address, and which links it lists.
+-- A net with one file for each address: the system of an address, and the links that it lists.
 use Rattle.std.proofs.Common.{◌≡◌, refl, sym, subst, ap, ◌∙◌, ℕ, zero, suc, IsTrue, List, [], ◌∷◌, map, Some}
 use Rattle.std.specs.Prelude.{true, ◌&&◌}
 use Rattle.echo_addr.specs.declared.address.Address.{Address}
@@ -82,7 +82,7 @@ carrier-area files tag one_file file h a e carries =
     let same = different-same (λ (f : LinkFile). f.system) files one_file file own h i (e ∙ sym q) in
     ap (λ (f : LinkFile). has_area f tag) same ∙ area
 
--- who lists a link is a carrier
+-- a system that lists a link is a carrier
 pub lister-carries : (files : List LinkFile) (tag : List ℕ) (a b : Address) → IsTrue (lists files tag a b) → Carries files tag a
 lister-carries files tag a b link =
     let (file, h, e, t) = lists-file files tag a b link in

@@ -44,7 +44,7 @@ longest : post_refusal first_file [] (codes "TEST") (record draft { to_name = re
 unfolding post_refusal
 longest = refl
 
--- B5: each part by itself, so that the 31st of February is accepted
+-- B5: each part by itself, so the 31st of February is accepted
 month_thirteen : post_refusal first_file [] (codes "TEST") draft 1 (record stamp { month = 13 }) ≡ Some fault.BadStamp
 unfolding post_refusal
 month_thirteen = refl
@@ -57,7 +57,7 @@ february : post_refusal first_file [] (codes "TEST") draft 1 (record stamp { mon
 unfolding post_refusal
 february = refl
 
--- B6; blanks alone are no empty reply
+-- B6; a reply of blanks is no empty reply
 no_id : post_refusal first_file [] (codes "TEST") (record draft { reply = codes "x" }) 1 stamp ≡ Some fault.BadReply
 unfolding post_refusal is_id trimmed
 no_id = refl

@@ -1,4 +1,4 @@
--- Systems that get other link files keep what they have.
+-- Systems with other link files keep their messages.
 use Rattle.std.proofs.Common.{◌≡◌, inl, inr, refl, sym, subst, ap, arith, List, [], ◌∷◌, map, length}
 use Rattle.model_graph.specs.Walk.{Among}
 use Rattle.echo_links.specs.Links.{LinkFile}
@@ -29,7 +29,7 @@ later_same e = cc
 none_left : {X : Type 0} {x : X} {xs : List X} → [] ≡ x ∷ xs → ⊥
 none_left {X} {x} {xs} e = absurd (omega (arith, ap (λ (ys : List X). length ys) e))
 
--- each system was one before, and each has become one
+-- each new system was one before, and each old one has become one
 pub renewed-back : (files : List LinkFile) (ss : List System) (z : System) → SameSystems ss files → Among z (with_files files ss) →
     (s : System) × Among s ss × Renewed s z
 renewed-back [] [] z same h = absurd h

@@ -90,7 +90,7 @@ take-more m (suc n) k [] ns h i = absurd i
 take-more m (suc n) zero (x ∷ ms) ns h i = absurd (omega arith)
 take-more m (suc n) (suc k) (x ∷ ms) ns h i = elim i [ inl e ↦ inl e | inr j ↦ inr (take-more m n k ms ns (omega arith) j) ]
 
--- a scan comes to all that was filed before it
+-- a scan covers all messages filed before it
 scan-done : (file : LinkFile) (earlier later : List LoneEvent) (stamp : Stamp) → is_stamp stamp ≡ true →
     (m : Filed) → Among m (lone_run file earlier).system.history → Among m (done (lone_run file (earlier ++ ScanHere stamp ∷ later)).system)
 scan-done file earlier later stamp in_range m h =
@@ -193,7 +193,7 @@ module _ (laws : Laws) where
   run-sent file fits events plain =
       events-sent events (lone_at_first file) plain (first-ok laws file fits) (record { counts_are = λ a k. refl; packets = λ p h. absurd h })
 
-  -- of any system so far
+  -- for any system so far
   module _ (s : LoneSystem) (ok : SystemOk s.system) (sofar : IsSentSoFar s) where
     owed-goes : (m : Filed) (a : Address) → IsOwed s.system.file m a → goes_to s.system.file a m ≡ true
     owed-goes m a owed = goes-to laws s.system.file m a (record { link = owed.link; not_sender = owed.not_sender; not_seen = owed.unlisted })
@@ -251,7 +251,7 @@ module _ (laws : Laws) where
           ok.once (key_of m),
         )))
 
-  -- of the system of a link file
+  -- for the system of a link file
   module _ (file : LinkFile) (fits : IsFile file) (events : List LoneEvent) (plain : AreOfPackets events) where
     abbrev at_end : LoneSystem
     at_end = lone_run file events
@@ -278,7 +278,7 @@ module _ (laws : Laws) where
         (laws.addresses.full (destination p) (destination p) refl) in
         (m, j, subst P (run-file file events) sent, owed-back m (destination p) (goes-owed at_end end-ok end-sent m (destination p) goes))
 
-  -- a scan sends all that was filed before it
+  -- a scan sends all messages filed before it
   pub scan-sends : (file : LinkFile) → IsFile file → (earlier later : List LoneEvent) (stamp : Stamp) → AreOfPackets (earlier ++ ScanHere stamp ∷ later) →
       is_stamp stamp ≡ true → (m : Filed) → Among m (lone_run file earlier).system.history →
       (a : Address) → IsOwed file m a → sent_count a (key_of m) (lone_run file (earlier ++ ScanHere stamp ∷ later)).sent ≡ 1

@@ -63,7 +63,7 @@ module _ (laws : Laws) (files : List LinkFile) (tag : List ℕ) (tidy : Tidy fil
   abbrev whole : List REvent
   whole = st.recent ++ past
 
-  -- a message of the area that a system has was filed, by the events
+  -- the events filed each message of the area that a system has
   pub filed-event : (s : System) → Among s run.systems → (m : Filed) → Among m s.history → m.echo.tag ≡ tag → Among (filed_as (address_of s) m) (rules.filed whole)
   filed-event s h m i area =
       (st.history.filed (filed_as (address_of s) m)).1 (record { system = s; there = h; message = m; filed = i; area = area; same = refl })
@@ -86,7 +86,7 @@ module _ (laws : Laws) (files : List LinkFile) (tag : List ℕ) (tidy : Tidy fil
       let P : RFiled → Type 0 = λ f. Wrote tag f.at f.text.key in
       subst P (sym is.same) (st.wrote is.system is.there is.message is.filed (record { own = sender; area = is.area }))
 
-  -- a key that a system wrote and has not filed no system has
+  -- no system has a key that its writer has not filed
   new-key : (s : System) → Among s run.systems → (k : Key) → Wrote tag (address_of s) k → ¬ HasKey k s.history → (m : RFiled) → Among m (rules.filed whole) → m.text.key ≢ k
   new-key s h k wrote fresh m i e =
       let (p, j, own, key) = whole-poster (can laws) (can_keys laws) net (tidy-net laws files tag tidy) Equal equal-compares past st.recent st.since m i in
@@ -94,7 +94,7 @@ module _ (laws : Laws) (files : List LinkFile) (tag : List ℕ) (tidy : Tidy fil
       let same = one-writer laws tag p.at (address_of s) k (subst P (key ∙ e) (wrote-event p j own)) wrote in
       fresh (filed-here s h k (p, j, same, key ∙ e))
 
-  -- the system of an index changes
+  -- the system at an index changes
   module _ (i : ℕ) (s : System) (at_s : nth i run.systems ≡ Some s) (f : System → System) (files_stay : (t : System) → (f t).file ≡ t.file)
       (ok : RunOk (changing run i f)) where
     abbrev after : Run
@@ -172,7 +172,7 @@ module _ (laws : Laws) (files : List LinkFile) (tag : List ℕ) (tidy : Tidy fil
       pub done : take (f s).cursor (f s).history ≡ take s.cursor s.history
       done = ap (λ (t : System). take t.cursor t.history) is ∙ take-append-le s.cursor s.history (m ∷ []) (Kept-cursor s.cursor s.base s.history ok_s.kept)
 
-      -- of another area
+      -- for a message of another area
       abbrev pub stands-other : m.echo.tag ≢ tag → Standing files tag past after
       stands-other other = stands-still (m ∷ []) (λ n h same. elim h [
         | inl e ↦ other (ap (λ (x : Filed). x.echo.tag) (sym e) ∙ same)
@@ -268,7 +268,7 @@ module _ (laws : Laws) (files : List LinkFile) (tag : List ℕ) (tidy : Tidy fil
             ]
           ])
 
-    -- a copy came that is known, and nothing is filed
+    -- a known copy came, and nothing is filed
     abbrev pub stands-known : (nothing : f s ≡ s) (c : RCopy) → Among c (rules.copies st.recent) → c.to ≡ address_of s →
         (n : Filed) → Among n s.history → key_of n ≡ c.text.key → n.echo.tag ≡ tag → Standing files tag past after
     stands-known nothing c sent to n h key area =

@@ -1,4 +1,4 @@
--- A scan goes on by the rules.
+-- A scan keeps the rules.
 use Rattle.std.proofs.Common.{◌≡◌, ◌↔◌, inl, inr, refl, sym, subst, ap, ◌∙◌, ℕ, ◌+◌, ◌≤◌, arith, IsTrue, List, [], ◌∷◌, ◌++◌, take, drop, map, Some}
 use Rattle.std.specs.Prelude.{true, bytes_eq}
 use Rattle.std.proofs.lemmas.List.{take-append-drop}

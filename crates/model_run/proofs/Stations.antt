@@ -1,4 +1,4 @@
--- What one system made of what it scanned, whatever came to it.
+-- The packets of one system for its scanned messages, for any received bytes.
 use Rattle.std.proofs.Common.{◌≡◌, ◌≢◌, inl, inr, refl, sym, subst, ap, ◌∙◌, ◌+◌, ◌≤◌, arith, List, [], ◌∷◌, ◌++◌, length, take, drop, Option, Some, None}
 use Rattle.std.specs.Prelude.{true, filter}
 use Rattle.std.proofs.lemmas.List.{take-append-drop, take-append-le, take_all}
@@ -107,7 +107,7 @@ module _ (laws : Laws) where
 
   -- a system scans
   module _ (s : System) (ok : SystemOk s) (stamp : Stamp) (sent : List Packet) (made : Made s sent) where
-    -- after the scan all was scanned
+    -- after the scan all messages are scanned
     all-done : take (length s.base) s.history ≡ s.history
     all-done = take_all (length s.base) s.history (omega (arith, Kept-length s.cursor s.base s.history ok.kept))
 

@@ -1,4 +1,4 @@
--- Steps by computation: what each call may answer, and what it leaves.
+-- Steps by computation: the possible answers of each call, and its effects.
 use Rattle.std.proofs.Common.{ℕ, List, [], ◌∷◌, refl, Ok, Err, codes, inr}
 use Rattle.std.specs.Fmt.{digits}
 use Rattle.echo_addr.specs.Entries.{entries, pair_of, tokens}

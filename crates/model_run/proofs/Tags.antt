@@ -1,4 +1,4 @@
--- The tag of an area that was read has no small letters, so a posting in it can be asked for by the tag itself.
+-- The tag of an area that was read has no small letters. So a posting in it can name the tag itself.
 use Rattle.std.proofs.Common.{◌≡◌, inl, inr, refl, sym, ap, ◌∙◌, ℕ, ◌-◌, arith, List, [], ◌∷◌, length, cond, nat_lt, Option, Some, None}
 use Rattle.std.specs.Prelude.{Bool, true, false, not, ◌&&◌, nat_le, bytes_eq, find, is_some, option_map, unwrap_or}
 use Rattle.std.specs.Char.{to_ascii_uppercase}

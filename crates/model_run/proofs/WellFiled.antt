@@ -1,4 +1,4 @@
--- What holds of one system at all times, where no text that comes holds 00.
+-- Properties of one system at all times, if no received text has a byte 00.
 use Rattle.std.proofs.Common.{◌≡◌, inl, inr, refl, sym, subst, ◌≤◌, arith, List, [], ◌∷◌, Option, Some, None}
 use Rattle.std.specs.Prelude.{Bool, true, false, if◌then◌else◌}
 use Rattle.echo_addr.specs.declared.address.Address.{Address}
