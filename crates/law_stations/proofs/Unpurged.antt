@@ -1,4 +1,4 @@
--- Where no purge was called a base has its messages as they were filed.
+-- A base that was never purged has its messages as they were filed.
 use Rattle.std.proofs.Common.{◌≡◌, ◌⊎◌, inl, inr, refl, sym, subst, ap, ◌∙◌, ℕ, zero, suc, List, [], ◌∷◌, ◌++◌, take, Option, Some, None}
 use Rattle.echo_addr.specs.declared.address.Address.{Address}
 use Rattle.model_graph.specs.Walk.{Among}
@@ -14,7 +14,7 @@ use Rattle.model_run.proofs.Lists.{nth-change}
 abbrev pub IsAsFiled : System → Type 0
 IsAsFiled s = s.base ≡ s.history
 
--- so has the one of this index
+-- the system with this index has them so
 abbrev pub AsFiledAt : ℕ → List System → Type 0
 AsFiledAt i systems = (s : System) → nth i systems ≡ Some s → IsAsFiled s
 
