@@ -1,4 +1,4 @@
--- What judging a line says, from what its parts say.
+-- The judgement on a line, from those on its parts.
 use Rattle.std.proofs.Common.{◌≡◌, ℕ, ◌||◌, not, Bool, true, false, cond, List, [], ◌∷◌, length, map, codes, refl, sym, ap, subst, ◌∙◌, Option, Some, None, Result, Ok, Err, inl, inr, nat_lt}
 use Rattle.std.specs.Prelude.{IfOk, bytes_eq, filter, is_err}
 use Rattle.std.specs.Cmp.Lexicographic.{bytes_decides}
@@ -251,7 +251,7 @@ module _ (earlier : List (List ℕ)) (number : ℕ) (line word rest : List ℕ) 
         ∙ sym (cond-true (is_area_line line) (bytes_eq t (tag_in line) || list_any (bytes_eq t) old.tags) (list_any (bytes_eq t) old.tags) (kind_is (codes "AREA") true is))))
         stays told
 
-    -- the same of an answer that memory was there for
+    -- the same for an answer, if memory sufficed
     pub area_judged_so : {E : Type 0} (r : Result (Option Wrong) E)
         → IfOk r (Tells (area_refused old.tags number (tokens rest)) (area_says (tokens rest))
         ((new.system ≡ old.system) × (new.name ≡ old.name) × HasTagAdded old.tags (upper (first_of (tokens rest))) new.tags) (new ≡ old))

@@ -66,7 +66,7 @@ one_found bytes a b h k =
     let same : left ≡ right = only_one show_limits bytes left h ∙ sym (only_one show_limits bytes right k) in
     cc
 
--- lines that were appended to known bytes
+-- lines appended to known bytes
 appended : (old lines : List ℕ) (new : Option (List ℕ)) → Appends (Some old) new lines → new ≡ Some (old ++ lines)
 appended old lines None h = absurd h
 appended old lines (Some bytes) h = ap Some h

@@ -81,7 +81,7 @@ one_more full k p (x ∷ ms) m lines own some h =
     let later = one_more full (k + 1) (p + length (message_bytes x)) ms m some.1 own some.3 (moved full _ _ _ _ m own number place h) in
     (some.0, some.1 ++ own, some.2, later, ap (λ t. t ++ own) some.4 ∙ append_assoc some.0 some.1 own)
 
--- a place in a slice is an exact one
+-- an offset in a slice is exact
 exact_place : (limits : Limits) (bytes : List ℕ) (h : Header) (ms : List Message) (rest : List ℕ) (given at : ℕ) → SoFar limits bytes h ms rest given at → length bytes < 2 ^ 64
     → at ≡ 58 + length (messages_bytes ms)
 exact_place limits bytes h ms rest given at so small =
@@ -136,7 +136,7 @@ end_printed full bytes rest h new_h own given at next kept behind left old new c
       passed = passed_more old new new kept (header_lines h ++ before.lines) behind (end_line count size) left before.printed line;
     }
 
--- the lines of the header and of the messages that were given
+-- the lines of the header and of the given messages
 front_shown : (full : Bool) (bytes rest : List ℕ) (h : Header) (own : Limits) (given at : ℕ) (next : Stage) (kept behind : List ℕ) (old new : Option (List ℕ)) (count place : ℕ)
     → (before : HasPrinted full bytes rest h own given at next kept behind old new count place) → FrontShown full bytes before.messages (header_lines h ++ before.lines)
 front_shown full bytes rest h own given at next kept behind old new count place before =
@@ -151,7 +151,7 @@ front_shown full bytes rest h own given at next kept behind old new count place 
       whole = refl;
     }
 
--- there was no memory for more lines than these
+-- memory ran out for further lines
 pub no_memory : (full : Bool) (bytes rest : List ℕ) (h : Header) (own : Limits) (given at : ℕ) (next : Stage) (kept behind left : List ℕ) (old new : Output) (count place : ℕ) (fault : Fault)
     → HasPrinted full bytes rest h own given at next kept behind old.contents new.contents count place → left ≡ behind → IsOutOfMemory fault → new.failures ≡ old.failures
     → PacketPasses full bytes kept left old new (Err fault)
@@ -165,7 +165,7 @@ no_memory full bytes rest h own given at next kept behind left old new count pla
       unfailed,
     )
 
--- there was no memory for the lines of the header
+-- memory ran out for the lines of the header
 pub no_header : (full : Bool) (bytes kept left : List ℕ) (old : Output) (fault : Fault) → left ≡ kept → IsOutOfMemory fault → PacketPasses full bytes kept left old old (Err fault)
 no_header full bytes kept left old fault same none =
     inr (
@@ -188,7 +188,7 @@ not_printed full bytes rest h own given at next kept behind left old new count p
       },
     )
 
--- the lines of a message that were made were passed on, or could not be
+-- the finished lines of a message were passed on, or could not be
 pub message_passed : {A : Type 0} (full : Bool) (number place : ℕ) (m : Message) (kept made rest line : List ℕ) (old new : Output) (answer : Result A Fault)
     → MessageShown full number place m line → made ≡ kept ++ line → OnOk answer (PassesOn made rest old.contents new.contents)
     → OnErr answer (WritesFront made old.contents new.contents) → OnErr answer (rest ≡ []) → OnOk answer (new.failures ≡ old.failures)
@@ -235,7 +235,7 @@ never_read R remaining source f dropped at is =
     let P : PacketFault → Type 0 = λ x. CountsFailures {A = Header} (Err x) 0 0 in
     Failed-never (subst P is dropped.device)
 
--- what the fault of a call on a slice is
+-- the fault of a call on a slice
 call_judged : (f : PacketFault) (P : Type 0) → P ⊎ IsOfCall f → CountsFailures {A = Option Message} (Err f) 0 0 → P ⊎ (f ≡ fault.Memory)
 call_judged f P (inl wrong) device = inl wrong
 call_judged (fault.Read at) P (inr call) device = absurd (Failed-never device)

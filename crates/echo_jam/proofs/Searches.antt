@@ -16,12 +16,12 @@ module _ (kind : ℕ) (bytes : List ℕ) where
       let less : suc n - 1 ≡ n = omega arith in
       rw (le-leb 8 (length bytes) long, ne_eqb (field_kind bytes) kind (λ same. other (is ∙ same)), less) refl
 
-  -- there is none
+  -- there is no subfield
   pub found_none : (n : ℕ) → length bytes < 8 → first_within kind n bytes ≡ None
   found_none zero short = refl
   found_none (suc n) short = rw (lt-leb 8 (length bytes) short) refl
 
--- no subfield is looked at
+-- no subfield is searched
 pub none_left : (kind n : ℕ) (bytes : List ℕ) → n ≤ 0 → first_within kind n bytes ≡ None
 none_left kind zero bytes none = refl
 none_left kind (suc n) bytes none = absurd (omega (arith, none))

@@ -1,4 +1,4 @@
--- The graph of an area, and what its faults say of the net.
+-- The graph of an area, and its faults as facts of the net.
 use Rattle.std.proofs.Common.{◌≡◌, ◌<◌, ◌≤◌, ◌↔◌, ℕ, zero, suc, Bool, true, false, IsTrue, List, [], ◌∷◌, length, map, get_or, sym, subst, ◌∙◌, arith, inl, inr}
 use Rattle.std.specs.Prelude.{Contains}
 use Rattle.std.specs.Cmp.{both_ways}

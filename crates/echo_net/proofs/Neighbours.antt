@@ -25,7 +25,7 @@ gt_second Less p e h = cc
 gt_second Equal p e h = h
 gt_second Greater p e h = cc
 
--- an item between two that have one key has it, too
+-- an item between two with one key has it, too
 pub key_between : {X K V : Type 0} {RK : K → K → Ordering} (RV : V → V → Ordering) → IsTotalOrder RK → (key : X → K) (value : X → V) →
     IsTotalOrder (λ (x y : X). ordering_then (RK (key x) (key y)) (RV (value x) (value y))) → (xs : List X) →
     IsStrictlySortedBy (λ (x y : X). ordering_then (RK (key x) (key y)) (RV (value x) (value y))) xs → (i m j : ℕ) (x z y : X) →

@@ -94,7 +94,7 @@ lt_choice false false = refl
 lt_nat : (x y : ℕ) → nat_lt x y ≡ is_lt (nat_cmp x y)
 lt_nat x y = lt_choice (nat_lt x y) (x == y)
 
--- the tests of the definitions are those of the orders
+-- the tests of the definitions agree with the orders
 pub before_is : (a b : Address) → address_before a b ≡ is_lt (address_order a b)
 before_is a b =
     lt_then (nat_cmp a.zone b.zone) (ordering_then (nat_cmp a.net b.net) (nat_cmp a.node b.node))

@@ -26,7 +26,7 @@ use Rattle.echo_net.proofs.Orders.{address_exact, address_order, address_total, 
 abbrev pub owner : Address → ℕ → Owner
 owner a n = record { system = a; file = n }
 
--- what the owners of the first systems hold
+-- the owners of the first systems
 abbrev pub AreOwners : List Address → ℕ → List Owner → Type 0
 AreOwners systems i owners = (o : Owner) → Contains owners o ↔ ((o.file < i) × IsAt systems o.file o.system)
 
@@ -75,7 +75,7 @@ module _ (systems : List Address) (owners : List Owner) (all : (o : Owner) → C
         λ d. ap (λ (o : Owner). o.system) (get_or_default owners (p + 1) d x inside) ∙ sym next_is,
       )
 
-  -- two owners of one address have different places
+  -- two owners of one address have different indexes
   places_of : (p : ℕ) (x y : Owner) → IsAt owners p x → IsAt owners (p + 1) y → x.system ≡ y.system → x.file < y.file
   places_of p x y at_x at_y same =
       let less = earlier_less owner_total owners up p (p + 1) x y at_x at_y (omega arith) in

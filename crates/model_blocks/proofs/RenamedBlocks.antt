@@ -45,7 +45,7 @@ module _ {A B : Type 0} (linked : A → A → Bool) (joined : B → B → Bool) 
         (together_back b a found.pinch.one e d together));
   }
 
-  -- so is the loop of a block
+  -- and the loop of a block
   pub LoopOfBlock-renamed : (b a : A) (loop : List A) → IsLoopOfBlockBy Before linked b a loop → IsLoopOfBlockBy Earlier joined (name b) (name a) (map name loop)
   LoopOfBlock-renamed b a loop named =
       let pinch = named.first.pinch in

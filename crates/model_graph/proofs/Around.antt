@@ -10,7 +10,7 @@ module _ {A : Type 0} (linked : A → A → Bool) where
   pub Around-itself : (x a : A) → x ≢ a → Around linked x a a
   Around-itself x a other = ([], refl, λ h. elim h [ inl e ↦ other e | inr t ↦ t ])
 
-  -- one link more in front
+  -- one more link in front
   pub Around-step : (x a b c : A) → x ≢ a → IsTrue (linked a b) → Around linked x b c → Around linked x a c
   Around-step x a b c other link around =
       let (rest, w, avoids) = around in
@@ -50,7 +50,7 @@ module _ {A : Type 0} (can : CanTell A) (linked : A → A → Bool) where
   Beyond-from_no_around x f c none rest w =
       elim (Among-cases can x (c ∷ rest)) [ inl h ↦ h | inr avoids ↦ absurd (none (rest, w, avoids)) ]
 
-  -- around x without repeats
+  -- a walk around x without repeats
   pub Around-without_repeats : (x a b : A) → Around linked x a b →
       (rest : List A) × Walk linked a rest b × ¬ Among x (a ∷ rest) × Different (a ∷ rest)
   Around-without_repeats x a b around =

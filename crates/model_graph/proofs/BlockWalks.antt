@@ -78,7 +78,7 @@ module _ (links : ℕ → ℕ → Bool) (simple : Simple links) (members : ℕ) 
             ]
       ]
 
-  -- where a walk around b joins links a and c of b, and a is in a block below b, c is there too
+  -- if a walk around b joins links a and c of b, and a is in a block below b, so is c
   joined_below : (b a c : ℕ) → IsTrue (links b a) → IsTrue (links b c) → Around links b a c → top a ≡ b → (block c ≡ block a) × (top c ≡ b)
   joined_below b a c link_a link_c around below =
       let apart : a ≢ b = λ e. linked_differ links simple b a link_a (sym e) in

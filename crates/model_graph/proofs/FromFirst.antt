@@ -1,4 +1,4 @@
--- What the levels from member 0 say of the walks in the whole graph.
+-- The levels from member 0 decide which walks the whole graph has.
 use Rattle.std.proofs.Common.{◌≡◌, ◌≢◌, ◌<◌, ℕ, Option, Some, None, MatchOption, List, [], ◌∷◌, length, arith, inl, inr}
 use Rattle.model_graph.specs.Walk.{Among, Walk, Reaches, Connected}
 use Rattle.model_graph.specs.Beyond.{Around}

@@ -3,7 +3,7 @@ use Rattle.std.proofs.Common.{◌≡◌, ◌≢◌, ◌⊎◌, inl, inr, refl, s
 use Rattle.std.proofs.lemmas.Bool.{cases_eq}
 use Rattle.model_graph.specs.Walk.{Among, Different}
 
--- any two members are one or two
+-- any two members are equal or not
 abbrev pub CanTell : Type 0 → Type 0
 CanTell A = (x y : A) → (x ≡ y) ⊎ (x ≢ y)
 
@@ -21,7 +21,7 @@ Among-cases can x (y ∷ ys) =
       ]
     ]
 
--- x is there if y is, and they are one
+-- x is in the list if y is, and they are equal
 pub Among-at : {A : Type 0} (x y : A) (xs : List A) → x ≡ y → Among y xs → Among x xs
 Among-at {A} x y xs e h = let P : A → Type 0 = λ m. Among m xs in subst P (sym e) h
 

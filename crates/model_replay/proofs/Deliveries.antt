@@ -15,7 +15,7 @@ use Rattle.model_replay.proofs.Exports.{exported-nth, within-nth}
 use Rattle.model_replay.proofs.Runs.{delivered-run}
 use Rattle.model_replay.proofs.Taken.{state_stays}
 
--- where the system that changes stays as it was, all do
+-- if the changing system keeps its state, all do
 states_stay : (i : ℕ) (f : System → System) (ss : List System) → ((s : System) → nth i ss ≡ Some s → state_of (f s) ≡ state_of s)
     → map state_of (change i f ss) ≡ map state_of ss
 states_stay i f [] same = refl

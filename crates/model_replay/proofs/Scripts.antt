@@ -57,7 +57,7 @@ module _ (bytes rest line after : List ℕ) (number : ℕ) (events : List Event)
         ∙ ap (λ es. es ++ events_in (file_lines after)) (sym is);
   }
 
-  -- one of another form
+  -- a line of another form
   pub lines_other : (refused : ScriptFault) → script_line_fault (number + 1) line ≡ Some refused → script_fault bytes ≡ Some refused
   unfolding script_fault
   lines_other refused bad =

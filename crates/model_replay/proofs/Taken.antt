@@ -77,7 +77,7 @@ unfiled-known false link known m h = refl
 unfiled-known true false known m h = refl
 unfiled-known true true known m h = ap (λ (b : Bool). where_filed (outcome_by true true b) m) h
 
--- a message that is not filed is not filed where more is known
+-- a message that is not filed is not filed if more keys are known
 still_unfiled : (file : LinkFile) (base more : List Filed) (sender : Address) (packed : Message) → Knows base more
     → tossing file base sender packed ≡ None → tossing file more sender packed ≡ None
 unfolding tossing toss_outcome
@@ -93,7 +93,7 @@ still_unfiled file base more sender packed knows none = by (text_refusal packed.
     by (Some text.Memory) h = refl
     by (Some text.BadMsgId) h = refl
 
--- nor is one that is known
+-- nor is a known message
 known_unfiled : (file : LinkFile) (base : List Filed) (sender : Address) (packed : Message) → is_known base (key_of (received sender packed)) ≡ true
     → tossing file base sender packed ≡ None
 unfolding tossing toss_outcome
@@ -150,14 +150,14 @@ none_after file base sender (packed ∷ ms) =
     let next = base ++ option_to_list (tossing file base sender packed) in
     (still_unfiled file next (tossed file next sender ms) sender packed (knows-tossed file next sender ms) (unfiled_after file base sender packed), none_after file next sender ms)
 
--- and a toss that files none leaves the base as it was
+-- and a toss that files nothing leaves the base unchanged
 none_tossed : (file : LinkFile) (base : List Filed) (sender : Address) (ms : List Message) → NoneIsFiled file base sender ms → tossed file base sender ms ≡ base
 none_tossed file base sender [] h = refl
 none_tossed file base sender (packed ∷ ms) h =
     ap (λ (o : Option Filed). tossed file (base ++ option_to_list o) sender ms) h.0
     ∙ ap (λ (b : List Filed). tossed file b sender ms) (append-nil base) ∙ none_tossed file base sender ms h.1
 
--- a system keeps its link file, and what it knows
+-- a system keeps its link file and its known keys
 record Grows (s z : System) : Type 0 where
   file : z.file ≡ s.file
   knows : Knows s.base z.base
@@ -286,7 +286,7 @@ pub run-taken : (files : List LinkFile) (events : List RunEvent) → AreTaken (r
 run-taken files events =
     events-taken events (start files) (record { there = λ k among. absurd among; taken = λ k p s among at here. absurd among })
 
--- a system that has taken the packet is as it was after it comes again
+-- a system that has taken the packet stays unchanged when it comes again
 pub state_stays : (s : System) (p : Packet) → HasTaken s p → state_of (taking p (length p.messages) s) ≡ state_of s
 state_stays s p taken =
     let e = none_tossed s.file s.base (sender_of s.file p.header) p.messages taken in

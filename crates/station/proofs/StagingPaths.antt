@@ -25,7 +25,7 @@ plain_dotted a zone net node =
     All-append IsPlain (decimal a.zone) _ (plain_decimal a.zone zone)
     (All-append IsPlain (codes ".") _ plain_dot (All-append IsPlain (decimal a.net) _ (plain_decimal a.net net) (All-append IsPlain (codes ".") _ plain_dot (plain_decimal a.node node))))
 
--- the name of a system in range
+-- the dotted name of a system in range
 pub plain_address : (a b : Address) → a ≡ b → IsAddress b → All IsPlain (dotted a)
 plain_address a b same is =
     let zone = is.zone.1 in

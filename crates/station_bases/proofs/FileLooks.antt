@@ -1,4 +1,4 @@
--- Why calls of a store on a base file failed.
+-- The reasons of failed calls of a store on a base file.
 use Rattle.std.proofs.Common.{◌≡◌, ◌≤◌, ◌⊎◌, ◌/◌, ◌^◌, ℕ, List, length, Result, Ok, Err, Some, refl, subst}
 use Rattle.std.specs.Prelude.{All, IsErrOf, OnErr, OnOk, ◌≢◌}
 use Rattle.disk_io.specs.Disk.{DiskState, Honestly, bytes_in}

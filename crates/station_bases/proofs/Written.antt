@@ -1,4 +1,4 @@
--- A base that was put in the place of its file.
+-- A base that replaced its file.
 use Rattle.std.proofs.Common.{◌≡◌, inl, inr, ⊎_elim, ◌∙◌, ℕ, List, Some, subst, sym}
 use Rattle.base_file.specs.Base.{Base}
 use Rattle.std.specs.Prelude.{All, ◌≢◌}
