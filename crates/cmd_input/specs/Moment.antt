@@ -3,11 +3,11 @@ use Rattle.std.specs.Prelude.{◌≡◌, ℕ, ◌+◌, ◌*◌, ◌/◌, ◌%◌
 use Rattle.jiff_core.specs.Calendar.{IsCivilDate, days_from_civil}
 use Rattle.model_steps.specs.declared.stamp.Stamp.{Stamp}
 
--- the seconds of a day, without leap seconds.
+-- The seconds of a day, without leap seconds.
 abbrev pub seconds_a_day : ℕ
 seconds_a_day = 24 * 60 * 60
 
--- the seconds of the day that have passed.
+-- The seconds of the day that have passed.
 abbrev pub second_of_day : Stamp → ℕ
 second_of_day s = s.hour * 3600 + (s.minute * 60 + s.second)
 

@@ -1,4 +1,4 @@
--- A number that is printed with leading zeros.
+-- A number printed with leading zeros.
 use Rattle.std.proofs.Common.{◌≡◌, ℕ, ◌-◌, ◌^◌, [], decimal}
 use Rattle.std.proofs.Math.Nat.{sub-zero}
 use Rattle.std.proofs.lemmas.List.{append-nil}

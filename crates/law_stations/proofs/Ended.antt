@@ -9,7 +9,7 @@ use Rattle.law_stations.specs.Disks.{StagingFile, HasCursor, naming}
 use Rattle.law_stations.specs.Stopping.{EndsOne, HasNoneStaged}
 use Rattle.law_stations.proofs.Whole.{disks_with}
 
--- a packet that got its name changed no cursor
+-- a packet that got its name changes no cursor
 cursor-stays : (net : Net) (i cursor : ℕ) (bytes : List ℕ) (named : Bool) → HasCursor net i cursor → HasCursor (naming net bytes named) i cursor
 cursor-stays net i cursor bytes true has = has
 cursor-stays net i cursor bytes false has = has

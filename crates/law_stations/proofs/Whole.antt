@@ -1,4 +1,4 @@
--- What commands do that nothing stops is among what they may do.
+-- The effects of commands without a stop are among their possible effects.
 use Rattle.std.proofs.Common.{◌≡◌, inl, inr, refl, sym, subst, ap, ◌∙◌, ℕ, ◌<◌, arith, append-nil, append_assoc, List, [], ◌∷◌, ◌++◌, length, map}
 use Rattle.std.proofs.lemmas.List.{take_all}
 use Rattle.model_graph.specs.Walk.{Among}

@@ -9,7 +9,7 @@ use Rattle.law_stations.specs.Disks.{Disks}
 use Rattle.law_stations.specs.Stopping.{MayHappen}
 use Rattle.law_stations.specs.OnDisks.{IsStationAt, LeavesElsewhere, ShowsStation}
 
--- each file of a place with a synced name and synced bytes is as the disk shows it
+-- Each file of a place with a synced name and synced bytes is as the disk shows it.
 abbrev pub SameOnDisk : Place → DiskState → Files → Type 0
 SameOnDisk place disk c = (m : List ℕ) → place.is_own m → disk.is_named m → disk.is_flushed m → c m ≡ disk.seen m
 

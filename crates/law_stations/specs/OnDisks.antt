@@ -23,7 +23,7 @@ pub record ShowsStation (place : Place) (links : List ℕ) (i : ℕ) (c : Files)
   pub of_links : c links ≡ Some station.links
   pub stands : place.stands_for station.base c
 
--- the link file is on the disk
+-- The link file is on the disk.
 pub record IsLinkedOn (links : List ℕ) (disk : DiskState) : Type 0 where
   pub named : disk.is_named links
   pub flushed : disk.is_flushed links
