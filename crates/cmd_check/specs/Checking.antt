@@ -1,4 +1,4 @@
--- What `check` answers.
+-- The answer of `check`.
 use Rattle.std.specs.Prelude.{◌≡◌, ℕ, ◌↔◌, Bool, List, Option, None, Result}
 use Rattle.cmd_status.specs.Devices.{Output}
 use Rattle.echo_links.specs.Links.{LinkFile, upper}

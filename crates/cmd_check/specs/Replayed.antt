@@ -1,4 +1,4 @@
--- What `replay` prints.
+-- The lines of `replay`.
 use Rattle.std.specs.Prelude.{ℕ, ◌+◌, Bool, List, [], ◌∷◌, ◌++◌, codes, decimal, if◌then◌else◌, length}
 use Rattle.std.specs.List.{flat_map}
 use Rattle.echo_addr.specs.declared.address.Address.{Address}

@@ -1,4 +1,4 @@
--- What `why` prints.
+-- The lines of `why`.
 use Rattle.std.specs.Prelude.{◌≡◌, ℕ, ◌↔◌, Contains, List, [], ◌∷◌, ◌++◌, codes, decimal, slice_get, Option, Some, None}
 use Rattle.std.specs.List.{flat_map}
 use Rattle.std.specs.List.Sorted.{IsStrictlySortedBy}

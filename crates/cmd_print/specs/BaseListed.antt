@@ -1,4 +1,4 @@
--- What `list` prints of the messages of a base.
+-- The lines of `list` for the messages of a base.
 use Rattle.std.specs.Prelude.{ℕ, ◌-◌, ◌&&◌, nat_le, Bool, true, false, List, [], ◌++◌, length, codes, decimal, if◌then◌else◌, slice_get, bytes_eq, Option, Some, None, is_some}
 use Rattle.std.specs.List.{flat_map, range_with_len}
 use Rattle.echo_addr.specs.declared.address.Address.{Address}
@@ -47,7 +47,7 @@ echo_text e =
 abbrev pub message_text : ℕ → ℕ → Filed → List ℕ
 message_text cursor i m = head_text cursor i m ++ (fields_text m ++ echo_text m.echo)
 
--- A part of a line, and the bar behind it.
+-- A part of a line, and the bar after it.
 abbrev pub short_part : List ℕ → List ℕ
 short_part part = part ++ codes " | "
 

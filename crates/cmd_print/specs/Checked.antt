@@ -1,4 +1,4 @@
--- What `check` prints.
+-- The lines of `check`.
 use Rattle.std.specs.Prelude.{◌≡◌, ℕ, ◌↔◌, true, AllPairs, Contains, List, [], ◌++◌, codes, decimal, Option, Some, None}
 use Rattle.std.specs.List.{flat_map}
 use Rattle.echo_addr.specs.declared.address.Address.{Address}
@@ -15,12 +15,12 @@ use Rattle.echo_net.specs.declared.verdict.Verdict.TheVariants.{Yes, No}
 use Rattle.echo_net.specs.Absent.{IsAbsent}
 use Rattle.echo_net.specs.Printed.{fault_text}
 
--- An area in order, with how many systems and links it has; the tag is printed as a word is.
+-- The line of an area in order, with its numbers of systems and links; the tag is printed as a word.
 abbrev pub yes_text : List ℕ → ℕ → ℕ → List ℕ
 yes_text tag systems links =
     codes "yes " ++ (printed_word tag ++ (codes " " ++ (decimal systems ++ (codes " systems " ++ (decimal links ++ codes " links")))))
 
--- A verdict.
+-- The text of a verdict.
 abbrev pub verdict_text : List ℕ → Verdict → List ℕ
 verdict_text tag (Yes systems links) = yes_text tag systems links
 verdict_text tag (No fault) = codes "no " ++ (printed_word tag ++ (codes " " ++ fault_text fault))

@@ -1,4 +1,4 @@
--- What `nodelist` prints.
+-- The lines of `nodelist`.
 use Rattle.std.specs.Prelude.{◌≡◌, ℕ, ◌+◌, Bool, true, false, List, [], ◌∷◌, ◌++◌, length, codes, decimal, slice_index_or, Option, Some, None}
 use Rattle.std.specs.List.{count_by, flat_map, range_with_len}
 use Rattle.echo_addr.specs.declared.address.Address.{Address}

@@ -1,4 +1,4 @@
--- What `show` prints about a text as echomail.
+-- The lines of `show` for a text as echomail.
 use Rattle.std.specs.Prelude.{◌≡◌, ℕ, List, [], ◌++◌, length, codes, decimal, Option, Some, None}
 use Rattle.echo_text.specs.declared.fault.TextFault.{TextFault}
 use Rattle.echo_text.specs.declared.fault.TextFault.TheVariants.{BadTag, NotEcho}

@@ -15,7 +15,7 @@ use Rattle.echo_links.proofs.Found.{link_found}
 use Rattle.echo_links.proofs.LinkLoops.{any_last}
 use Rattle.cmd_show.specs.FaultyLines.{link_again, no_address}
 
--- ---- behind SYSTEM
+-- ---- after SYSTEM
 
 -- ---- links
 

@@ -1,4 +1,4 @@
--- What `list --areas` prints and answers.
+-- The lines and the answer of `list --areas`.
 use Rattle.std.specs.Prelude.{◌≡◌, ◌≤◌, ℕ, ◌+◌, ◌-◌, ◌&&◌, Bool, List, ◌++◌, length, take, drop, codes, decimal, bytes_eq, count_by, is_some, Option, Some, unwrap_or, Result}
 use Rattle.std.specs.Ordering.{is_eq, nat_cmp}
 use Rattle.std.specs.Cmp.Lexicographic.{slice_cmp}
@@ -26,7 +26,7 @@ is_in tag m = bytes_eq tag m.echo.tag
 abbrev pub is_purged_in : List ℕ → Filed → Bool
 is_purged_in tag m = is_in tag m && is_purged m
 
--- The messages of an area in a base: how many there are, how many wait for a scan, and how many were scanned and purged.
+-- The numbers of an area's messages in a base: all, those that wait for a scan, and those scanned and purged.
 abbrev pub area_counts : List Filed → ℕ → List ℕ → AreaCounts
 area_counts base cursor tag = record {
   messages = count_by (is_in tag) base;

@@ -1,4 +1,4 @@
--- What `export` prints of the messages of a base, and what it answers.
+-- The lines of `export` for the messages of a base, and its answer.
 use Rattle.std.specs.Prelude.{◌≡◌, ℕ, zero, suc, ◌+◌, ◌==◌, ◌&&◌, nat_le, Bool, true, false, List, [], ◌++◌, length, codes, decimal, if◌then◌else◌, slice_get, Option, Some, None, option_map, Result}
 use Rattle.echo_export.specs.declared.json_line.State.{State}
 use Rattle.echo_export.specs.declared.json_line.State.TheVariants.{Purged, Scanned, Waiting}
@@ -74,6 +74,6 @@ abbrev pub ExportAnswers : Form → Option (List ℕ) → ℕ → Bool → List 
 ExportAnswers form area first purged file old new answer =
     AnswersInPieces (IsBaseExported form area first purged file) (IsBaseFault (Some file)) old new answer
 
--- The line on standard error that reports how many U+FFFD were printed.
+-- The line on standard error with the number of U+FFFD that were printed.
 abbrev pub lost_line : ℕ → List ℕ
 lost_line count = if count == 0 then [] else codes "echonet: " ++ (decimal count ++ codes " characters replaced by U+FFFD\n")

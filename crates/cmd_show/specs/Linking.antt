@@ -1,4 +1,4 @@
--- What `links` answers.
+-- The answer of `links`.
 use Rattle.std.specs.Prelude.{◌≡◌, Bool, List, is_none, if◌then◌else◌, Result}
 use Rattle.std.specs.List.{list_all}
 use Rattle.echo_links.specs.LinkLines.{file_fault}

@@ -1,4 +1,4 @@
--- What `links` prints of link files.
+-- The lines of `links` for link files.
 use Rattle.std.specs.Prelude.{ℕ, Bool, List, [], ◌++◌, codes, decimal, length, map, sum, if◌then◌else◌, Option, Some, None}
 use Rattle.std.specs.List.{flat_map}
 use Rattle.echo_addr.specs.Address.{address_text}

@@ -1,4 +1,4 @@
--- What `list` answers.
+-- The answer of `list`.
 use Rattle.std.specs.Prelude.{◌≡◌, ℕ, List, Option, Some, option_map, Result}
 use Rattle.cmd_status.specs.Devices.{Output}
 use Rattle.echo_links.specs.Links.{upper}

@@ -1,4 +1,4 @@
--- What `nodelist` answers.
+-- The answer of `nodelist`.
 use Rattle.std.specs.Prelude.{◌≡◌, ℕ, List, Option, Result}
 use Rattle.echo_addr.specs.declared.address.Address.{Address}
 use Rattle.cmd_status.specs.Devices.{Output}

@@ -4,7 +4,7 @@ use Rattle.echo_filed.specs.Stored.{long_at}
 use Rattle.echo_packet.specs.Header.{number_at}
 use Rattle.echo_text.specs.Echo.{ended}
 
--- The kind and the content of the first subfield, and the bytes behind it.
+-- The kind and the content of the first subfield, and the bytes after it.
 abbrev pub field_kind : List ℕ → ℕ
 field_kind bytes = number_at 0 bytes
 

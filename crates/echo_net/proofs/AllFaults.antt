@@ -283,7 +283,7 @@ module _ (files : List LinkFile) (tag : List ℕ) (all : List NetFault) (r : Are
       cc) in
       r.whole ∙ (λ i. in_preference (some i) (none_twice i) (none_self i) (all_known i) (all_answered i) (no_twins i))
 
--- the additions behind the faults of files and links
+-- the additions after the faults of files and links
 module _ (files : List LinkFile) (tag : List ℕ) (all : List NetFault) (r : AreLinkFaults files tag all) where
   pub with_graph : AreSoundLinks files tag → (parts new : List NetFault) → AddsApart files tag all parts → AddsRounds files tag parts new → AreAllFaults files tag new
   with_graph sound parts new apart loops = record {
@@ -327,7 +327,7 @@ module _ (files : List LinkFile) (tag : List ℕ) (all : List NetFault) (r : Are
       no_links (AppliesTo files tag kinds.Apart) r.apart r.are_apart
       (λ l h. h.first l.from h.smallest.holds h.in_order (joined.connected l.from l.to h.smallest.holds h.carries))
 
-  -- the first fault, and the faults behind it
+  -- the first fault, and the faults after it
   ahead : (fault : NetFault) → IsFirstFault files tag fault → (first : NetFault) × (rest : List NetFault) × (all ≡ first ∷ rest) ×
       ((result : List NetFault) → result ≡ rest → IsAhead files tag (No fault) all result)
   ahead NoSuchArea h = (let (rest, is) = of_links_first NoSuchArea h refl in (NoSuchArea, rest, is, λ result same. is ∙ ap (λ (l : List NetFault). NoSuchArea ∷ l) (sym same)))

@@ -39,7 +39,7 @@ none-more : (i : ℕ) (before : List StagingFile) (file : StagingFile) → HasNo
 none-more i before file none other f is =
     ⊎_elim (λ (was : Among f before). none f was) (λ (same : f ≡ file) e. other (ap (λ (b : StagingFile). b.station) (sym same) ∙ e)) (Among-push_cases f file before is)
 
--- those behind files of other stations
+-- the files after those of other stations
 can-end : (i cursor : ℕ) (after before : List StagingFile) (net : Net) → HasNoneStaged i before → HasCursor net i cursor → CanEnd i (disks_with net (before ++ after))
 can-end i cursor [] before net none has = record {
   steps = zero;

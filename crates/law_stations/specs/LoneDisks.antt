@@ -32,7 +32,7 @@ LeadsAloneFar (ScanAlone stamp) s new = PartialEffect (Scan stamp) s.disks 0 new
 LeadsAloneFar PurgeAlone s new = PartialEffect Purge s.disks 0 new.disks × NothingCame (under_names s) (under_names new)
 LeadsAloneFar (TossAny files) s new = (n : ℕ) × TossesAny (take n files) (under_names s) (under_names new) × (new.disks.staging ≡ s.disks.staging)
 
--- The possible effects of a command, whatever stops it: none, or it got this far.
+-- The possible effects of a command with any stop: none, or it got this far.
 abbrev pub MayHappenAlone : LoneCommand → LoneDisks → LoneDisks → Type 0
 MayHappenAlone command s new = (new ≡ s) ⊎ LeadsAloneFar command s new
 

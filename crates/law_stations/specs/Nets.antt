@@ -11,7 +11,7 @@ Paired IsSo [] [] = Unit {0}
 Paired IsSo (x ∷ xs) (y ∷ ys) = IsSo x y × Paired IsSo xs ys
 Paired IsSo _ _ = ⊥
 
--- A station: the bytes of its link file, and its base, whatever holds it.
+-- A station: the bytes of its link file, and its base, in a file or a folder.
 pub record Station : Type 0 where
   pub links : List ℕ
   pub base : Base

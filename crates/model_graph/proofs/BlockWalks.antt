@@ -111,7 +111,7 @@ module _ (links : ℕ → ℕ → Bool) (simple : Simple links) (members : ℕ) 
             ]
       ]
 
-  -- where r covers the links of b on one side, a pinch of b on that side is a pinch of r
+  -- if r covers the links of b on one side, a pinch of b on that side is a pinch of r
   pub no_pinch_covered : (b r a c : ℕ) → r < b → ((d f : ℕ) → ¬ IsPinch links r d f) → IsCovered links block top b r → OnOneSide block top b r a → ¬ IsPinch links b a c
   no_pinch_covered b r a c before none covered side_a pinch =
       let lt = pinch.in_order in

@@ -9,7 +9,7 @@ use Rattle.model_graph.proofs.Steps.{first_step}
 use Rattle.model_graph.proofs.Around.{Around-step, Around-trans, Around-sym, Beyond-from_no_around, no_around-from_Beyond}
 
 module _ {A : Type 0} (can : CanTell A) (linked : A → A → Bool) where
-  -- Beyond is transitive: what lies beyond y lies beyond x if y lies beyond x
+  -- Beyond is transitive: a member beyond y lies beyond x if y lies beyond x
   pub Beyond-trans : (x y f c : A) → Beyond linked y f c → Beyond linked x f y → Beyond linked x f c
   Beyond-trans x y f c beyond_y beyond_x rest w =
       let passes_y = beyond_y rest w in

@@ -137,7 +137,7 @@ module _ {A : Type 0} (can : CanTell A) (linked : A → A → Bool) (simple : Si
         let turned = cycle_turned linked first second rest cycle in
         link_from linked second x y (sym e) (first_linked second (rest ++ first ∷ []) turned y (Among-append_left y rest (first ∷ []) h))
 
-    -- any two behind the first are linked, if any two behind the second are
+    -- any two members after the first are linked, if any two after the second are
     after_second : (first second : A) (rest : List A) → Cycle linked first (second ∷ rest) → (x y : A) →
         (Among x rest → Among y rest → IsTrue (linked x y)) → Among x (second ∷ rest) → Among y (second ∷ rest) → x ≢ y → IsTrue (linked x y)
     after_second first second rest cycle x y later at_x at_y other =
@@ -152,7 +152,7 @@ module _ {A : Type 0} (can : CanTell A) (linked : A → A → Bool) (simple : Si
           ]
         ]
 
-    -- any two behind the first are linked
+    -- any two members after the first are linked
     others_linked : (first : A) (rest : List A) → Cycle linked first rest → (x y : A) → Among x rest → Among y rest → x ≢ y → IsTrue (linked x y)
     others_linked first [] cycle x y at_x at_y other = absurd at_x
     others_linked first (second ∷ []) cycle x y at_x at_y other = absurd (omega (arith, cycle.long))

@@ -17,7 +17,7 @@ Sees-sym linked simple level parent x y h =
     ]
 
 module _ (linked : ℕ → ℕ → Bool) (simple : Simple linked) (level parent : ℕ → ℕ) where
-  -- where links keep to the family, Sees is transitive
+  -- if links keep to the family, Sees is transitive
   pub Sees-trans : KeepsToFamily linked level parent → (x y z : ℕ) → Sees linked level parent x y → Sees linked level parent y z →
       Sees linked level parent x z
   Sees-trans keeps x y z first second =

@@ -34,7 +34,7 @@ module _ {A : Type 0} (linked : A → A → Bool) where
         ]
       ]
 
-  -- a walk to another member does not pass x, if it passes no link of x behind its first member
+  -- a walk to another member does not pass x, if it passes no link of x after its first member
   pub past_no_link-around : (x f : A) → x ≢ f → (a : A) (rest : List A) → Walk linked a rest f →
       ((y : A) → Among y rest → ¬ IsTrue (linked x y)) → ¬ Among x rest
   past_no_link-around x f other a [] w none h = h

@@ -125,7 +125,7 @@ module _ {A : Type 0} (can : CanTell A) (linked : A → A → Bool) where
         )
       ]
 
-  -- a walk that passes u behind its first member has a part from u on there
+  -- a walk that passes u after its first member has a part from u on there
   pub part_behind : (u a : A) (rest : List A) (b : A) → Walk linked a rest b → Among u rest →
       (part : List A) × Walk linked u part b × ((x : A) → Among x (u ∷ part) → Among x rest)
   part_behind u a [] b w h = absurd h

@@ -52,7 +52,7 @@ IsInFull block top full b a = ((top a ≡ b) × IsTrue (full (block a))) ⊎ ((t
 abbrev pub IsBlockOfLink : (ℕ → ℕ) → (ℕ → ℕ) → ℕ → ℕ → ℕ → Type 0
 IsBlockOfLink block top b a k = ((top a ≡ b) × (k ≡ block a)) ⊎ ((top a ≢ b) × (k ≡ block b))
 
--- The last of the members of block k before this one, where there is one.
+-- The last of the members of block k before this one, if any.
 abbrev pub IsLastBefore : (ℕ → ℕ) → ℕ → ℕ → Option ℕ → Type 0
 IsLastBefore block k before None = (y : ℕ) → y < before → block y ≢ k
 IsLastBefore block k before (Some last) = (last < before) × (block last ≡ k) × ((y : ℕ) → last < y → y < before → block y ≢ k)

@@ -12,7 +12,7 @@ abbrev pub Stepped : (ℕ → ℕ → Bool) → ℕ → ℕ → List (Option ℕ
 Stepped linked without root levels b m =
     (b ≢ without) × (((m ≡ 0) × (b ≡ root)) ⊎ ((a : ℕ) × (n : ℕ) × IsTrue (linked a b) × (m ≡ suc n) × (level_of levels a ≡ Some n)))
 
--- The queue holds in order of level what this search reached; the members before `head` are settled.
+-- The queue holds the members that this search reached, in order of level; those before `head` are settled.
 pub record Flooding (linked : ℕ → ℕ → Bool) (without root : ℕ) (old levels : List (Option ℕ)) (queue : List ℕ) (head : ℕ) : Type 0 where
   pub same_length : length levels ≡ length old
   pub in_queue : head ≤ length queue

@@ -12,7 +12,7 @@ pub record IsForest (linked : ℕ → ℕ → Bool) (members upto : ℕ) (levels
   pub one_root : (a b : ℕ) → level_of levels a ≡ Some 0 → level_of levels b ≡ Some 0 → Reaches linked a b → a ≡ b
   pub first : (a b : ℕ) → level_of levels a ≡ Some 0 → b < a → ¬ Reaches linked b a
 
--- The parent of a member, where it has one.
+-- The parent of a member, if it has one.
 abbrev pub parent_of : List (Option ℕ) → ℕ → Option ℕ
 parent_of parents member = slice_index_or parents member None
 

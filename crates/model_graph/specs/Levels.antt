@@ -1,9 +1,9 @@
--- How many links a member is away from another, when one member may not be passed.
+-- The distance of a member from another one, on walks that do not pass a third.
 use Rattle.std.specs.Prelude.{◌≡◌, ◌≤◌, ℕ, Bool, List, ◌∷◌, Option, None, MatchOption, length, slice_index_or}
 use Rattle.model_graph.specs.Walk.{Among, Walk}
 use Rattle.model_graph.specs.Beyond.{Around}
 
--- The level of a member, where it has one.
+-- The level of a member, if it has one.
 abbrev pub level_of : List (Option ℕ) → ℕ → Option ℕ
 level_of levels member = slice_index_or levels member None
 

@@ -1,10 +1,10 @@
--- The cycle that shows that not all are fully linked, and how it is written, in an order of the members.
+-- The cycle that shows that not all members are fully linked, and its written form in an order of the members.
 use Rattle.std.specs.Prelude.{◌≡◌, ◌≢◌, ◌++◌, ◌-◌, ◌<◌, ◌≤◌, ◌⊎◌, ℕ, Bool, IsTrue, List, [], ◌∷◌, length, take, drop, reverse}
 use Rattle.model_graph.specs.Walk.{Among, Different, IsAt, Walk}
 use Rattle.model_graph.specs.Cycle.{IsCycle}
 use Rattle.model_graph.specs.Pinches.{FirstPinchBy, NotAfter}
 
--- The first list has the earlier member where the two first differ, or ends there.
+-- The first list has the earlier member at the first difference, or ends there.
 abbrev pub NoLaterBy : {A : Type 0} → (A → A → Type 0) → List A → List A → Type 0
 NoLaterBy Before [] ys = Unit {0}
 NoLaterBy Before (x ∷ xs) [] = ⊥

@@ -1,4 +1,4 @@
--- Items of lists by their index, and the items behind some of them.
+-- Items of lists by their index, and the items after some of them.
 use Rattle.std.proofs.Common.{◌≡◌, inl, inr, refl, sym, subst, ap, ◌∙◌, ℕ, zero, suc, ◌+◌, ◌<◌, arith, List, [], ◌∷◌, ◌++◌, length, map, Some, None}
 use Rattle.std.specs.Prelude.{Bool, false, not}
 use Rattle.std.specs.List.{position_or_len}

@@ -77,7 +77,7 @@ reply_before_serial : post_refusal first_file (first_posting ∷ []) (codes "TES
 unfolding post_refusal is_id trimmed
 reply_before_serial = refl
 
--- B4: in each area, also where the message came from a link
+-- B4: in each area, also if the message came from a link
 abbrev two_areas : LinkFile
 two_areas = record first_file { areas = record { tag = codes "OTHER"; links = [] } ∷ first_file.areas }
 

@@ -17,7 +17,7 @@ abbrev pub tag_of : Key → List ℕ
 tag_of (ById tag msgid) = tag
 tag_of (ByContent tag date to from subject kept) = tag
 
--- How many of the messages have the key.
+-- The number of messages with the key.
 abbrev pub count : Key → List Filed → ℕ
 count key [] = 0
 count key (m ∷ later) = (if same_key (key_of m) key then 1 else 0) + count key later
@@ -57,7 +57,7 @@ pub record SameContent (m o : Filed) : Type 0 where
 
 -- The system has filed the posting exactly once, unchanged.
 pub record FiledUnchanged (s : System) (posting : Filed) : Type 0 where
-  -- Just one message of its base has the key, and just one of those that it filed.
+  -- Exactly one message of its base has the key, and exactly one of its history.
   pub once : count (key_of posting) s.base ≡ 1
   pub filed_once : count (key_of posting) s.history ≡ 1
   -- The one in the base is the filed one, or its stub.

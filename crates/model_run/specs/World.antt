@@ -22,7 +22,7 @@ abbrev pub missing : List ℕ → ℕ → List Packet → ℕ
 missing delivered k [] = 0
 missing delivered k (packet ∷ later) = (if list_any (λ d. d == k) delivered then 0 else 1) + missing delivered (k + 1) later
 
--- How many packets were not delivered.
+-- The number of packets that were not delivered.
 abbrev pub undelivered : Run → ℕ
 undelivered run = missing run.delivered 0 run.packets
 
