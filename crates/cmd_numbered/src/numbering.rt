@@ -3,7 +3,6 @@ ghost use Rattle.std.specs.Prelude.{ℕ, ◌≡◌, ◌≤◌, ◌+◌, ◌++◌
 ghost use Rattle.base_file.specs.Base.{Base};
 ghost use Rattle.base_folder.specs.Fetching.{IsUnread};
 ghost use Rattle.base_folder.specs.Source.{LooksAt};
-ghost use Rattle.echo_links.specs.Links.{upper};
 ghost use Rattle.echo_stored.specs.StoredMessage.{stored_bytes};
 ghost use Rattle.cmd_numbered.specs.Folders.{Gets};
 ghost use Rattle.cmd_numbered.specs.Numbered.{ExportAnswers, IsExport, IsMade, IsMadeFrom, IsUnexported, IsUnmade, before_numbers, behind_numbers, file_at, file_of, first_number, is_exported, is_last, is_purged, is_same_stored, resumed};
