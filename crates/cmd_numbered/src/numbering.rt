@@ -1,5 +1,5 @@
 //! Which messages become files, and under which numbers.
-ghost use Rattle.std.specs.Prelude.{ℕ, ◌≡◌, ◌≤◌, ◌+◌, ◌++◌, ◌&&◌, [], IfErr, IfOk, OnErr, drop, length, option_copied, take};
+ghost use Rattle.std.specs.Prelude.{◌≡◌, ◌≤◌, ◌<◌, ◌∷◌, ◌+◌, ◌++◌, ◌&&◌, [], IfErr, IfOk, OnErr, drop, length, option_copied, slice_get};
 ghost use Rattle.base_file.specs.Base.{Base};
 ghost use Rattle.base_folder.specs.Fetching.{IsUnread};
 ghost use Rattle.base_folder.specs.Source.{LooksAt};
@@ -210,7 +210,8 @@ fn make_files<'a, M: MessageSource, F: MessageFolder>(
     folder: &mut F,
 ) -> Exported<'a>
     requires { (M.state messages.old).is_ready }
-    ensures { (M.state messages.new).is_honest → (base : Base) → (M.state messages.old).holds base → wanted.entry.cursor ≡ base.cursor
+    ensures honest { (M.state messages.new).is_honest → (M.state messages.old).is_honest }
+    ensures made { (M.state messages.new).is_honest → (base : Base) → (M.state messages.old).holds base → wanted.entry.cursor ≡ base.cursor
         → IsMadeFrom wanted.entry.area.now wanted.entry.first wanted.entry.number base path.now (M.state messages.old).failures (M.state messages.new).failures (F.made folder.old) (F.made folder.new) result }
 {
     let count = messages.count();
