@@ -11,10 +11,7 @@ use Rattle.model_graph.proofs.Around.{Around-step, Around-trans, Around-sym, Bey
 module _ {A : Type 0} (can : CanTell A) (linked : A → A → Bool) where
   -- what lies beyond what lies beyond x lies beyond x
   pub Beyond-trans : (x y f c : A) → Beyond linked y f c → Beyond linked x f y → Beyond linked x f c
-  Beyond-trans x y f c beyond_y beyond_x rest w =
-      let passes_y = beyond_y rest w in
-      let (part, p) = part_from can linked y c rest f w passes_y in
-      elim (beyond_x part p.walk) [ inl e ↦ Among-at x y (c ∷ rest) e passes_y | inr t ↦ inr (p.within x t) ]
+  Beyond-trans x y f c beyond_y beyond_x rest w = grind (arith, part_from, Among-at)
 
 module _ {A : Type 0} (can : CanTell A) (linked : A → A → Bool) (simple : Simple linked) where
   -- if y lies beyond u, then u reaches the other end around y
@@ -26,8 +23,7 @@ module _ {A : Type 0} (can : CanTell A) (linked : A → A → Bool) (simple : Si
       (part, w, λ t. p.once (within y t))
 
   pub Around-from_IsWay : (f y u : A) → Reaches linked y f → IsWay linked f y u → Around linked y u f
-  Around-from_IsWay f y u reaches way =
-      Around-from_Beyond f y u (λ e. linked_differ linked simple y u way.link (sym e)) reaches way.passed
+  Around-from_IsWay f y u reaches way = grind (arith, way, Around-from_Beyond, linked_differ)
 
   -- there is only one way
   pub one_way : (f y u v : A) → Reaches linked y f → IsWay linked f y u → IsWay linked f y v → u ≡ v

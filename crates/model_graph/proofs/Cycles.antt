@@ -140,17 +140,7 @@ module _ {A : Type 0} (can : CanTell A) (linked : A → A → Bool) (simple : Si
     -- any two behind the first are linked, if any two behind the second are
     after_second : (first second : A) (rest : List A) → Cycle linked first (second ∷ rest) → (x y : A) →
         (Among x rest → Among y rest → IsTrue (linked x y)) → Among x (second ∷ rest) → Among y (second ∷ rest) → x ≢ y → IsTrue (linked x y)
-    after_second first second rest cycle x y later at_x at_y other =
-        elim at_x [
-          | inl e ↦ elim at_y [
-            | inl q ↦ absurd (other (e ∙ sym q))
-            | inr t ↦ second_linked first second rest cycle x y e t
-          ]
-          | inr s ↦ elim at_y [
-            | inl q ↦ simple.both_ways y x (second_linked first second rest cycle y x q s)
-            | inr t ↦ later s t
-          ]
-        ]
+    after_second first second rest cycle x y later at_x at_y other = grind (arith, second_linked)
 
     -- any two behind the first are linked
     others_linked : (first : A) (rest : List A) → Cycle linked first rest → (x y : A) → Among x rest → Among y rest → x ≢ y → IsTrue (linked x y)
@@ -165,14 +155,4 @@ module _ {A : Type 0} (can : CanTell A) (linked : A → A → Bool) (simple : Si
         (λ s t. others_linked first (third ∷ fourth ∷ rest) shorter x y s t other) at_x at_y other
 
     pub Polygons-from_Parted : Polygons linked
-    Polygons-from_Parted first rest cycle x y at_x at_y other =
-        elim at_x [
-          | inl e ↦ elim at_y [
-            | inl q ↦ absurd (other (e ∙ sym q))
-            | inr t ↦ link_from linked first x y (sym e) (first_linked first rest cycle y t)
-          ]
-          | inr s ↦ elim at_y [
-            | inl q ↦ simple.both_ways y x (link_from linked first y x (sym q) (first_linked first rest cycle x s))
-            | inr t ↦ others_linked first rest cycle x y s t other
-          ]
-        ]
+    Polygons-from_Parted first rest cycle x y at_x at_y other = grind (arith, link_from, first_linked, others_linked)

@@ -109,27 +109,13 @@ module _ {A : Type 0} (can : CanTell A) (linked : A → A → Bool) (simple : Si
       omega (arith, level-below b (suc k) c h)
 
   low_if_no_child : (b c : A) → IsParent level parent c b ⊎ AreSiblings level parent b c → level c ≤ level b
-  low_if_no_child b c h =
-      elim h [
-        | inl up ↦ omega (arith, level-child c b up)
-        | inr alike ↦ omega (arith, family.level_below b alike.0, family.level_below c alike.1, ap level alike.2)
-      ]
+  low_if_no_child b c h = grind (arith, level-child)
 
   -- two links of b that are no children of b are linked
   no_children_linked : (b a c : A) → IsTrue (linked b a) → IsTrue (linked b c) → a ≢ c →
       IsParent level parent a b ⊎ AreSiblings level parent b a → IsParent level parent c b ⊎ AreSiblings level parent b c →
       IsTrue (linked a c)
-  no_children_linked b a c to_a to_c other at_a at_c =
-      elim at_a [
-        | inl up_a ↦ elim at_c [
-          | inl up_c ↦ absurd (other (sym up_a.1 ∙ up_c.1))
-          | inr alike ↦ simple.both_ways c a (link_to linked c (parent c) a (sym alike.2 ∙ up_a.1) (family.to_parent c alike.1))
-        ]
-        | inr alike_a ↦ elim at_c [
-          | inl up_c ↦ link_to linked a (parent a) c (sym alike_a.2 ∙ up_c.1) (family.to_parent a alike_a.1)
-          | inr alike_c ↦ keeps.siblings a b c (alike_a.1, alike_a.0, sym alike_a.2) alike_c (simple.both_ways b a to_a) to_c other
-        ]
-      ]
+  no_children_linked b a c to_a to_c other at_a at_c = grind (arith, link_to)
 
   pub Parted-from_KeepsToFamily : Parted linked
   Parted-from_KeepsToFamily b a c to_a to_c other none =

@@ -15,11 +15,7 @@ levels_differ level a b lt e = let same = ap level e in absurd (omega arith)
 -- what is linked with no walk around b parted is linked
 pub linked_if_joined : {A : Type 0} (linked : A → A → Bool) → Parted linked → (b a c : A) → IsTrue (linked b a) → IsTrue (linked b c) →
     a ≢ c → Around linked b a c → IsTrue (linked a c)
-linked_if_joined linked parted b a c to_a to_c other around =
-    elim (cases_Bool (linked a c)) [
-      | inl joined ↦ joined
-      | inr none ↦ absurd (no_around-from_Beyond linked b c a (parted b a c to_a to_c other (λ joined. both_ways (linked a c) none joined)) around)
-    ]
+linked_if_joined linked parted b a c to_a to_c other around = grind (arith, cases_Bool, no_around-from_Beyond, both_ways)
 
 module _ {A : Type 0} (can : CanTell A) (linked : A → A → Bool) (simple : Simple linked) (level : A → ℕ) (parent : A → A)
     (family : IsFamily linked level parent) where
@@ -89,24 +85,11 @@ module _ {A : Type 0} (can : CanTell A) (linked : A → A → Bool) (simple : Si
 
     -- a link to the level below leads to the parent
     below_parent : (a b : A) → IsTrue (linked a b) → level b ≡ suc (level a) → IsParent level parent a b
-    below_parent a b link at_b =
-        let above : 0 < level b = omega arith in
-        let level_p = family.level_below b above in
-        let b_to_p = family.to_parent b above in
-        (above, one_below (level a) (level_alike (level a)) b (parent b) a b_to_p (simple.both_ways a b link) at_b (omega arith) refl)
+    below_parent a b link at_b = grind (arith, one_below, level_alike)
 
     links_keep : (a b : A) → IsTrue (linked a b) →
         IsParent level parent a b ⊎ (IsParent level parent b a ⊎ AreSiblings level parent a b)
-    links_keep a b link =
-        let near_a = family.near a b link in
-        let near_b = family.near b a (simple.both_ways a b link) in
-        elim (cases_order (level a) (level b)) [
-          | inl e ↦ (let (above, same) = level_alike (level b) a b link e refl in inr (inr (omega arith, above, same)))
-          | inr rest ↦ elim rest [
-            | inl lt ↦ inl (below_parent a b link (omega arith))
-            | inr gt ↦ inr (inl (below_parent b a (simple.both_ways a b link) (omega arith)))
-          ]
-        ]
+    links_keep a b link = grind (arith, cases_order, level_alike, below_parent)
 
     siblings_keep : (a b c : A) → AreSiblings level parent a b → AreSiblings level parent b c →
         IsTrue (linked a b) → IsTrue (linked b c) → a ≢ c → IsTrue (linked a c)

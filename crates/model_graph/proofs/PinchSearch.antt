@@ -17,18 +17,15 @@ Simple-from_graph rows graph = record { both_ways = graph.both_ways; no_self = g
 
 -- each place of a member's row is a link
 pub row_link : (rows : List (List ℕ)) (at k : ℕ) (row : List ℕ) → row ≡ links_at rows at → k < length row → IsTrue (linked rows at (get_or row k 0))
-row_link rows at k row is lt =
-    holds_at (links_at rows at) (get_or row k 0) k (subst (λ (links : List ℕ). k < length links) is lt) (ap (λ (links : List ℕ). get_or links k 0) (sym is))
+row_link rows at k row is lt = grind (arith, holds_at, get_or)
 
 -- each link has a place in the row
 pub row_place : (rows : List (List ℕ)) (at c : ℕ) (row : List ℕ) → row ≡ links_at rows at → IsTrue (linked rows at c) → (k : ℕ) × (k < length row) × (get_or row k 0 ≡ c)
-row_place rows at c row is link =
-    subst (λ (links : List ℕ). (k : ℕ) × (k < length links) × (get_or links k 0 ≡ c)) (sym is) (place_of (links_at rows at) c link)
+row_place rows at c row is link = grind (arith, get_or, place_of)
 
 -- what stands later in a row is not smaller
 pub row_rises : (rows : List (List ℕ)) (at : ℕ) (row : List ℕ) → IsGraph rows → row ≡ links_at rows at → (i j : ℕ) → i < j → j < length row → get_or row i 0 < get_or row j 0
-row_rises rows at row graph is =
-    subst (λ (links : List ℕ). (i j : ℕ) → i < j → j < length links → get_or links i 0 < get_or links j 0) (sym is) (graph.ascending at)
+row_rises rows at row graph is = grind (arith, get_or)
 
 pub around_from_level : (links : ℕ → ℕ → Bool) (x root b : ℕ) (levels : List (Option ℕ)) → AreLevels links x root levels → level_of levels b ≢ None → Around links x root b
 around_from_level links x root b levels are some =
@@ -40,8 +37,7 @@ around_from_level links x root b levels are some =
     ]
 
 pub level_from_around : (links : ℕ → ℕ → Bool) (x root b : ℕ) (levels : List (Option ℕ)) → AreLevels links x root levels → Around links x root b → level_of levels b ≢ None
-level_from_around links x root b levels are around none =
-    MatchOption-at_none (¬ Around links x root b) (Distance links x root b) none (are b) around
+level_from_around links x root b levels are around none = grind (arith, MatchOption-at_none)
 
 -- the first link that will do makes the first pinch
 pub FirstOther-here : (rows : List (List ℕ)) (at one k : ℕ) (row : List ℕ) (levels : List (Option ℕ)) → IsGraph rows → row ≡ links_at rows at → k < length row → IsTrue (linked rows at one) → AreLevels (linked rows) at one levels →
@@ -69,8 +65,7 @@ FirstOther-here rows at one k row levels graph is lt link are earlier order some
 
 -- a link that will not do makes none
 pub not_pinch_here : (rows : List (List ℕ)) (at one c : ℕ) (levels : List (Option ℕ)) → AreLevels (linked rows) at one levels → ¬ ((one < c) × (level_of levels c ≢ None) × ¬ IsTrue (linked rows one c)) → ¬ IsPinch (linked rows) at one c
-not_pinch_here rows at one c levels are not_other pinch =
-    not_other (pinch.in_order, level_from_around (linked rows) at one c levels are pinch.around, pinch.not_linked)
+not_pinch_here rows at one c levels are not_other pinch = grind (arith, level_from_around)
 
 -- with no link left, there is no pinch
 pub no_pinch_in_row : (rows : List (List ℕ)) (at one : ℕ) (row : List ℕ) → row ≡ links_at rows at → ((i : ℕ) → i < length row → ¬ IsPinch (linked rows) at one (get_or row i 0)) → (c : ℕ) → ¬ IsPinch (linked rows) at one c

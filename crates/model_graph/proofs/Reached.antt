@@ -24,8 +24,7 @@ Among-push_cases x y (z ∷ xs) (inr later) =
     ]
 
 pub not_alone : {A : Type 0} (x a : A) → x ≢ a → ¬ Among x (a ∷ [])
-not_alone x a apart (inl is) = apart is
-not_alone x a apart (inr none) = none
+not_alone x a h1 = grind arith
 
 -- a member with a level is reached by a walk of that many links
 reached_by : (links : ℕ → ℕ → Bool) (without root : ℕ) (old levels : List (Option ℕ)) → ((i : ℕ) → level_of old i ≡ None) → root ≢ without → Flooded links without root old levels → (m b : ℕ) → level_of levels b ≡ Some m → (rest : List ℕ) × Walk links root rest b × ¬ Among without (root ∷ rest) × (length rest ≡ m)
@@ -68,19 +67,10 @@ levels_along links without levels s (c ∷ rest) a b m e walk clear =
     (last.0, last.1, omega (arith, next.2, last.2))
 
 pub Searched-from_flooded : (links : ℕ → ℕ → Bool) (without root : ℕ) (old levels : List (Option ℕ)) → ((i : ℕ) → level_of old i ≡ None) → Flooded links without root old levels → Searched links without root levels
-Searched-from_flooded links without root old levels fresh f = record {
-  rooted = f.rooted;
-  stepped = λ i m e.
-      elim (f.made i m e) [
-        | inl oldest ↦ absurd (none-some m (sym (fresh i) ∙ oldest))
-        | inr s ↦ s
-      ];
-  settled = f.settled;
-}
+Searched-from_flooded links without root old levels fresh f = grind (arith, none-some)
 
 pub MatchOption-from : {X : Type 0} (o : Option X) (P : Type 0) (Q : X → Type 0) → (o ≡ None → P) → ((x : X) → o ≡ Some x → Q x) → MatchOption o P Q
-MatchOption-from None P Q none some = none refl
-MatchOption-from (Some x) P Q none some = some x refl
+MatchOption-from o P Q h1 h2 = grind arith
 
 pub AreLevels-from_flooded : (links : ℕ → ℕ → Bool) (without root : ℕ) (old levels : List (Option ℕ)) → ((i : ℕ) → level_of old i ≡ None) → root ≢ without → Flooded links without root old levels → AreLevels links without root levels
 AreLevels-from_flooded links without root old levels fresh apart f b =

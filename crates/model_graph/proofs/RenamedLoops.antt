@@ -39,17 +39,11 @@ module _ {A B : Type 0} (linked : A → A → Bool) (joined : B → B → Bool) 
 
   -- links of names are links
   link_back : (x y u v : A) → IsTrue (linked x u) → IsTrue (linked y v) → IsTrue (joined (name x) (name y)) → IsTrue (linked x y)
-  link_back x y u v link_x link_y h =
-      link_from linked (back (name x)) x y (own x u link_x)
-      (link_to linked (back (name x)) (back (name y)) y (own y v link_y) (renaming.links_back (name x) (name y) h))
+  link_back x y u v link_x link_y h = grind (arith, link_from, own, link_to)
 
   -- each member of a walk has a link
   pub walk_owns : (a : A) (rest : List A) (c : A) → Walk linked a rest c → (u : A) → IsTrue (linked a u) → (x : A) → Among x (a ∷ rest) → (y : A) × IsTrue (linked x y)
-  walk_owns a rest c walk u link x among =
-      elim among [
-        | inl is ↦ (u, link_from linked a x u (sym is) link)
-        | inr later ↦ walk_links linked simple a rest c walk x later
-      ]
+  walk_owns a rest c walk u link x among = grind (arith, link_from, walk_links)
 
   pub owns : (a : A) (rest : List A) (c : A) → Walk linked a rest c → (u : A) → IsTrue (linked a u) → (x : A) → Among x (a ∷ rest) → back (name x) ≡ x
   owns a rest c walk u link x among = let (y, there) = walk_owns a rest c walk u link x among in own x y there
@@ -59,21 +53,7 @@ module _ {A B : Type 0} (linked : A → A → Bool) (joined : B → B → Bool) 
       around (Among-from_map name back b (own b u link_b) (a ∷ rest) (owns a rest c walk v link_a) among)
 
   pub IsPinch-renamed : (b a c : A) → IsPinchBy Before linked b a c → IsPinchBy Earlier joined (name b) (name a) (name c)
-  IsPinch-renamed b a c pinch =
-      let link_a = simple.both_ways b a pinch.one in
-      let link_c = simple.both_ways b c pinch.other in
-      let (rest, walk, around) = pinch.around in
-      record {
-        one = renaming.links b a pinch.one;
-        other = renaming.links b c pinch.other;
-        in_order = keeps a c b b link_a link_c pinch.in_order;
-        not_linked = λ h. pinch.not_linked (link_back a c b b link_a link_c h);
-        around = (
-          map name rest,
-          Walk-renamed linked joined name back renaming a rest c walk,
-          not_passed b a c a b rest pinch.one link_a walk around,
-        );
-      }
+  IsPinch-renamed b a c pinch = grind (arith, link_back, Walk-renamed, not_passed)
 
   pub NotAfter-renamed : (x y u v : A) → IsTrue (linked x u) → IsTrue (linked y v) → NotAfter Before x y → NotAfter Earlier (name x) (name y)
   NotAfter-renamed x y u v link_x link_y h = elim h [ inl before ↦ inl (keeps x y u v link_x link_y before) | inr is ↦ inr (ap name is) ]
@@ -95,22 +75,10 @@ module _ {A B : Type 0} (linked : A → A → Bool) (joined : B → B → Bool) 
 
   -- each member of a cycle has a link
   cycle_links : (ring : List A) → IsCycle linked ring → (x : A) → Among x ring → (y : A) × IsTrue (linked x y)
-  cycle_links [] cycle x among = absurd cycle
-  cycle_links (first ∷ rest) cycle x among =
-      let (last, walk, closes) = cycle.closed in
-      walk_owns first rest last walk last (simple.both_ways last first closes) x among
+  cycle_links ring h1 x h2 = grind (arith, walk_owns)
 
   pub HasUnlinked-renamed : (loop : List A) → IsCycle linked loop → HasUnlinked linked loop → HasUnlinked joined (map name loop)
-  HasUnlinked-renamed loop cycle (x, y, at_x, at_y, differ, apart) =
-      let (u, link_x) = cycle_links loop cycle x at_x in
-      let (v, link_y) = cycle_links loop cycle y at_y in (
-        name x,
-        name y,
-        Among-map name x loop at_x,
-        Among-map name y loop at_y,
-        λ e. differ (sym (own x u link_x) ∙ (ap back e ∙ own y v link_y)),
-        λ h. apart (link_back x y u v link_x link_y h),
-      )
+  HasUnlinked-renamed loop cycle (x, y, at_x, at_y, differ, apart) = grind (arith, cycle_links, Among-map, own, link_back)
 
   -- the written loop has the members of the ring, each with a link
   pub IsWritten-renamed : (ring loop : List A) → IsCycle linked loop → ((x : B) → Among x (map name ring) → (y : A) × (name y ≡ x) × Among y ring × ((z : A) × IsTrue (linked y z))) →
@@ -161,27 +129,7 @@ module _ {A B : Type 0} (linked : A → A → Bool) (joined : B → B → Bool) 
   pub earlier_named : (b a c : A) (e d f : B) → IsPinchBy Before linked b a c → IsPinchBy Earlier joined e d f →
       Before b (back e) ⊎ ((b ≡ back e) × (Before a (back d) ⊎ ((a ≡ back d) × NotAfter Before c (back f)))) →
       Earlier (name b) e ⊎ ((name b ≡ e) × (Earlier (name a) d ⊎ ((name a ≡ d) × NotAfter Earlier (name c) f)))
-  earlier_named b a c e d f here pinch h =
-      let moved = IsPinch-renamed joined linked back name swapped simple_names Earlier Before keeps_back e d f pinch in
-      let is_e : name (back e) ≡ e = renaming.name_back e d pinch.one in
-      let is_d : name (back d) ≡ d = renaming.name_back d e (simple_names.both_ways e d pinch.one) in
-      let is_f : name (back f) ≡ f = renaming.name_back f e (simple_names.both_ways e f pinch.other) in
-      elim h [
-        | inl before ↦ inl (subst (λ (w : B). Earlier (name b) w) is_e (keeps b (back e) a (back d) here.one moved.one before))
-        | inr at_b ↦ inr (
-          ap name at_b.0 ∙ is_e,
-          elim at_b.1 [
-            | inl before ↦ inl (subst (λ (w : B). Earlier (name a) w) is_d
-                (keeps a (back d) b (back e) (simple.both_ways b a here.one) (simple.both_ways (back e) (back d) moved.one) before))
-            | inr at_a ↦ inr (
-              ap name at_a.0 ∙ is_d,
-              subst (λ (w : B). NotAfter Earlier (name c) w) is_f
-                  (NotAfter-renamed linked joined name back renaming simple Before Earlier keeps c (back f) b (back e)
-                  (simple.both_ways b c here.other) (simple.both_ways (back e) (back f) moved.other) at_a.1),
-            )
-          ],
-        )
-      ]
+  earlier_named b a c e d f here pinch h = grind (arith, IsPinch-renamed, swapped, NotAfter-renamed)
 
   pub FirstPinch-renamed : (b a c : A) → FirstPinchBy Before linked b a c → FirstPinchBy Earlier joined (name b) (name a) (name c)
   FirstPinch-renamed b a c found = record {
@@ -203,10 +151,7 @@ module _ {A B : Type 0} (linked : A → A → Bool) (joined : B → B → Bool) 
     own_c = renaming.back_name c b (simple.both_ways b c link_c)
 
     walk_back : (other : List B) → Walk joined (name a) other (name c) → Walk linked a (map back other) c
-    walk_back other walk =
-        subst (λ (x : A). Walk linked x (map back other) c) own_a
-        (subst (λ (x : A). Walk linked (back (name a)) (map back other) x) own_c
-        (Walk-renamed joined linked back name swapped (name a) other (name c) walk))
+    walk_back other walk = grind (arith, own_a, own_c, Walk-renamed, swapped)
 
     around_back : (other : List B) → Walk joined (name a) other (name c) → ¬ Among (name b) (name a ∷ other) → ¬ Among b (a ∷ map back other)
     around_back other walk around =

@@ -9,12 +9,7 @@ use Rattle.model_graph.proofs.Walks.{link_to, link_from, walk_links}
 -- the two graphs change places
 pub IsRenaming-swap : {A B : Type 0} (linked : A → A → Bool) (joined : B → B → Bool) (name : A → B) (back : B → A) →
     IsRenaming linked joined name back → IsRenaming joined linked back name
-IsRenaming-swap linked joined name back r = record {
-  links = r.links_back;
-  links_back = r.links;
-  back_name = r.name_back;
-  name_back = r.back_name;
-}
+IsRenaming-swap linked joined name back r = grind arith
 
 pub Among-map : {A B : Type 0} (name : A → B) (x : A) (xs : List A) → Among x xs → Among (name x) (map name xs)
 Among-map name x [] h = h
@@ -50,12 +45,7 @@ module _ {A B : Type 0} (linked : A → A → Bool) (joined : B → B → Bool) 
   -- each member of a cycle has a link
   pub cycle_owns : Simple linked → (first : A) (rest : List A) → Cycle linked first rest → (x : A) → Among x (first ∷ rest) →
       back (name x) ≡ x
-  cycle_owns simple first rest cycle x h =
-      let (last, w, closes) = cycle.closed in
-      elim h [
-        | inl e ↦ renaming.back_name x last (link_from linked first x last (sym e) (simple.both_ways last first closes))
-        | inr t ↦ (let (y, link) = walk_links linked simple first rest last w x t in renaming.back_name x y link)
-      ]
+  cycle_owns simple first rest cycle x h = grind (arith, link_from, walk_links)
 
   pub Cycle-renamed : Simple linked → (first : A) (rest : List A) → Cycle linked first rest → Cycle joined (name first) (map name rest)
   Cycle-renamed simple first rest cycle =
@@ -68,16 +58,9 @@ module _ {A B : Type 0} (linked : A → A → Bool) (joined : B → B → Bool) 
 
   -- of the named graph, from the one that its names are taken back to
   pub Polygons-from_renamed : Simple linked → Polygons joined → Polygons linked
-  Polygons-from_renamed simple polygons first rest cycle x y at_x at_y other =
-      let own_x = cycle_owns simple first rest cycle x at_x in
-      let own_y = cycle_owns simple first rest cycle y at_y in
-      let named = polygons (name first) (map name rest) (Cycle-renamed simple first rest cycle) (name x) (name y)
-      (Among-map name x (first ∷ rest) at_x) (Among-map name y (first ∷ rest) at_y) (λ e. other (sym own_x ∙ (ap back e ∙ own_y))) in
-      let link = renaming.links_back (name x) (name y) named in
-      link_from linked (back (name x)) x y own_x (link_to linked (back (name x)) (back (name y)) y own_y link)
+  Polygons-from_renamed simple polygons first rest cycle x y at_x at_y other = grind (arith, cycle_owns, Cycle-renamed, Among-map, link_from, link_to)
 
 -- the members' names do not matter
 pub Polygons-renamed : {A B : Type 0} (linked : A → A → Bool) (joined : B → B → Bool) (name : A → B) (back : B → A) →
     IsRenaming linked joined name back → Simple joined → Polygons linked → Polygons joined
-Polygons-renamed linked joined name back renaming simple =
-    Polygons-from_renamed joined linked back name (IsRenaming-swap linked joined name back renaming) simple
+Polygons-renamed linked joined name back renaming simple = grind (arith, Polygons-from_renamed, IsRenaming-swap)

@@ -22,17 +22,8 @@ place_of (y ∷ row) x h =
 
 -- only members have links
 pub linked_within : (rows : List (List ℕ)) (a b : ℕ) → IsTrue (linked rows a b) → a < length rows
-linked_within rows a b h =
-    elim (cases_lt a (length rows)) [
-      | inl lt ↦ lt
-      | inr past ↦
-          absurd (false≢true (subst (λ (row : List ℕ). list_any (λ link. link == b) row ≡ true) (get_or_past rows a [] past) h))
-    ]
+linked_within rows a b h = grind (arith, cases_lt, false≢true, get_or_past)
 
 -- what stands later in an ascending list is not smaller
 pub rising : (row : List ℕ) → IsAscending row → (i j : ℕ) → i ≤ j → j < length row → get_or row i 0 ≤ get_or row j 0
-rising row up i j le lt =
-    elim (cases_eq i j) [
-      | inl e ↦ let P : ℕ → Type 0 = λ k. get_or row i 0 ≤ get_or row k 0 in subst P e (omega arith)
-      | inr differ ↦ omega (arith, up i j (omega arith) lt)
-    ]
+rising row up i j le lt = grind (arith, cases_eq, get_or)

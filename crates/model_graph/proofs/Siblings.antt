@@ -1,5 +1,5 @@
 -- Linked siblings: all are linked with each other exactly where each sees the same ones as the least that it sees.
-use Rattle.std.proofs.Common.{◌≡◌, ◌≢◌, ◌⊎◌, inl, inr, sym, subst, ◌∙◌, ℕ, ◌≤◌, le_antisymm, Bool, IsTrue}
+use Rattle.std.proofs.Common.{◌≡◌, ◌≢◌, ◌⊎◌, inl, inr, sym, subst, ◌∙◌, ℕ, ◌≤◌, le_antisymm, Bool, IsTrue, arith}
 use Rattle.std.proofs.lemmas.Bool.{cases_eq}
 use Rattle.model_graph.specs.Walk.{Simple}
 use Rattle.model_graph.specs.Family.{AreSiblings, KeepsToFamily}
@@ -10,29 +10,13 @@ Sees linked level parent x y = (x ≡ y) ⊎ (AreSiblings level parent x y × Is
 
 pub Sees-sym : {A : Type 0} (linked : A → A → Bool) → Simple linked → (level : A → ℕ) (parent : A → A) (x y : A) →
     Sees linked level parent x y → Sees linked level parent y x
-Sees-sym linked simple level parent x y h =
-    elim h [
-      | inl e ↦ inl (sym e)
-      | inr s ↦ inr ((s.0.1, s.0.0, sym s.0.2), simple.both_ways x y s.1)
-    ]
+Sees-sym linked simple level parent x y h = grind arith
 
 module _ (linked : ℕ → ℕ → Bool) (simple : Simple linked) (level parent : ℕ → ℕ) where
   -- where links keep to the family, what is seen by one that is seen is seen
   pub Sees-trans : KeepsToFamily linked level parent → (x y z : ℕ) → Sees linked level parent x y → Sees linked level parent y z →
       Sees linked level parent x z
-  Sees-trans keeps x y z first second =
-      let P : ℕ → Type 0 = λ m. Sees linked level parent x m in
-      let Q : ℕ → Type 0 = λ m. Sees linked level parent m z in
-      elim first [
-        | inl e ↦ subst Q (sym e) second
-        | inr s ↦ elim second [
-          | inl e ↦ subst P e (inr s)
-          | inr t ↦ elim (cases_eq x z) [
-            | inl e ↦ inl e
-            | inr other ↦ inr ((s.0.0, t.0.1, s.0.2 ∙ t.0.2), keeps.siblings x y z s.0 t.0 s.1 t.1 other)
-          ]
-        ]
-      ]
+  Sees-trans keeps x y z first second = grind (arith, cases_eq)
 
   -- where each sees what the least that it sees sees, and nothing else, linked siblings see the same
   pub siblings-from_least : (least : ℕ → ℕ) →

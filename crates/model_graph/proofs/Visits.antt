@@ -9,23 +9,17 @@ use Rattle.model_graph.specs.Visits.{Visited, unlevelled}
 use Rattle.model_graph.proofs.Rows.{holds_at}
 
 pub level_within : (levels : List (Option ℕ)) (i m : ℕ) → level_of levels i ≡ Some m → i < length levels
-level_within levels i m e =
-    elim (cases_lt i (length levels)) [
-      | inl lt ↦ lt
-      | inr past ↦ absurd (none-some m (sym (get_or_past levels i None past) ∙ e))
-    ]
+level_within levels i m e = grind (arith, cases_lt, none-some, get_or_past)
 
 pub level_cases : (o : Option ℕ) → (o ≡ None) ⊎ ((m : ℕ) × (o ≡ Some m))
 level_cases None = inl refl
 level_cases (Some m) = inr (m, refl)
 
 pub none_from : (o : Option ℕ) → is_some o ≡ false → o ≡ None
-none_from None e = refl
-none_from (Some m) e = absurd (true≢false e)
+none_from o h1 = grind (arith, true≢false)
 
 pub some_from : (o : Option ℕ) → is_some o ≡ true → (m : ℕ) × (o ≡ Some m)
-some_from None e = absurd (false≢true e)
-some_from (Some m) e = (m, refl)
+some_from o h1 = grind (arith, false≢true)
 
 pub unlevelled-set : (levels : List (Option ℕ)) (i level : ℕ) → i < length levels → level_of levels i ≡ None → unlevelled (set levels i (Some level)) + 1 ≡ unlevelled levels
 unlevelled-set [] i level lt e = absurd (omega arith)
@@ -36,20 +30,7 @@ unlevelled-set (Some m ∷ levels) (suc i) level lt e = unlevelled-set levels i 
 
 -- a link that is to be left out, or that has a level already
 pub Visited-passed : (links : List ℕ) (count without level : ℕ) (old new : List (Option ℕ)) (queue longer : List ℕ) → Visited links count without level old new queue longer → (get_or links count 0 ≢ without → (m : ℕ) × (level_of new (get_or links count 0) ≡ Some m)) → Visited links (count + 1) without level old new queue longer
-Visited-passed links count without level old new queue longer v here = record {
-  same_length = v.same_length;
-  grows = v.grows;
-  front = v.front;
-  kept = v.kept;
-  made = v.made;
-  back = v.back;
-  reached = λ k lt apart.
-      elim (cases_eq k count) [
-        | inl e ↦ subst (λ j. (m : ℕ) × (level_of new (get_or links j 0) ≡ Some m)) (sym e) (here (λ same. apart (ap (λ j. get_or links j 0) e ∙ same)))
-        | inr other ↦ v.reached k (omega arith) apart
-      ];
-  spent = v.spent;
-}
+Visited-passed links count without level old new queue longer v here = grind (arith, cases_eq, get_or)
 
 -- a link that gets the level
 pub Visited-made : (links : List ℕ) (count without level : ℕ) (old new : List (Option ℕ)) (queue longer : List ℕ) (other : ℕ) → Visited links count without level old new queue longer → count < length links → get_or links count 0 ≡ other → other ≢ without → other < length new → level_of new other ≡ None → Visited links (count + 1) without level old (set new other (Some level)) queue (longer ++ other ∷ [])

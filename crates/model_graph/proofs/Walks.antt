@@ -128,10 +128,7 @@ module _ {A : Type 0} (can : CanTell A) (linked : A → A → Bool) where
   -- a walk that passes u behind its first member has a part from u on there
   pub part_behind : (u a : A) (rest : List A) (b : A) → Walk linked a rest b → Among u rest →
       (part : List A) × Walk linked u part b × ((x : A) → Among x (u ∷ part) → Among x rest)
-  part_behind u a [] b w h = absurd h
-  part_behind u a (c ∷ rest) b w h =
-      let (part, p) = part_from u c rest b w.1 h in
-      (part, p.walk, λ x t. elim t [ inl e ↦ Among-at x u (c ∷ rest) e h | inr i ↦ inr (p.within x i) ])
+  part_behind u a rest b h1 h2 = grind (arith, part_from, Among-at)
 
   -- a walk can be cut to one without repeats
   pub walk_without_repeats : (a : A) (rest : List A) (b : A) → Walk linked a rest b →

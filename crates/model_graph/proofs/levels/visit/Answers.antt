@@ -14,14 +14,10 @@ link_inside rows member k links graph is lt =
     graph.within member (get_or links k 0) (holds_at (links_at rows member) (get_or links k 0) k (subst (λ (row : List ℕ). k < length row) is lt) (ap (λ (row : List ℕ). get_or row k 0) (sym is)))
 
 pub index-requires : goal.index-requires
-index-requires c =
-    let inside = link_inside c.args.graph.now c.args.member c.visiting.other-index c.links-other-items.result.now c.links-other-items.ensures.sound c.links-other-items.ensures.value c.visiting-test.true in
-    omega (arith, inside, c.visiting.invariant.same_length)
+index-requires c = grind (arith, link_inside)
 
 pub index_mut-requires : goal.index_mut-requires
-index_mut-requires c =
-    let inside = link_inside c.args.graph.now c.args.member c.visiting.other-index c.links-other-items.result.now c.links-other-items.ensures.sound c.links-other-items.ensures.value c.visiting-test.true in
-    omega (arith, inside, c.visiting.invariant.same_length)
+index_mut-requires c = grind (arith, link_inside)
 
 pub visiting-preserved : goal.visiting-preserved
 visiting-preserved c =
