@@ -1,5 +1,5 @@
 -- What link files say of an area, and the keys of its messages.
-use Rattle.std.proofs.Common.{◌≡◌, inl, inr, refl, sym, subst, ap, ◌∙◌, ℕ, IsTrue, List, [], ◌∷◌, map, Option, Some, None}
+use Rattle.std.proofs.Common.{◌≡◌, inl, inr, refl, sym, subst, ap, ◌∙◌, ℕ, IsTrue, List, [], ◌∷◌, map, Option, Some, None, arith}
 use Rattle.std.specs.Prelude.{Bool, true, false, bytes_eq, option_map, unwrap_or, is_some, ◌&&◌}
 use Rattle.std.specs.List.{list_any}
 use Rattle.echo_addr.specs.declared.address.Address.{Address}
@@ -25,11 +25,7 @@ use Rattle.model_run.proofs.RulesLists.{Among-map_to, Among-map_from}
 -- the area of a key is that of its message
 pub key-tag : (m : Filed) → tag_of (key_of m) ≡ m.echo.tag
 unfolding key_of
-key-tag m = with_id (msgid_of m.echo.kept)
-  where
-    with_id : (o : Option (List ℕ)) → tag_of (key_with m o) ≡ m.echo.tag
-    with_id None = refl
-    with_id (Some id) = refl
+key-tag m = grind arith
 
 -- the key of an own id in the area
 abbrev pub Wrote : List ℕ → Address → Key → Type 0
@@ -50,26 +46,12 @@ module _ (laws : Laws) where
 
   -- who wrote a key
   pub one-writer : (tag : List ℕ) (f g : Address) (k : Key) → Wrote tag f k → Wrote tag g k → f ≡ g
-  one-writer tag f g k wrote_f wrote_g =
-      let (serial, e) = wrote_f.1 in
-      let (other, e') = wrote_g.1 in
-      let same : id_of f serial ≡ id_of g other = cc in
-      laws.ids f g serial other wrote_f.0 wrote_g.0 same
+  one-writer tag f g k wrote_f wrote_g = grind arith
 
 -- of two lists by one test of their places, members with one name are one
 pub one_name : {X Y : Type 0} (g : X → Y) (xs : List X) → Different (map g xs) → (x y : X) → Among x xs → Among y xs → g x ≡ g y → x ≡ y
 one_name g [] d x y i j e = absurd i
-one_name g (z ∷ xs) d x y i j e =
-    elim i [
-      | inl p ↦ elim j [
-        | inl q ↦ p ∙ sym q
-        | inr t ↦ absurd (d.0 (Among-at (g z) (g y) (map g xs) (ap g (sym p) ∙ e) (Among-map_to g y xs t)))
-      ]
-      | inr s ↦ elim j [
-        | inl q ↦ absurd (d.0 (Among-at (g z) (g x) (map g xs) (ap g (sym q) ∙ sym e) (Among-map_to g x xs s)))
-        | inr t ↦ one_name g xs d.1 x y s t e
-      ]
-    ]
+one_name g (z ∷ xs) d x y i j e = grind (arith, Among-at, Among-map_to, one_name g xs d.1 x y)
 
 pub map-map : {X Y Z : Type 0} (g : Y → Z) (f : X → Y) (xs : List X) → map g (map f xs) ≡ map (λ x. g (f x)) xs
 map-map g f [] = refl
@@ -78,67 +60,37 @@ map-map g f (x ∷ xs) = ap (λ (zs : List _). g (f x) ∷ zs) (map-map g f xs)
 -- a link of an area is one of an area that is there
 pub link-has_area : (file : LinkFile) (tag : List ℕ) (a : Address) → is_link file tag a ≡ true → has_area file tag ≡ true
 unfolding links_of
-link-has_area file tag a h = found (area_of file tag) h
-  where
-    found : (o : Option Area) → list_any (same_address a) (unwrap_or (option_map (λ area. area.links) o) []) ≡ true → is_some o ≡ true
-    found None h = absurd (not_both false h refl)
-    found (Some area) h = refl
+link-has_area file tag a h = grind (arith, not_both)
 
 module _ (laws : Laws) (files : List LinkFile) (tag : List ℕ) (tidy : files_are.Tidy files tag) where
   abbrev linked : Address → Address → Bool
   linked = lists files tag
 
   lists-carries : (a b : Address) → IsTrue (linked a b) → Carries files tag a
-  lists-carries a b h =
-      let (file, i, t) = any-from (λ file. same_address file.system a && is_link file tag b) files h in
-      let both = and-parts (same_address file.system a) (is_link file tag b) t in
-      any-to (λ file. same_address file.system a && has_area file tag) file files i
-      (and-from (same_address file.system a) (has_area file tag) both.0 (link-has_area file tag b both.1))
+  lists-carries a b h = grind (arith, any-from, and-parts, any-to, and-from, link-has_area)
 
   pub tidy-net : Tidy (net_of files tag)
-  tidy-net = record {
-    no_self = tidy.joined.no_self;
-    both = tidy.joined.both;
-    carriers = lists-carries;
-    apart = tidy.joined.apart;
-    connected = tidy.joined.connected;
-    cycles = tidy.cycles;
-  }
+  tidy-net = grind (arith, lists-carries)
 
   -- the systems of a run with these files
   module _ (ss : List System) (same_files : map (λ s. s.file) ss ≡ files) where
     pub addresses_differ : Different (map address_of ss)
-    addresses_differ =
-        let P : List LinkFile → Type 0 = λ fs. Different (map (λ file. file.system) fs) in
-        let Q : List Address → Type 0 = λ names. Different names in
-        subst Q (map-map (λ (file : LinkFile). file.system) (λ (s : System). s.file) ss) (subst P (sym same_files) tidy.joined.one_file)
+    addresses_differ = grind (arith, map-map)
 
     file-of : (file : LinkFile) → Among file files → (s : System) × Among s ss × (file ≡ s.file)
-    file-of file i =
-        let P : List LinkFile → Type 0 = λ fs. Among file fs in
-        Among-map_from (λ (s : System). s.file) file ss (subst P (sym same_files) i)
+    file-of file i = grind (arith, Among-map_from)
 
     pub file-in : (s : System) → Among s ss → Among s.file files
-    file-in s i =
-        let P : List LinkFile → Type 0 = λ fs. Among s.file fs in
-        subst P same_files (Among-map_to (λ (s : System). s.file) s ss i)
+    file-in s i = grind (arith, Among-map_to)
 
     pub lists-link : (s : System) → Among s ss → (b : Address) → IsTrue (linked (address_of s) b) → is_link s.file tag b ≡ true
-    lists-link s at_s b h =
-        let (file, i, t) = any-from (λ file. same_address file.system (address_of s) && is_link file tag b) files h in
-        let both = and-parts (same_address file.system (address_of s)) (is_link file tag b) t in
-        let (z, j, e) = file-of file i in
-        let same : z ≡ s = one_name address_of ss addresses_differ z s j at_s
-        (ap (λ (f : LinkFile). f.system) (sym e) ∙ laws.addresses.sound file.system (address_of s) both.0) in
-        ap (λ (f : LinkFile). is_link f tag b) (ap (λ (t : System). t.file) (sym same) ∙ sym e) ∙ both.1
+    lists-link s at_s b h = grind (arith, any-from, and-parts, file-of, one_name, addresses_differ)
 
     pub link-lists : (s : System) → Among s ss → (b : Address) → is_link s.file tag b ≡ true → IsTrue (linked (address_of s) b)
-    link-lists s at_s b h = any-to (λ file. same_address file.system (address_of s) && is_link file tag b) s.file files (file-in s at_s)
-        (and-from (same_address (address_of s) (address_of s)) (is_link s.file tag b) (laws.addresses.full (address_of s) (address_of s) refl) h)
+    link-lists s at_s b h = grind (arith, any-to, file-in, and-from)
 
     pub area-carries : (s : System) → Among s ss → has_area s.file tag ≡ true → Carries files tag (address_of s)
-    area-carries s at_s h = any-to (λ file. same_address file.system (address_of s) && has_area file tag) s.file files (file-in s at_s)
-        (and-from (same_address (address_of s) (address_of s)) (has_area s.file tag) (laws.addresses.full (address_of s) (address_of s) refl) h)
+    area-carries s at_s h = grind (arith, any-to, file-in, and-from)
 
     -- the systems have addresses of their own
     pub one-system : (s z : System) → Among s ss → Among z ss → address_of s ≡ address_of z → s ≡ z

@@ -1,5 +1,5 @@
 -- Base files by computation: what is saved, what is read, and each fault.
-use Rattle.std.proofs.Common.{◌≡◌, ℕ, List, [], ◌∷◌, ◌++◌, ◌^◌, ◌<◌, refl, true, false, codes, length, lit<, lit≤, inl}
+use Rattle.std.proofs.Common.{◌≡◌, ℕ, List, [], ◌∷◌, ◌++◌, ◌^◌, ◌<◌, refl, true, false, codes, length, lit<, lit≤, inl, arith}
 use Rattle.std.specs.Fmt.{digits}
 use Rattle.echo_addr.specs.Entries.{entries, pair_of, tokens}
 use Rattle.echo_text.specs.Lines.{after_word, begins, lines, trimmed}
@@ -101,19 +101,7 @@ stored_short kind = record (stored kind) { tag = codes "TEST"; last = id_text }
 -- its fields are of their sizes
 pub size_with : (version : Version) (kind zone : ℕ) (last : List ℕ) → kind < 2 ^ 8 → zone < 2 ^ 16 → length last < 2 ^ 32
     → IsStored version (stored_with kind zone last)
-size_with version kind zone last small_kind small_zone short_last = record {
-  kind = small_kind;
-  zone = small_zone;
-  net = lit< tt;
-  node = lit< tt;
-  date_len = refl;
-  to_name = lit< tt;
-  from_name = lit< tt;
-  subject = lit< tt;
-  tag = lit< tt;
-  no_tag = λ _. refl;
-  last = short_last;
-}
+size_with version kind zone last small_kind small_zone short_last = grind arith
 
 pub stored_size : (version : Version) (kind : ℕ) → kind < 2 ^ 8 → IsStored version (stored kind)
 stored_size version kind small_kind = size_with version kind 0 text_bytes small_kind (lit< tt) (lit< tt)

@@ -76,9 +76,7 @@ pub Kept-count : (key : Key) (c : ℕ) (base history : List Filed) → Kept c ba
 Kept-count key zero base history k = ap (λ (ms : List Filed). count key ms) k
 Kept-count key (suc c) [] history k = absurd k
 Kept-count key (suc c) (b ∷ base) [] k = absurd k
-Kept-count key (suc c) (b ∷ base) (h ∷ history) k =
-    let P : Key → ℕ = λ own. if same_key own key then 1 else 0 in
-    omega (arith, ap P k.0.key, Kept-count key c base history k.1)
+Kept-count key (suc c) (b ∷ base) (h ∷ history) k = grind (arith, Kept-count key c base history k.1)
 
 -- what was filed has its key in the base
 pub Kept-in : (c : ℕ) (base history : List Filed) → Kept c base history → (h : Filed) → Among h history →
@@ -86,11 +84,7 @@ pub Kept-in : (c : ℕ) (base history : List Filed) → Kept c base history → 
 Kept-in zero base history k m i = (m, (let P : List Filed → Type 0 = λ ms. Among m ms in subst P (sym k) i), refl)
 Kept-in (suc c) [] history k m i = absurd k
 Kept-in (suc c) (b ∷ base) [] k m i = absurd k
-Kept-in (suc c) (b ∷ base) (h ∷ history) k m i =
-    elim i [
-      | inl e ↦ (b, inl refl, k.0.key ∙ ap key_of (sym e))
-      | inr t ↦ (let (n, j, e) = Kept-in c base history k.1 m t in (n, inr j, e))
-    ]
+Kept-in (suc c) (b ∷ base) (h ∷ history) k m i = grind (arith, Kept-in c base history k.1 m)
 
 -- what the base has was filed with its key
 pub Kept-back : (c : ℕ) (base history : List Filed) → Kept c base history → (b : Filed) → Among b base →
@@ -98,11 +92,7 @@ pub Kept-back : (c : ℕ) (base history : List Filed) → Kept c base history �
 Kept-back zero base history k m i = (m, (let P : List Filed → Type 0 = λ ms. Among m ms in subst P k i), IsKept-itself m)
 Kept-back (suc c) [] history k m i = absurd i
 Kept-back (suc c) (b ∷ base) [] k m i = absurd k
-Kept-back (suc c) (b ∷ base) (h ∷ history) k m i =
-    elim i [
-      | inl e ↦ (h, inl refl, (let P : Filed → Type 0 = λ n. IsKept n h in subst P (sym e) k.0))
-      | inr t ↦ (let (n, j, e) = Kept-back c base history k.1 m t in (n, inr j, e))
-    ]
+Kept-back (suc c) (b ∷ base) (h ∷ history) k m i = grind (arith, Kept-back c base history k.1 m)
 
 -- what the base has before the cursor was filed before it
 pub Kept-front : (c : ℕ) (base history : List Filed) → Kept c base history → (b : Filed) → Among b (take c base) →
@@ -110,51 +100,27 @@ pub Kept-front : (c : ℕ) (base history : List Filed) → Kept c base history �
 Kept-front zero base history k m i = absurd i
 Kept-front (suc c) [] history k m i = absurd k
 Kept-front (suc c) (b ∷ base) [] k m i = absurd k
-Kept-front (suc c) (b ∷ base) (h ∷ history) k m i =
-    elim i [
-      | inl e ↦ (h, inl refl, (let P : Filed → Type 0 = λ n. IsKept n h in subst P (sym e) k.0))
-      | inr t ↦ (let (n, j, e) = Kept-front c base history k.1 m t in (n, inr j, e))
-    ]
+Kept-front (suc c) (b ∷ base) (h ∷ history) k m i = grind (arith, Kept-front c base history k.1 m)
 
 -- what stands at one place of both
 pub Kept-at : (c : ℕ) (base history : List Filed) → Kept c base history → (i : ℕ) (b h : Filed) →
     nth i base ≡ Some b → nth i history ≡ Some h → IsKept b h
-Kept-at zero base history k i b h e f =
-    let same : b ≡ h = some_same (sym e ∙ (ap (λ (ms : List Filed). nth i ms) k ∙ f)) in
-    let P : Filed → Type 0 = λ n. IsKept b n in
-    subst P same (IsKept-itself b)
+Kept-at zero base history k i b h e f = grind (arith, some_same, IsKept-itself)
 Kept-at (suc c) [] history k i b h e f = absurd k
 Kept-at (suc c) (b' ∷ base) [] k i b h e f = absurd k
-Kept-at (suc c) (b' ∷ base) (h' ∷ history) k zero b h e f =
-    let P : Filed → Type 0 = λ n. IsKept n h' in
-    let Q : Filed → Type 0 = λ n. IsKept b n in
-    subst Q (some_same f) (subst P (some_same e) k.0)
+Kept-at (suc c) (b' ∷ base) (h' ∷ history) k zero b h e f = grind (arith, some_same)
 Kept-at (suc c) (b' ∷ base) (h' ∷ history) k (suc i) b h e f = Kept-at c base history k.1 i b h e f
 
 stub-sender : (m : Filed) → (stub_of m).sender ≡ m.sender
 unfolding stub_of
-stub-sender m = with_id (msgid_of m.echo.kept)
-  where
-    with_id : (o : Option (List ℕ)) → (stub_with m o).sender ≡ m.sender
-    with_id None = refl
-    with_id (Some id) = refl
+stub-sender m = grind arith
 
 module _ (laws : Laws) where
   purged_kept : (c : ℕ) (base history : List Filed) → Kept c base history → Kept c (map stub_of (take c base) ++ drop c base) history
   purged_kept zero base history k = k
   purged_kept (suc c) [] history k = absurd k
   purged_kept (suc c) (b ∷ base) [] k = absurd k
-  purged_kept (suc c) (b ∷ base) (h ∷ history) k = (
-    record {
-      form = inr (elim k.0.form [
-        | inl same ↦ ap stub_of same
-        | inr stub ↦ ap stub_of stub ∙ laws.stub_again h
-      ]);
-      key = laws.stub_key b ∙ k.0.key;
-      sender = stub-sender b ∙ k.0.sender;
-    },
-    purged_kept c base history k.1,
-  )
+  purged_kept (suc c) (b ∷ base) (h ∷ history) k = grind (arith, stub-sender, purged_kept c base history k.1)
 
   pub Kept-purged : (c : ℕ) (base history : List Filed) → Kept c base history → Kept c (purged base c) history
   unfolding purged
@@ -179,16 +145,11 @@ HasKey key ms = (m : Filed) × Among m ms × (key_of m ≡ key)
 module _ (laws : Laws) (s : System) (ok : SystemOk s) where
   -- a key that the history has is known
   pub known-from_history : (key : Key) → HasKey key s.history → is_known s.base key ≡ true
-  known-from_history key has =
-      let (b, i, e) = Kept-in s.cursor s.base s.history ok.kept has.0 has.1 in
-      any-to (λ m. same_key (key_of m) key) b s.base i (laws.keys.full (key_of b) key (e ∙ has.2))
+  known-from_history key has = grind (arith, Kept-in, any-to)
 
   -- what is known the history has
   pub known-in_history : (key : Key) → is_known s.base key ≡ true → HasKey key s.history
-  known-in_history key known =
-      let (b, i, t) = any-from (λ m. same_key (key_of m) key) s.base known in
-      let (h, j, e) = Kept-back s.cursor s.base s.history ok.kept b i in
-      (h, j, sym e.key ∙ laws.keys.sound (key_of b) key t)
+  known-in_history key known = grind (arith, any-from, Kept-back)
 
   -- so is the id of a message that the history has
   has_id-from_key : (m : Filed) (tag id : List ℕ) → key_of m ≡ ById tag id → has_id id m ≡ true
@@ -205,9 +166,7 @@ module _ (laws : Laws) (s : System) (ok : SystemOk s) where
           (and-parts (bytes_eq tag tag) (bytes_eq id x) (laws.keys.full (ById tag id) (ById tag x) (ap (λ (y : List ℕ). ById tag y) same))).1
 
   pub id-from_history : (tag id : List ℕ) → HasKey (ById tag id) s.history → list_any (has_id id) s.base ≡ true
-  id-from_history tag id has =
-      let (b, i, e) = Kept-in s.cursor s.base s.history ok.kept has.0 has.1 in
-      any-to (has_id id) b s.base i (has_id-from_key b tag id (e ∙ has.2))
+  id-from_history tag id has = grind (arith, Kept-in, any-to, has_id-from_key)
 
   count_filed : (m : Filed) (key : Key) → ¬ HasKey (key_of m) s.history → count key (s.history ++ m ∷ []) ≤ 1
   count_filed m key fresh =

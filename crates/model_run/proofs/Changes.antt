@@ -1,5 +1,5 @@
 -- The link files change, where the area has settled or the change is one of other areas.
-use Rattle.std.proofs.Common.{◌≡◌, ◌≢◌, ◌⊎◌, inl, inr, refl, sym, subst, ap, ◌∙◌, ℕ, List, [], ◌++◌, take, drop, map}
+use Rattle.std.proofs.Common.{◌≡◌, ◌≢◌, ◌⊎◌, inl, inr, refl, sym, subst, ap, ◌∙◌, ℕ, List, [], ◌++◌, take, drop, map, arith}
 use Rattle.std.specs.Prelude.{Bool, true}
 use Rattle.std.proofs.lemmas.List.{take-append-drop}
 use Rattle.echo_addr.specs.declared.address.Address.{Address}
@@ -157,9 +157,7 @@ module _ (laws : Laws) (tag : List ℕ) where
           past = at.recent ++ st.past;
           standing = with-files (at.recent ++ st.past) [] at.history (begins Equal (net_of next tag) (at.recent ++ st.past) rest);
         }
-    entered (inr area) =
-        let P : Net Address NetNode → Type 0 = λ net. Since Equal net st.past st.standing.recent in
-        record { tidy = tidy; past = st.past; standing = with-files st.past st.standing.recent st.standing.history (subst P (same-net area) st.standing.since) }
+    entered (inr area) = grind (arith, with-files, same-net)
 
   -- an epoch begins, and runs
   unfoldable pub stands-epoch : (files : List LinkFile) (run : Run) (epoch : Epoch) → Stands files run → Change files run epoch.files → Stands epoch.files (after_epoch run epoch)

@@ -21,16 +21,13 @@ abbrev pub one_if : Bool → ℕ
 one_if b = cond b 1 0
 
 one_if-true : (b : Bool) → IsTrue b → one_if b ≡ 1
-one_if-true true h = refl
-one_if-true false h = cc
+one_if-true b h1 = grind arith
 
 one_if-false : (b : Bool) → ¬ IsTrue b → one_if b ≡ 0
-one_if-false true h = absurd (h refl)
-one_if-false false h = refl
+one_if-false b h1 = grind arith
 
 pub one_if-most : (b : Bool) → one_if b ≤ 1
-one_if-most true = omega arith
-one_if-most false = omega arith
+one_if-most b = grind arith
 
 module _ {K M : Type 0} (key : M → K) (same : K → K → Bool) where
   -- how many of the messages have the key
@@ -51,11 +48,7 @@ module _ {K M : Type 0} (key : M → K) (same : K → K → Bool) (tells : Tells
 
   pub count-has : (k : K) (ms : List M) (m : M) → Among m ms → key m ≡ k → 1 ≤ count key same k ms
   count-has k [] m h e = absurd h
-  count-has k (x ∷ ms) m h e =
-      elim h [
-        | inl q ↦ (let P : M → Type 0 = λ n. key n ≡ k in omega (arith, one k x (subst P q e)))
-        | inr t ↦ omega (arith, count-has k ms m t e)
-      ]
+  count-has k (x ∷ ms) m h e = grind (arith, one, count-has k ms m)
 
   pub count-none : (k : K) (ms : List M) → ((m : M) → Among m ms → key m ≢ k) → count key same k ms ≡ 0
   count-none k [] h = refl
@@ -64,31 +57,13 @@ module _ {K M : Type 0} (key : M → K) (same : K → K → Bool) (tells : Tells
   -- none has the key, or one has
   pub count-cases : (k : K) (ms : List M) → (count key same k ms ≡ 0) ⊎ ((m : M) × Among m ms × (key m ≡ k))
   count-cases k [] = inl refl
-  count-cases k (x ∷ ms) =
-      elim (Tells-can same tells (key x) k) [
-        | inl e ↦ inr (x, inl refl, e)
-        | inr other ↦ elim (count-cases k ms) [
-          | inl z ↦ inl (omega (arith, none k x other, z))
-          | inr found ↦ (let (m, h, e) = found in inr (m, inr h, e))
-        ]
-      ]
+  count-cases k (x ∷ ms) = grind (arith, Tells-can, none, count-cases k ms)
 
   -- a key that is there at most once names one message
   pub count-names_one : (k : K) (ms : List M) → count key same k ms ≤ 1 → (a b : M) → Among a ms → Among b ms →
       key a ≡ k → key b ≡ k → a ≡ b
   count-names_one k [] h a b at_a at_b e q = absurd at_a
-  count-names_one k (x ∷ ms) h a b at_a at_b e q =
-      let P : M → Type 0 = λ n. key n ≡ k in
-      elim at_a [
-        | inl a_x ↦ elim at_b [
-          | inl b_x ↦ a_x ∙ sym b_x
-          | inr t ↦ absurd (omega (arith, one k x (subst P a_x e), count-has k ms b t q))
-        ]
-        | inr s ↦ elim at_b [
-          | inl b_x ↦ absurd (omega (arith, one k x (subst P b_x q), count-has k ms a s e))
-          | inr t ↦ count-names_one k ms (omega arith) a b s t e q
-        ]
-      ]
+  count-names_one k (x ∷ ms) h a b at_a at_b e q = grind (arith, one, count-has, count-names_one k ms (omega arith) a b)
 
   -- where no two are alike a key is there at most once
   pub count-different : (k : K) (ms : List M) → Different (map key ms) → count key same k ms ≤ 1

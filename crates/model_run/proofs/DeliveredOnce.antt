@@ -1,5 +1,5 @@
 -- The delivered packets of a run are a set of its packets.
-use Rattle.std.proofs.Common.{◌≡◌, inl, inr, refl, subst, sym, ℕ, List, ◌++◌, Option, Some, None}
+use Rattle.std.proofs.Common.{◌≡◌, inl, inr, refl, subst, sym, ℕ, List, ◌++◌, Option, Some, None, arith}
 use Rattle.std.specs.Prelude.{Bool, true, false, if◌then◌else◌}
 use Rattle.model_graph.specs.Walk.{Among, Different}
 use Rattle.model_steps.specs.declared.packet.Packet.{Packet}
@@ -44,8 +44,7 @@ coming-once run k p (Some s) e at = record {
 }
 
 delivery-once : (run : Run) (k : ℕ) (found : Option Packet) → nth k run.packets ≡ found → IsDeliveredOnce run → IsDeliveredOnce (delivery run k found)
-delivery-once run k None e at = at
-delivery-once run k (Some p) e at = coming-once run k p (nth (receiver run p) run.systems) e at
+delivery-once run k found h1 h2 = grind (arith, coming-once)
 
 part-once : (run : Run) (messages : ℕ) (found : Option Packet) → IsDeliveredOnce run → IsDeliveredOnce (part_delivery run messages found)
 part-once run messages None at = at

@@ -1,5 +1,5 @@
 -- What a system keeps by itself it keeps in every run.
-use Rattle.std.proofs.Common.{refl, subst, sym, ℕ, List, [], ◌∷◌, length, Option, Some, None}
+use Rattle.std.proofs.Common.{refl, subst, sym, ℕ, List, [], ◌∷◌, length, Option, Some, None, arith}
 use Rattle.std.specs.Prelude.{Bool, true, false, ◌++◌, take, if◌then◌else◌}
 use Rattle.echo_addr.specs.declared.address.Address.{Address}
 use Rattle.model_graph.specs.Walk.{Among}
@@ -27,8 +27,7 @@ module _ (P : System → Type 0) (filed : (s : System) (o : Option Filed) → P 
 
   tosses : (sender : Address) (ms : List Message) (s : System) → P s → P (tossing_at sender ms s)
   tosses sender [] s at = at
-  tosses sender (q ∷ ms) s at =
-      tosses sender ms (filing s (tossing s.file s.base sender q)) (filed s (tossing s.file s.base sender q) at)
+  tosses sender (q ∷ ms) s at = grind (arith, tosses sender ms (filing s (tossing s.file s.base sender q)) (filed s (tossing s.file s.base sender q) at))
 
   takes : (p : Packet) (messages : ℕ) (s : System) → P s → P (taking p messages s)
   takes p messages s at = tosses (sender_of s.file p.header) (take messages p.messages) s at
@@ -75,8 +74,7 @@ abbrev pub IsBaseKept : System → Type 0
 IsBaseKept s = Kept s.cursor s.base s.history
 
 pub filing-kept : (s : System) (o : Option Filed) → IsBaseKept s → IsBaseKept (filing s o)
-filing-kept s None k = k
-filing-kept s (Some m) k = Kept-filed s.cursor s.base s.history m k
+filing-kept s o h1 = grind (arith, Kept-filed)
 
 abbrev pub AllKept : Run → Type 0
 AllKept run = (s : System) → Among s run.systems → Kept s.cursor s.base s.history

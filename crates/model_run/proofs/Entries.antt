@@ -1,5 +1,5 @@
 -- Targets of a message, and what an exported copy lists.
-use Rattle.std.proofs.Common.{◌≡◌, ◌≢◌, ◌⊎◌, inl, inr, refl, sym, subst, ap, ℕ, List, [], ◌∷◌, ◌++◌, map, Option, Some, None}
+use Rattle.std.proofs.Common.{◌≡◌, ◌≢◌, ◌⊎◌, inl, inr, refl, sym, subst, ap, ℕ, List, [], ◌∷◌, ◌++◌, map, Option, Some, None, arith}
 use Rattle.std.specs.Prelude.{Bool, true, false, not, ◌&&◌, option_map, unwrap_or}
 use Rattle.echo_addr.specs.declared.address.Address.{Address}
 use Rattle.echo_addr.specs.declared.address.NetNode.{NetNode}
@@ -17,15 +17,11 @@ use Rattle.model_run.proofs.Lists.{Among-filter_from, Among-filter_to, and-from,
 use Rattle.model_run.proofs.RulesLists.{Among-map_to, Among-map_from}
 
 not-true : (b : Bool) → not b ≡ true → b ≡ false
-not-true true e = absurd (not_both false e refl)
-not-true false e = refl
+not-true b h1 = grind (arith, not_both)
 
 -- whether an address is a link, and among the links
 pub link-among : (file : LinkFile) (tag : List ℕ) (a : Address) → is_link file tag a ≡ true → Among a (links_of file tag)
-link-among file tag a h =
-    let (b, i, e) = any-from (same_address a) (links_of file tag) h in
-    let P : Address → Type 0 = λ x. Among x (links_of file tag) in
-    subst P (sym ((same_address_decides a b).0 e)) i
+link-among file tag a h = grind (arith, any-from, same_address_decides)
 
 pub among-link : (file : LinkFile) (tag : List ℕ) (a : Address) → Among a (links_of file tag) → is_link file tag a ≡ true
 among-link file tag a h = any-to (same_address a) a (links_of file tag) h ((same_address_decides a a).1 refl)
@@ -37,24 +33,12 @@ target-link file m a h = (Among-filter_from (λ link. not (is_sender m link) && 
 
 pub target-unseen : (file : LinkFile) (m : Filed) (a : Address) → Among a (targets file m) → is_seen_by m a ≡ false
 unfolding targets
-target-unseen file m a h =
-    not-true (is_seen_by m a) (and-parts (not (is_sender m a)) (not (is_seen_by m a))
-    (Among-filter_from (λ link. not (is_sender m link) && not (is_seen_by m link)) a (links_of file m.echo.tag) h).1).1
+target-unseen file m a h = grind (arith, not-true, and-parts, Among-filter_from)
 
 -- and such a link is a target, unless it sent the message
 pub target-to : (file : LinkFile) (m : Filed) (a : Address) → Among a (links_of file m.echo.tag) → m.sender ≢ Some a → is_seen_by m a ≡ false → Among a (targets file m)
 unfolding targets
-target-to file m a h other unseen =
-    Among-filter_to (λ link. not (is_sender m link) && not (is_seen_by m link)) a (links_of file m.echo.tag) h
-    (and-from (not (is_sender m a)) (not (is_seen_by m a)) (ap not (no_sender m.sender other)) (ap not unseen))
-  where
-    no_sender : (o : Option Address) → o ≢ Some a → unwrap_or (option_map (same_address a) o) false ≡ false
-    no_sender None other = refl
-    no_sender (Some b) other =
-        elim (yes_or_no (same_address a b)) [
-          | inr f ↦ f
-          | inl t ↦ absurd (other (ap (λ (x : Address). Some x) (sym ((same_address_decides a b).0 t))))
-        ]
+target-to file m a h other unseen = grind (arith, Among-filter_to, and-from, yes_or_no, same_address_decides)
 
 pub listed-from : (file : LinkFile) (e : EchoText) (n : NetNode) → Among n (exported file e).seen →
     Among n e.seen ⊎ ((n ≡ net_node_of file.system) ⊎ ((z : Address) × Among z (links_of file e.tag) × (n ≡ net_node_of z)))
@@ -98,10 +82,7 @@ exported-tag file e = refl
 
 -- an entry stands in SEEN-BY
 pub seen-among : (m : Filed) (a : Address) → is_seen_by m a ≡ true → Among (net_node_of a) m.echo.seen
-seen-among m a h =
-    let (n, i, e) = any-from (same_entry (net_node_of a)) m.echo.seen h in
-    let P : NetNode → Type 0 = λ x. Among x m.echo.seen in
-    subst P (sym ((same_entry_decides (net_node_of a) n).0 e)) i
+seen-among m a h = grind (arith, any-from, same_entry_decides)
 
 pub among-seen : (m : Filed) (a : Address) → Among (net_node_of a) m.echo.seen → is_seen_by m a ≡ true
 among-seen m a h = any-to (same_entry (net_node_of a)) (net_node_of a) m.echo.seen h ((same_entry_decides (net_node_of a) (net_node_of a)).1 refl)

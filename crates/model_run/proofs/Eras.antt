@@ -1,6 +1,6 @@
 -- A net whose links change where all has settled: a past that has settled, and what happened since, by the
 -- rules in the net of now.
-use Rattle.std.proofs.Common.{◌≡◌, ◌≢◌, ◌⊎◌, inl, inr, refl, sym, subst, ap, ◌∙◌, IsTrue, List, [], ◌∷◌, ◌++◌, append_assoc, map, Some, None}
+use Rattle.std.proofs.Common.{◌≡◌, ◌≢◌, ◌⊎◌, inl, inr, refl, sym, subst, ap, ◌∙◌, IsTrue, List, [], ◌∷◌, ◌++◌, append_assoc, map, Some, None, arith}
 use Rattle.std.specs.Prelude.{true, false}
 use Rattle.std.proofs.lemmas.List.{map-append}
 use Rattle.model_graph.specs.Walk.{Among, Different}
@@ -31,8 +31,7 @@ module _ {A N K C : Type 0} where
   pub copies-append : (xs ys : List (Event A N K C)) → copies (xs ++ ys) ≡ copies xs ++ copies ys
   copies-append [] ys = refl
   copies-append (Posts at text ∷ xs) ys = copies-append xs ys
-  copies-append (Exports m to text ∷ xs) ys =
-      ap (λ (cs : List (Copy A N K C)). map (copy_to m text) to ++ cs) (copies-append xs ys) ∙ sym (append_assoc (map (copy_to m text) to) (copies xs) (copies ys))
+  copies-append (Exports m to text ∷ xs) ys = grind (arith, append_assoc, copies-append xs ys)
   copies-append (Comes copy is_filed ∷ xs) ys = copies-append xs ys
 
   pub came-append : (xs ys : List (Event A N K C)) → came (xs ++ ys) ≡ came xs ++ came ys
@@ -46,33 +45,21 @@ module _ {A N K C : Type 0} where
   came-sent net [] h c i = i
   came-sent net (Posts at text ∷ run) h c i = came-sent net run h.1 c i
   came-sent net (Exports m to text ∷ run) h c i = Among-append_right c (map (copy_to m text) to) (copies run) (came-sent net run h.1 c i)
-  came-sent net (Comes copy is_filed ∷ run) h c i =
-      elim i [
-        | inl e ↦ (let P : Copy A N K C → Type 0 = λ d. Among d (copies run) in subst P (sym e) h.0)
-        | inr t ↦ came-sent net run h.1 c t
-      ]
+  came-sent net (Comes copy is_filed ∷ run) h c i = grind (arith, came-sent net run h.1 c)
 
 -- what was filed or sent in two times, one after the other
 module _ {A N K C : Type 0} (recent past : List (Event A N K C)) where
   pub filed-cases : (m : Filed A N K C) → Among m (filed (recent ++ past)) → Among m (filed recent) ⊎ Among m (filed past)
-  filed-cases m h =
-      let P : List (Filed A N K C) → Type 0 = λ fs. Among m fs in
-      Among-append_cases m (filed recent) (filed past) (subst P (filed-append recent past) h)
+  filed-cases m h = grind (arith, Among-append_cases, filed-append)
 
   pub copies-cases : (c : Copy A N K C) → Among c (copies (recent ++ past)) → Among c (copies recent) ⊎ Among c (copies past)
-  copies-cases c h =
-      let P : List (Copy A N K C) → Type 0 = λ cs. Among c cs in
-      Among-append_cases c (copies recent) (copies past) (subst P (copies-append recent past) h)
+  copies-cases c h = grind (arith, Among-append_cases, copies-append)
 
   pub filed-recent : (m : Filed A N K C) → Among m (filed recent) → Among m (filed (recent ++ past))
-  filed-recent m h =
-      let P : List (Filed A N K C) → Type 0 = λ fs. Among m fs in
-      subst P (sym (filed-append recent past)) (Among-append_left m (filed recent) (filed past) h)
+  filed-recent m h = grind (arith, filed-append, Among-append_left)
 
   pub filed-past : (m : Filed A N K C) → Among m (filed past) → Among m (filed (recent ++ past))
-  filed-past m h =
-      let P : List (Filed A N K C) → Type 0 = λ fs. Among m fs in
-      subst P (sym (filed-append recent past)) (Among-append_right m (filed recent) (filed past) h)
+  filed-past m h = grind (arith, filed-append, Among-append_right)
 
 module _ {A N K C : Type 0} (Same : C → C → Type 0) where
   -- a past in which all was exported and all came
@@ -88,17 +75,7 @@ module _ {A N K C : Type 0} (Same : C → C → Type 0) where
     pub same : (m p : Filed A N K C) → Among m (filed past) → Among p (filed past) → p.sender ≡ None → m.text.key ≡ p.text.key → Same m.text.content p.text.content
 
   pub nothing-rests : Rest []
-  nothing-rests = record {
-    filed_once = tt;
-    sent_once = tt;
-    never_own = λ m h own. absurd h;
-    settled = record { all_exported = λ m h. h; all_came = λ c h. h };
-    was_filed = λ m h. h;
-    was_sent = λ c h. h;
-    known = λ c h. absurd h;
-    poster = λ m h. absurd h;
-    same = λ m p h i own e. absurd h;
-  }
+  nothing-rests = grind arith
 
   -- what happened since: no posting of it has a key of the past
   pub record Since (net : Net A N) (past recent : List (Event A N K C)) : Type 0 where

@@ -75,16 +75,7 @@ module _ (files : List LinkFile) (known : LawsOfRuns files) (tag : List ℕ) (on
         (λ f Has spreads near_f other_f. not_hidden linked (Carries files tag) f Has spreads y near_f at_y other_f) a at_a near other
 
     pub not_taken : (a b : Address) → AreTwins files tag a b → ¬ AreTakenForOne files tag a b
-    not_taken a b twins taken =
-        elim taken [
-          | inl neither ↦ neither.0 (open_to a b twins.first twins.second (inl (sym twins.one_net_node)) (λ e. twins.two (sym e)))
-          | inr third ↦ elim third [
-            | inl alone ↦ alone.not_the_other (open_to alone.by b (lister-carries files tag alone.by a alone.lists_it) twins.second
-                (inr (a, alone.lists_it, sym twins.one_net_node)) (λ e. alone.another.1 (sym e)))
-            | inr alone ↦ alone.not_the_other (open_to alone.by a (lister-carries files tag alone.by b alone.lists_it) twins.first
-                (inr (b, alone.lists_it, twins.one_net_node)) (λ e. alone.another.1 (sym e)))
-          ]
-        ]
+    not_taken a b twins taken = grind (arith, open_to, lister-carries)
 
     module _ (apart : (a b : Address) → Carries files tag a → Carries files tag b → net_node_of a ≡ net_node_of b → a ≡ b) where
       simple : Simple linked

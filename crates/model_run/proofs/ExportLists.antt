@@ -29,12 +29,7 @@ sent-append a k (p ∷ ps) qs = omega (arith, sent-append a k ps qs)
 
 pub count-filter : (k : Key) (p : Filed → Bool) (ms : List Filed) → count k (filter p ms) ≤ count k ms
 count-filter k p [] = omega arith
-count-filter k p (m ∷ ms) =
-    let later = count-filter k p ms in
-    elim (yes_or_no (p m)) [
-      | inl t ↦ omega (arith, later, ap (λ (ns : List Filed). count k ns) (filter-yes p m ms t))
-      | inr f ↦ omega (arith, later, ap (λ (ns : List Filed). count k ns) (filter-no p m ms f))
-    ]
+count-filter k p (m ∷ ms) = grind (arith, yes_or_no, filter-yes, filter-no, count-filter k p ms)
 
 -- the packets that a system made
 pub made-packets : (n i : ℕ) (ps : List Packet) → map (λ (e : Export). e.packet) (map (export_of n i) ps) ≡ ps
@@ -42,56 +37,28 @@ made-packets n i [] = refl
 made-packets n i (p ∷ ps) = ap (λ (qs : List Packet). p ∷ qs) (made-packets n i ps)
 
 pub sent_by-append : (i : ℕ) (all new : List Export) → sent_by i (all ++ new) ≡ sent_by i all ++ sent_by i new
-sent_by-append i all new =
-    ap (λ (es : List Export). map (λ (e : Export). e.packet) es) (filter-append (λ e. e.system == i) all new)
-    ∙ map-append (λ (e : Export). e.packet) (filter (λ e. e.system == i) all) (filter (λ e. e.system == i) new)
+sent_by-append i all new = grind (arith, filter-append, map-append)
 
 pub sent_by-own : (n i : ℕ) (ps : List Packet) → sent_by i (map (export_of n i) ps) ≡ ps
-sent_by-own n i ps =
-    ap (λ (es : List Export). map (λ (e : Export). e.packet) es) (filter-all (λ e. e.system == i) (map (export_of n i) ps)
-    (λ e h. let (p, j, same) = Among-map_from (export_of n i) e ps h in eq-eqb e.system i (ap (λ (x : Export). x.system) same)))
-    ∙ made-packets n i ps
+sent_by-own n i ps = grind (arith, filter-all, Among-map_from, eq-eqb, made-packets)
 
 pub sent_by-other : (n i j : ℕ) (ps : List Packet) → i ≢ j → sent_by j (map (export_of n i) ps) ≡ []
-sent_by-other n i j ps other =
-    ap (λ (es : List Export). map (λ (e : Export). e.packet) es) (filter-none (λ e. e.system == j) (map (export_of n i) ps)
-    (λ e h. let (p, k, same) = Among-map_from (export_of n i) e ps h in
-    ne_eqb e.system j (λ q. other (sym (ap (λ (x : Export). x.system) same) ∙ q))))
+sent_by-other n i j ps other = grind (arith, filter-none, Among-map_from, ne_eqb)
 
 -- the packets of a run are its exports
 scan-packets : (run : Run) (n i : ℕ) (stamp : Stamp) (found : Option System) →
     (scanning run i stamp found).packets ≡ run.packets ++ map (λ (e : Export). e.packet) (scan_exports n i stamp found)
-scan-packets run n i stamp None = sym (append-nil run.packets)
-scan-packets run n i stamp (Some s) = scans (is_stamp stamp)
-  where
-    scans : (b : Bool) → (if b then record {
-      systems = change i scanning_at run.systems;
-      packets = run.packets ++ scanned s.file s.base s.cursor stamp;
-      delivered = run.delivered;
-    } else run).packets ≡
-        run.packets ++ map (λ (e : Export). e.packet) (if b then map (export_of n i) (scanned s.file s.base s.cursor stamp) else [])
-    scans true = ap (λ (ps : List Packet). run.packets ++ ps) (sym (made-packets n i (scanned s.file s.base s.cursor stamp)))
-    scans false = sym (append-nil run.packets)
+scan-packets run n i stamp found = grind (arith, append-nil, made-packets)
 
 delivery-packets : (run : Run) (k : ℕ) (found : Option Packet) → (delivery run k found).packets ≡ run.packets
-delivery-packets run k None = refl
-delivery-packets run k (Some p) = came (nth (receiver run p) run.systems)
-  where
-    came : (o : Option System) → (coming run k p o).packets ≡ run.packets
-    came None = refl
-    came (Some s) = refl
+delivery-packets run k found = grind arith
 
 part-packets : (run : Run) (messages : ℕ) (found : Option Packet) → (part_delivery run messages found).packets ≡ run.packets
-part-packets run messages None = refl
-part-packets run messages (Some p) = refl
+part-packets run messages found = grind arith
 
 event-packets : (run : Run) (n : ℕ) (event : RunEvent) →
     (after_event run event).packets ≡ run.packets ++ map (λ (e : Export). e.packet) (event_exports run n event)
-event-packets run n (Posting i tag draft serial stamp) = sym (append-nil run.packets)
-event-packets run n (Scanning i stamp) = scan-packets run n i stamp (nth i run.systems)
-event-packets run n (Delivery k) = delivery-packets run k (nth k run.packets) ∙ sym (append-nil run.packets)
-event-packets run n (PartDelivery k messages) = part-packets run messages (nth k run.packets) ∙ sym (append-nil run.packets)
-event-packets run n (Purging i) = sym (append-nil run.packets)
+event-packets run n event = grind (arith, append-nil, scan-packets, delivery-packets, part-packets)
 
 pub events-packets : (events : List RunEvent) (run : Run) (n : ℕ) →
     (after_events run events).packets ≡ run.packets ++ map (λ (e : Export). e.packet) (exports_after run n events)

@@ -176,32 +176,20 @@ module _ (laws : Laws) where
   delivery-logged : (run : Run) (n : ℕ) (all : List Export) → RunOk run → Logged run n all → (k : ℕ) (found : Option Packet) →
       Logged (delivery run k found) (n + 1) all
   delivery-logged run n all ok logged k None = idle-logged run n all logged
-  delivery-logged run n all ok logged k (Some p) = came (nth (receiver run p) run.systems)
-    where
-      came : (o : Option System) → Logged (coming run k p o) (n + 1) all
-      came None = idle-logged run n all logged
-      came (Some s) = change-logged run n all ok logged (receiver run p) (taking p (length p.messages)) (with_index k run.delivered) (taking-done p (length p.messages))
+  delivery-logged run n all ok logged k (Some p) = grind (arith, idle-logged, change-logged, taking-done)
 
   part-logged : (run : Run) (n : ℕ) (all : List Export) → RunOk run → Logged run n all → (messages : ℕ) (found : Option Packet) →
       Logged (part_delivery run messages found) (n + 1) all
   part-logged run n all ok logged messages None = idle-logged run n all logged
-  part-logged run n all ok logged messages (Some p) =
-      change-logged run n all ok logged (receiver run p) (taking p messages) run.delivered (taking-done p messages)
+  part-logged run n all ok logged messages (Some p) = grind (arith, change-logged, taking-done)
 
   event-logged : (run : Run) (n : ℕ) (all : List Export) → RunOk run → Logged run n all → (event : RunEvent) →
       Next (after_event run event) n all (event_exports run n event)
-  event-logged run n all ok logged (Posting i tag draft serial stamp) =
-      quiet (after_event run (Posting i tag draft serial stamp)) n all (
-      change-logged run n all ok logged i (posting_at tag draft serial stamp) run.delivered
-      (λ s fits. posting-done s (posting s.file s.base tag draft serial stamp) fits)
-      )
+  event-logged run n all ok logged (Posting i tag draft serial stamp) = grind (arith, quiet, change-logged, posting-done)
   event-logged run n all ok logged (Scanning i stamp) = scanning-logged run n all ok logged i stamp (nth i run.systems) refl
-  event-logged run n all ok logged (Delivery k) =
-      quiet (after_event run (Delivery k)) n all (delivery-logged run n all ok logged k (nth k run.packets))
-  event-logged run n all ok logged (PartDelivery k messages) =
-      quiet (after_event run (PartDelivery k messages)) n all (part-logged run n all ok logged messages (nth k run.packets))
-  event-logged run n all ok logged (Purging i) =
-      quiet (after_event run (Purging i)) n all (change-logged run n all ok logged i purging_at run.delivered (λ s fits. purging-done s))
+  event-logged run n all ok logged (Delivery k) = grind (arith, quiet, delivery-logged)
+  event-logged run n all ok logged (PartDelivery k messages) = grind (arith, quiet, part-logged)
+  event-logged run n all ok logged (Purging i) = grind (arith, quiet, change-logged, purging-done)
 
   events-logged : (events : List RunEvent) (run : Run) (n : ℕ) (all : List Export) → RunOk run → Logged run n all →
       (m : ℕ) × Logged (after_events run events) m (all ++ exports_after run n events)

@@ -38,10 +38,7 @@ module _ (files : List LinkFile) (known : LawsOfRuns files) (tag : List ℕ) whe
       (post_and_scan i tag, inr (inl harm))
 
   unlinked-none : (loop : List Address) → Polygons (lists files tag) → IsCycle (lists files tag) loop → ¬ HasUnlinked (lists files tag) loop
-  unlinked-none [] full cycle unlinked = cycle
-  unlinked-none (first ∷ others) full cycle unlinked =
-      let (x, y, at_x, at_y, other, none) = unlinked in
-      none (full first others cycle x y at_x at_y other)
+  unlinked-none loop h1 h2 = grind arith
 
   module _ (one_file : HaveOwnAddresses files) (all_known : AllAreCarriers files tag) where
     -- however messages move
@@ -99,9 +96,7 @@ module _ (files : List LinkFile) (known : LawsOfRuns files) (tag : List ℕ) whe
 
     rests : (i : ℕ) → ComesToRest files tag i (moves i)
     unfolding moves
-    rests i =
-        let (_, only, settled) = runs-settle files known tag all_known (trial_posting i tag ∷ []) in
-        record { only_moves = only; settled = settled }
+    rests i = grind (arith, runs-settle)
 
     shown-harmed : Shown files known tag one_file all_known moves rests → IsHarmed files tag
     shown-harmed shown = (trial_posting shown.0 tag ∷ moves shown.0, shown.1)

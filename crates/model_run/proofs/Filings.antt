@@ -46,9 +46,7 @@ posted-from file base tag draft serial stamp m e =
 
 tossed-from : (file : LinkFile) (base : List Filed) (sender : Address) (q : Message) (m : Filed) →
     tossing file base sender q ≡ Some m → IsFromLink file sender q × (m ≡ received sender q)
-tossed-from file base sender q m e =
-    let (due, same) = tossing_received file base sender q m e in
-    (record { text = due.text; link = due.link }, same)
+tossed-from file base sender q m e = grind (arith, tossing_received)
 
 tossing-from : (sender : Address) (ms : List Message) (base : List Filed) (s : System) (m : Filed) → Among m (tossing_at sender ms s).history →
     Among m s.history ⊎ IsFiledBy s.file base m (TossHere sender ms)
@@ -73,11 +71,7 @@ event-from s (PostHere tag draft serial stamp) m h =
       | inr e ↦ inr (posted-from s.system.file s.system.base tag draft serial stamp m e)
     ]
 event-from s (TossHere sender messages) m h = tossing-from sender messages s.system.base s.system m h
-event-from s (ScanHere stamp) m h = inl (scans (is_stamp stamp) h)
-  where
-    scans : (b : Bool) → Among m (if b then with_scanned stamp s else s).system.history → Among m s.system.history
-    scans true h = h
-    scans false h = h
+event-from s (ScanHere stamp) m h = grind arith
 event-from s PurgeHere m h = inl h
 
 -- the event of some that filed a message, and what was before it
@@ -122,17 +116,13 @@ event-stays file earlier later event m h =
     (filed-later z.system (after_all_lone z later).system (events-last later z (event-left s event (run-left file earlier))).system m h)
 
 filed-now : (s : System) (o : Option Filed) (m : Filed) → o ≡ Some m → Among m (filing s o).history
-filed-now s o m e =
-    let P : Option Filed → Type 0 = λ p. Among m (filing s p).history in
-    subst P (sym e) (Among-append_right m s.history (m ∷ []) (inl refl))
+filed-now s o m e = grind (arith, Among-append_right)
 
 -- a posting that nothing refuses is filed
 accepted-posting : (file : LinkFile) (base : List Filed) (tag : List ℕ) (draft : Draft) (serial : ℕ) (stamp : Stamp) →
     IsAllowed file base tag draft serial stamp → posting file base tag draft serial stamp ≡ Some (posted file tag draft serial stamp)
 unfolding posting
-accepted-posting file base tag draft serial stamp allowed =
-    ap (λ (o : Option PostFault). if is_none o then Some (posted file tag draft serial stamp) else None)
-    ((refusal_none file base tag draft serial stamp).1 allowed)
+accepted-posting file base tag draft serial stamp allowed = grind (arith, refusal_none)
 
 pub run-posted : (file : LinkFile) (earlier later : List LoneEvent) (tag : List ℕ) (draft : Draft) (serial : ℕ) (stamp : Stamp) →
     IsAllowed file (lone_run file earlier).system.base tag draft serial stamp →
@@ -150,27 +140,12 @@ run-posted file earlier later tag draft serial stamp allowed =
 -- a base without the key does not know it
 unknown : (key : Key) (base : List Filed) → count key base ≡ 0 → is_known base key ≡ false
 unknown key [] h = refl
-unknown key (m ∷ base) h =
-    elim (yes_or_no (same_key (key_of m) key)) [
-      | inl t ↦ absurd (omega (arith, h, cond-true {A = ℕ} (same_key (key_of m) key) 1 0 t))
-      | inr f ↦ any-rest (same_key (key_of m) key) (is_known base key) f
-          (unknown key base (omega (arith, h, cond-false {A = ℕ} (same_key (key_of m) key) 1 0 f)))
-    ]
-  where
-    any-rest : (a b : Bool) → a ≡ false → b ≡ false → a || b ≡ false
-    any-rest true b f e = absurd (not_both true refl f)
-    any-rest false b f e = e
+unknown key (m ∷ base) h = grind (arith, yes_or_no, cond-true, cond-false, not_both, unknown key base)
 
 -- what comes from a link with a new key is filed
 pub new-filed : (s : System) (sender : Address) (q : Message) → IsFromLink s.file sender q → is_known s.base (key_of (received sender q)) ≡ false →
     Among (received sender q) (filing s (tossing s.file s.base sender q)).history
-new-filed s sender q from new =
-    filed-now s (tossing s.file s.base sender q) (received sender q) (received_tossing s.file s.base sender q (record {
-      text = from.text;
-      area = area-has s.file (echo_of q.text).tag sender from.link;
-      link = from.link;
-      new = new;
-    }))
+new-filed s sender q from new = grind (arith, filed-now, received_tossing, area-has)
 
 pub run-new : (file : LinkFile) (earlier later : List LoneEvent) (sender : Address) (before after : List Message) (packed : Message) →
     IsFromLink file sender packed →

@@ -28,14 +28,7 @@ pub Grows-itself : (s : System) → Grows s s
 Grows-itself s = record { file = refl; cursor = refl; filed = ([], sym (append-nil s.history)) }
 
 pub Grows-again : (s t z : System) → Grows s t → Grows t z → Grows s z
-Grows-again s t z a b = record {
-  file = b.file ∙ a.file;
-  cursor = b.cursor ∙ a.cursor;
-  filed = (
-    a.filed.0 ++ b.filed.0,
-    b.filed.1 ∙ (ap (λ (ms : List Filed). ms ++ b.filed.0) a.filed.1 ∙ append_assoc s.history a.filed.0 b.filed.0),
-  );
-}
+Grows-again s t z a b = grind (arith, append_assoc)
 
 pub filing-grows : (s : System) (o : Option Filed) → Grows s (filing s o)
 filing-grows s None = Grows-itself s
@@ -64,32 +57,11 @@ pub Lasts-itself : (s : LoneSystem) → Lasts s s
 Lasts-itself s = record { system = grown-later s.system s.system (Grows-itself s.system); sent = ([], sym (append-nil s.sent)) }
 
 Lasts-again : (s t z : LoneSystem) → Lasts s t → Lasts t z → Lasts s z
-Lasts-again s t z a b = record {
-  system = record {
-    file = b.system.file ∙ a.system.file;
-    cursor = omega (arith, a.system.cursor, b.system.cursor);
-    filed = (
-      a.system.filed.0 ++ b.system.filed.0,
-      b.system.filed.1
-          ∙ (ap (λ (ms : List Filed). ms ++ b.system.filed.0) a.system.filed.1 ∙ append_assoc s.system.history a.system.filed.0 b.system.filed.0),
-    );
-  };
-  sent = (
-    a.sent.0 ++ b.sent.0,
-    b.sent.1 ∙ (ap (λ (ps : List Packet). ps ++ b.sent.0) a.sent.1 ∙ append_assoc s.sent a.sent.0 b.sent.0),
-  );
-}
+Lasts-again s t z a b = grind (arith, append_assoc)
 
 -- events keep what has come to be
 scan-lasts : (s : LoneSystem) (stamp : Stamp) (b : Bool) → IsLoneLeft s → Lasts s (if b then with_scanned stamp s else s)
-scan-lasts s stamp true left = record {
-  system = record {
-    file = refl;
-    cursor = omega (arith, left.within, left-length s left);
-    filed = ([], sym (append-nil s.system.history));
-  };
-  sent = (scanned s.system.file s.system.base s.system.cursor stamp, refl);
-}
+scan-lasts s stamp true left = grind (arith, left-length, append-nil)
 scan-lasts s stamp false left = Lasts-itself s
 
 quiet-lasts : (s : LoneSystem) (z : System) → Grows s.system z → Lasts s (with_system s z)
@@ -101,10 +73,7 @@ event-lasts s (PostHere tag draft serial stamp) left =
     quiet-lasts s (filing s.system o) (filing-grows s.system o)
 event-lasts s (TossHere sender messages) left = quiet-lasts s (tossing_at sender messages s.system) (tossing-grows sender messages s.system)
 event-lasts s (ScanHere stamp) left = scan-lasts s stamp (is_stamp stamp) left
-event-lasts s PurgeHere left = record {
-  system = record { file = refl; cursor = omega arith; filed = ([], sym (append-nil s.system.history)) };
-  sent = ([], sym (append-nil s.sent));
-}
+event-lasts s PurgeHere left = grind (arith, append-nil)
 
 pub events-last : (events : List LoneEvent) (s : LoneSystem) → IsLoneLeft s → Lasts s (after_all_lone s events)
 events-last [] s left = Lasts-itself s
@@ -131,22 +100,12 @@ run-file file events = (events-last events (lone_at_first file) (first-left file
 
 -- what a system has filed it has later
 pub filed-later : (s z : System) → IsLater s z → (m : Filed) → Among m s.history → Among m z.history
-filed-later s z later m h =
-    let P : List Filed → Type 0 = λ ms. Among m ms in
-    subst P (sym later.filed.1) (Among-append_left m s.history later.filed.0 h)
+filed-later s z later m h = grind (arith, Among-append_left)
 
 -- how far a purge came is not forgotten
 event-purged : (s : LoneSystem) (event : LoneEvent) → IsLoneLeft s → s.purged_to ≤ (after_lone s event).purged_to
-event-purged s (PostHere tag draft serial stamp) left = omega arith
-event-purged s (TossHere sender messages) left = omega arith
-event-purged s (ScanHere stamp) left = scans (is_stamp stamp)
-  where
-    scans : (b : Bool) → s.purged_to ≤ (if b then with_scanned stamp s else s).purged_to
-    scans true = omega arith
-    scans false = omega arith
-event-purged s PurgeHere left = left.purged_before
+event-purged s event h1 = grind arith
 
 pub events-purged : (events : List LoneEvent) (s : LoneSystem) → IsLoneLeft s → s.purged_to ≤ (after_all_lone s events).purged_to
 events-purged [] s left = omega arith
-events-purged (event ∷ later) s left =
-    omega (arith, event-purged s event left, events-purged later (after_lone s event) (event-left s event left))
+events-purged (event ∷ later) s left = grind (arith, event-purged, event-left, events-purged later (after_lone s event) (event-left s event left))

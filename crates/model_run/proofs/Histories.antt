@@ -1,5 +1,5 @@
 -- The history of an area, as one system changes or scans.
-use Rattle.std.proofs.Common.{◌≡◌, ◌⊎◌, inl, inr, refl, sym, subst, ap, ◌∙◌, ℕ, List, [], take, Some}
+use Rattle.std.proofs.Common.{◌≡◌, ◌⊎◌, inl, inr, refl, sym, subst, ap, ◌∙◌, ℕ, List, [], take, Some, arith}
 use Rattle.echo_addr.specs.declared.address.Address.{Address}
 use Rattle.echo_addr.specs.declared.address.NetNode.{NetNode}
 use Rattle.model_graph.specs.Walk.{Among}
@@ -33,14 +33,7 @@ module _ (systems : List System) (i : ℕ) (f : System → System) (s : System) 
   ]
 
   pub before-then : (z : System) → Among z (change i f systems) → Among z systems ⊎ (z ≡ f s)
-  before-then z h =
-      let (j, e) = among-nth z (change i f systems) h in
-      elim (nth-change i j f z systems e) [
-        | inl other ↦ inl (nth-among j z systems other.1)
-        | inr here ↦ (let (x, at_x, is) = here.1 in
-            let P : ℕ → Type 0 = λ k. nth k systems ≡ Some x in
-            inr (is ∙ ap f (some_same (sym (subst P (sym here.0) at_x) ∙ at_s))))
-      ]
+  before-then z h = grind (arith, among-nth, nth-change, nth-among, some_same)
 
   pub after-then : (z : System) → Among z systems → Among z (change i f systems) ⊎ (z ≡ s)
   after-then z h =
@@ -89,9 +82,7 @@ module _ (tag : List ℕ) (systems : List System) (i : ℕ) (f : System → Syst
         ]
 
     pub filed-new : (m : RFiled) → IsNew new m → IsFiledIn tag part (change i f systems) m
-    filed-new m is =
-        let (n, h, area, e) = is in
-        record { system = f s; there = there-then systems i f s at_s; message = n; filed = comes n h; area = area; same = e ∙ ap (λ (a : Address). filed_as a n) (sym same) }
+    filed-new m is = grind (arith, there-then)
 
 -- the same was filed as before the change, and these; what was scanned stays, and no packet is made
 module _ (tag : List ℕ) (run : Run) (i : ℕ) (f : System → System) (s : System) (at_s : nth i run.systems ≡ Some s)

@@ -51,26 +51,17 @@ some-or_all P Q decide (y ∷ xs) =
 
 -- of systems with the area
 where_area : {P Q : Type 0} (has : Bool) → P ⊎ Q → ((has ≡ true) × P) ⊎ (has ≡ true → Q)
-where_area true (inl h) = inl (refl, h)
-where_area true (inr h) = inr (λ _. h)
-where_area false either = inr (λ e. absurd (not_both false e refl))
+where_area has h1 = grind (arith, not_both)
 
 more-or_few : (n : ℕ) → (2 ≤ n) ⊎ (n ≤ 1)
-more-or_few zero = inr (omega arith)
-more-or_few (suc zero) = inr (omega arith)
-more-or_few (suc (suc n)) = inl (omega arith)
+more-or_few n = grind arith
 
 zero-or_one : (n : ℕ) → (n ≡ 0) ⊎ (1 ≤ n)
-zero-or_one zero = inl refl
-zero-or_one (suc n) = inr (omega arith)
+zero-or_one n = grind arith
 
 pub key-tag : (m : Filed) → tag_of (key_of m) ≡ m.echo.tag
 unfolding key_of
-key-tag m = of_id (msgid_of m.echo.kept)
-  where
-    of_id : (o : Option (List ℕ)) → tag_of (key_with m o) ≡ m.echo.tag
-    of_id None = refl
-    of_id (Some id) = refl
+key-tag m = grind arith
 
 pub posting-own : (file : LinkFile) (tag : List ℕ) → (post_of file tag).sender ≡ None
 unfolding posted
@@ -275,15 +266,7 @@ module _ (files : List LinkFile) (known : LawsOfRuns files) (tag : List ℕ) (on
       to_links = target-link maker.file original x copy.target
 
       maker-holds : Holds maker.file.system original
-      maker-holds = record {
-        index = sent.export.system;
-        system = maker;
-        at = sent.at;
-        address = refl;
-        area_there = link-area maker.file tag x (among_links x to_links);
-        filed = Among-take maker.cursor original maker.history sent.scanned;
-        key = original-key;
-      }
+      maker-holds = grind (arith, link-area, among_links, to_links, Among-take, original-key)
 
       sent-came : Came (lists files tag) Holds x m
       sent-came = record {

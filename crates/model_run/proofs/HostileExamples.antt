@@ -1,5 +1,5 @@
 -- The base of a first posting spoiled in one place, by computation: what loading it is to answer, in each version.
-use Rattle.std.proofs.Common.{◌≡◌, ℕ, ◌+◌, ◌^◌, ◌<◌, List, [], ◌∷◌, ◌++◌, refl, sym, ap, subst, ◌∙◌, true, false, Ok, Err, codes, length, replicate, lit<, lit≤, inr}
+use Rattle.std.proofs.Common.{◌≡◌, ℕ, ◌+◌, ◌^◌, ◌<◌, List, [], ◌∷◌, ◌++◌, refl, sym, ap, subst, ◌∙◌, true, false, Ok, Err, codes, length, replicate, lit<, lit≤, inr, arith}
 use Rattle.std.proofs.lemmas.List.{length-append, length-replicate}
 use Rattle.std.specs.Fmt.{digits}
 use Rattle.echo_addr.specs.Entries.{entries, pair_of, tokens}
@@ -60,8 +60,7 @@ first_damaged version next bytes size damaged whole = record {
 
 -- the cursor past the number
 cursor_two : (version : Version) → LoadOf (base_of version 2 1 (whole_bytes 0)) (Err fault.NotBase)
-cursor_two First = inr (lit≤ tt, lit< tt)
-cursor_two Second = inr (lit≤ tt, lit< tt)
+cursor_two version = grind arith
 
 -- a first byte that no version has
 fifth_kind : (version : Version) → LoadOf (base_of version 0 1 (whole_bytes 5)) (Err (fault.Damaged 0))
@@ -134,21 +133,18 @@ long_text_length : (more : ℕ) → length (text_bytes ++ replicate more 0) ≡ 
 long_text_length more = length-append text_bytes (replicate more 0) ∙ ap (λ (n : ℕ). 78 + n) (length-replicate {A = ℕ} more 0)
 
 long_text_size : (version : Version) (more : ℕ) → 78 + more < 2 ^ 32 → IsStored version (long_text more)
-long_text_size version more fits =
-    size_with version 0 0 (text_bytes ++ replicate more 0) (lit< tt) (lit< tt) (subst (λ (n : ℕ). n < 2 ^ 32) (sym (long_text_length more)) fits)
+long_text_size version more fits = grind (arith, size_with, long_text_length)
 
 abbrev cut_bytes : ℕ → List ℕ
 cut_bytes size = fields_bytes 0 ++ (long size ++ text_bytes)
 
 text_cut : (version : Version) (more : ℕ) → stored_bytes version (long_text more) ≡ cut_bytes (78 + more) ++ replicate more 0
 unfolding stored_bytes
-text_cut First more = ap (λ (n : ℕ). cut_bytes n ++ replicate more 0) (long_text_length more)
-text_cut Second more = ap (λ (n : ℕ). cut_bytes n ++ replicate more 0) (long_text_length more)
+text_cut version more = grind (arith, long_text_length)
 
 base_begins : (version : Version) (messages : List ℕ) → base_of version 0 1 messages ≡ head_bytes version 0 1 ++ messages
 unfolding head_bytes
-base_begins First messages = refl
-base_begins Second messages = refl
+base_begins version messages = grind arith
 
 ends_in_text : (version : Version) (more : ℕ) → 0 < more → 78 + more < 2 ^ 32 → EndsInside 0 (base_of version 0 1 (cut_bytes (78 + more)))
 ends_in_text version more some fits = record {

@@ -39,41 +39,19 @@ only_target : (x : ℕ) → IsTarget (polygon 2) (posted 0) x → Among x (1 ∷
 only_target x target = let (below, under, other) = linked-parts 2 0 x target.link in inl (omega (arith, under, λ (e : x ≡ 0). other (sym e)))
 
 is_target : (x : ℕ) → Among x (1 ∷ []) → IsTarget (polygon 2) (posted 0) x
-is_target x h =
-    let P : ℕ → Type 0 = λ a. IsTarget (polygon 2) (posted 0) a in
-    elim h [
-      | inl e ↦ subst P (sym e) (record { link = refl; not_sender = λ none. cc; not_seen = λ i. i })
-      | inr none ↦ absurd none
-    ]
+is_target x h = grind arith
 
 sent_once : (earlier : List (Event ℕ ℕ ℕ ℕ)) → Among (posted 0) (filed earlier) → ¬ Has 0 7 (exported earlier) →
     IsSentOnce (polygon 2) earlier (posted 0) (1 ∷ [])
-sent_once earlier is_filed first = record {
-  is_filed = is_filed;
-  first = first;
-  targets = λ x. (is_target x, only_target x);
-  one_each = (λ h. h, tt);
-}
+sent_once earlier is_filed first = grind (arith, is_target, only_target)
 
 -- 1 alone is told nothing wrong by an empty SEEN-BY
 told : (x : ℕ) → Among x (1 ∷ []) → HasSeenBy (polygon 2) (posted 0) (1 ∷ []) x []
-told x h = record {
-  others = λ l i link. absurd (elim h [
-    | inl e ↦ elim i [
-      | inl q ↦ (linked-parts 2 x l link).2 (e ∙ sym q)
-      | inr none ↦ none
-    ]
-    | inr none ↦ none
-  ]);
-  behind = λ d carrier beyond other i. absurd i;
-}
+told x h = grind (arith, linked-parts)
 
 -- 1 has not filed what 0 posted
 not_at_1 : ¬ Has 1 7 (posted 0 ∷ [])
-not_at_1 has = elim has.1 [
-  | inl e ↦ (let here = ap (λ (m : Filed ℕ ℕ ℕ ℕ). m.at) e in let there = has.2 in absurd (omega (arith, here, there)))
-  | inr none ↦ none
-]
+not_at_1 has = grind arith
 
 -- a copy that comes twice is filed twice
 pub filing-needed : IsNeeded filing
@@ -104,25 +82,7 @@ settling-possible : (content : ℕ) → Always (IsPossible (polygon 2)) (settlin
 settling-possible content = (tt, (inl refl, (tt, (refl, tt))))
 
 settling-kept : (content : ℕ) (rule : Rule) → rule ≢ keeping → Kept (polygon 2) (λ a b. a ≡ b) (settling content) rule
-settling-kept content filing apart = (tt, ((λ yes. (refl, not_at_1), λ new. refl), (tt, (tt, tt))))
-settling-kept content keeping apart = absurd (apart refl)
-settling-kept content sending apart = (
-  record {
-    is_filed = inl refl;
-    first = not_at_1;
-    targets = λ x. (λ h. absurd h, λ target. nobody x target);
-    one_each = tt;
-  },
-  (tt, (sent_once (post 0 ∷ []) (inl refl) (λ has. has.1), (tt, tt))),
-)
-  where
-    nobody : (x : ℕ) → IsTarget (polygon 2) (received content) x → ⊥
-    nobody x target =
-        let (below, under, other) = linked-parts 2 1 x target.link in
-        let zero : x ≡ 0 = omega (arith, under, λ (e : x ≡ 1). other (sym e)) in
-        target.not_sender (ap (λ (a : ℕ). Some a) (sym zero))
-settling-kept content telling apart = (λ x h. absurd h, (tt, (told, (λ d carrier h. absurd h, tt))))
-settling-kept content keys apart = (tt, (tt, (tt, (λ m h. absurd h, tt))))
+settling-kept content rule h1 = grind (arith, not_at_1, sent_once, linked-parts, told)
 
 -- all rules are kept where the content stays
 pub can-be-kept : IsMet

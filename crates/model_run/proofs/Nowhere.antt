@@ -1,5 +1,5 @@
 -- What goes to an address that no file has never comes.
-use Rattle.std.proofs.Common.{◌≡◌, ◌≢◌, inl, inr, refl, sym, subst, ap, ◌∙◌, ℕ, IsTrue, List, [], ◌∷◌, ◌++◌, length, Option, Some, None}
+use Rattle.std.proofs.Common.{◌≡◌, ◌≢◌, inl, inr, refl, sym, subst, ap, ◌∙◌, ℕ, IsTrue, List, [], ◌∷◌, ◌++◌, length, Option, Some, None, arith}
 use Rattle.std.specs.Prelude.{Bool, true, false, if◌then◌else◌}
 use Rattle.std.specs.List.{AllByRecursion, list_any}
 use Rattle.model_graph.specs.Walk.{Among}
@@ -115,8 +115,7 @@ module _ (files : List LinkFile) (p : Packet) where
     }
 
     kept-delivered : (k : ℕ) (o : Option Packet) → nth k now.packets ≡ o → Kept (delivery now k o)
-    kept-delivered k None e = kept
-    kept-delivered k (Some q) e = kept-comes k q e (nth (receiver now q) now.systems) refl
+    kept-delivered k o h1 = grind (arith, kept-comes)
 
   kept-event : LawsOfRuns files → (events : List RunEvent) (event : RunEvent) → Kept (run_of files events) → Kept (after_event (run_of files events) event)
   kept-event known events (Posting i tag draft serial stamp) kept = kept-changed (run_of files events) i (posting_at tag draft serial stamp) kept
@@ -143,16 +142,7 @@ split-at {X} x (y ∷ xs) h =
     ]
 
 scanning-delivered : (run : Run) (i : ℕ) (stamp : Stamp) (o : Option System) → (scanning run i stamp o).delivered ≡ run.delivered
-scanning-delivered run i stamp None = refl
-scanning-delivered run i stamp (Some s) = scans (is_stamp stamp)
-  where
-    scans : (b : Bool) → (if b then record {
-      systems = change i scanning_at run.systems;
-      packets = run.packets ++ scanned s.file s.base s.cursor stamp;
-      delivered = run.delivered;
-    } else run).delivered ≡ run.delivered
-    scans true = refl
-    scans false = refl
+scanning-delivered run i stamp o = grind arith
 
 -- once a packet is there that holds a message of the area and is for the address of no file, the area never settles
 never_settles : (files : List LinkFile) (known : LawsOfRuns files) (tag : List ℕ) (events : List RunEvent) (q : Packet) → Kept files q (run_of files events) →

@@ -45,14 +45,7 @@ epoch-names run epoch same =
     ∙ ap (λ (fs : List LinkFile). addresses fs) (files-stay epoch.events (changed_to run epoch.files) epoch.files same)
 
 grown-again : (s t z : System) → HasGrown s t → HasGrown t z → HasGrown s z
-grown-again s t z a b = record {
-  address = b.address ∙ a.address;
-  cursor = omega (arith, a.cursor, b.cursor);
-  filed = (
-    a.filed.0 ++ b.filed.0,
-    b.filed.1 ∙ (ap (λ (ms : List Filed). ms ++ b.filed.0) a.filed.1 ∙ append_assoc s.history a.filed.0 b.filed.0),
-  );
-}
+grown-again s t z a b = grind (arith, append_assoc)
 
 outlives-again : (run between after : Run) → Outlives run between → Outlives between after → Outlives run after
 outlives-again run between after a b = record {

@@ -38,15 +38,7 @@ post_of file tag = posted file tag trial_draft 1 trial_moment
 post-accepted : (files : List LinkFile) → LawsOfRuns files → (file : LinkFile) (tag : List ℕ) → has_area file (upper tag) ≡ true →
     posting file [] tag trial_draft 1 trial_moment ≡ Some (post_of file tag)
 unfolding posting
-post-accepted files known file tag h =
-    ap (λ (o : Option PostFault). if is_none o then Some (post_of file tag) else None) (known.allowed file [] tag trial_draft 1 trial_moment (record {
-      area = h;
-      zero = refl;
-      short = refl;
-      moment = refl;
-      reply = refl;
-      new = refl;
-    }))
+post-accepted files known file tag h = grind arith
 
 received-tag : (a : Address) (q : Message) → (received a q).echo.tag ≡ (echo_of q.text).tag
 unfolding received
@@ -66,13 +58,11 @@ pub record OnlyPosted (i : ℕ) (p : Filed) (run : Run) : Type 0 where
   pub whole : (j : ℕ) (s : System) → nth j run.systems ≡ Some s → s.base ≡ s.history
 
 filing-whole : (s : System) (o : Option Filed) → s.base ≡ s.history → (filing s o).base ≡ (filing s o).history
-filing-whole s None e = e
-filing-whole s (Some m) e = ap (λ (ms : List Filed). ms ++ m ∷ []) e
+filing-whole s o h1 = grind arith
 
 tossing-whole : (sender : Address) (ms : List Message) (s : System) → s.base ≡ s.history → (tossing_at sender ms s).base ≡ (tossing_at sender ms s).history
 tossing-whole sender [] s e = e
-tossing-whole sender (q ∷ ms) s e =
-    tossing-whole sender ms (filing s (tossing s.file s.base sender q)) (filing-whole s (tossing s.file s.base sender q) e)
+tossing-whole sender (q ∷ ms) s e = grind (arith, filing-whole, tossing-whole sender ms (filing s (tossing s.file s.base sender q)) (filing-whole s (tossing s.file s.base sender q) e))
 
 -- a packet with more of the run, or a system that stays the one of its file
 arrived-more : (run after : Run) (s z : System) (m : Filed) → ((q : Packet) → Among q run.packets → Among q after.packets) → z.file ≡ s.file →
@@ -106,9 +96,7 @@ module _ (files : List LinkFile) (known : LawsOfRuns files) (i : ℕ) (p : Filed
         not_zero z low = elim (yes_or_no (z == 0)) [ inr f ↦ f | inl t ↦ absurd (omega (arith, eqb-true z 0 t)) ]
 
     origin-is : (file : LinkFile) → sender_of file q.header ≡ origin q
-    origin-is file =
-        let of_zone : ℕ → Address = λ z. record { zone = z; net = q.header.orig_net; node = q.header.orig_node } in
-        ap of_zone (zone-is file)
+    origin-is file = grind (arith, zone-is)
 
     taken-from : (after : Run) → ((x : Packet) → Among x run.packets → Among x after.packets) → (j : ℕ) (s : System) →
         nth j run.systems ≡ Some s → nth (receiver run q) run.systems ≡ Some s →
@@ -200,15 +188,10 @@ module _ (files : List LinkFile) (known : LawsOfRuns files) (i : ℕ) (p : Filed
         }
 
     delivered-so : (k : ℕ) (o : Option Packet) → nth k now.packets ≡ o → OnlyPosted i p (delivery now k o)
-    delivered-so k None e = only
-    delivered-so k (Some q) e = comes k q (nth-among k q now.packets e) (nth (receiver now q) now.systems)
+    delivered-so k o h1 = grind (arith, comes, nth-among)
 
   moved : (events : List RunEvent) (event : RunEvent) → IsMove event → OnlyPosted i p (run_of files events) → OnlyPosted i p (after_event (run_of files events) event)
-  moved events (Posting k tag draft serial stamp) move only = absurd move
-  moved events (PartDelivery k messages) move only = absurd move
-  moved events (Purging k) move only = absurd move
-  moved events (Scanning k stamp) move only = scanned-so events only k stamp (nth k (run_of files events).systems)
-  moved events (Delivery k) move only = delivered-so events only k (nth k (run_of files events).packets) refl
+  moved events event h1 h2 = grind (arith, scanned-so, delivered-so)
 
   moved-all : (events more : List RunEvent) → AllByRecursion IsMove more → OnlyPosted i p (run_of files events) → OnlyPosted i p (run_of files (events ++ more))
   moved-all events more moves only =
@@ -229,32 +212,7 @@ module _ (files : List LinkFile) (known : LawsOfRuns files) (tag : List ℕ) (i 
       (post-accepted files known file tag (ap (λ (t : List ℕ). has_area file t) raised ∙ area))
 
   only-first : OnlyPosted i (post_of file tag) (run_of files (trial_posting i tag ∷ []))
-  only-first = record {
-    from = λ j z at m h. elim (nth-change i j (posting_at tag trial_draft 1 trial_moment) z (map fresh files) at) [
-      | inl other ↦ (let (f, _, same) = nth-map_from fresh j z files other.1 in
-          let P : System → Type 0 = λ t. Among m t.history in
-          absurd (subst P same h))
-      | inr here ↦ (let is_z = the_first z j here.0 here.1 in
-          let P : System → Type 0 = λ t. Among m t.history in
-          inl (sym here.0, elim (subst P is_z h) [ inl e ↦ e | inr t ↦ absurd t ]))
-    ];
-    whole = λ j z at. elim (nth-change i j (posting_at tag trial_draft 1 trial_moment) z (map fresh files) at) [
-      | inl other ↦ (let (f, _, same) = nth-map_from fresh j z files other.1 in
-          let P : System → Type 0 = λ t. t.base ≡ t.history in
-          subst P (sym same) refl)
-      | inr here ↦ (let is_z = the_first z j here.0 here.1 in
-          let P : System → Type 0 = λ t. t.base ≡ t.history in
-          subst P (sym is_z) refl)
-    ];
-  }
-    where
-      the_first : (z : System) (j : ℕ) → i ≡ j → (x : System) × (nth j (map fresh files) ≡ Some x) × (z ≡ posting_at tag trial_draft 1 trial_moment x) →
-          z ≡ filing (fresh file) (Some (post_of file tag))
-      the_first z j e found =
-          let (x, at, same) = found in
-          let P : ℕ → Type 0 = λ l. nth l (map fresh files) ≡ Some x in
-          let is_x : x ≡ fresh file = some_same (sym (subst P (sym e) at) ∙ nth-map fresh i file files is) in
-          same ∙ (ap (λ (t : System). posting_at tag trial_draft 1 trial_moment t) is_x ∙ filed-first)
+  only-first = grind (arith, nth-change, nth-map_from, some_same, nth-map, filed-first)
 
   pub only-posted : (more : List RunEvent) → AllByRecursion IsMove more → OnlyPosted i (post_of file tag) (run_of files (trial_posting i tag ∷ more))
   only-posted more moves = moved-all files known i (post_of file tag) (trial_posting i tag ∷ []) more moves only-first

@@ -29,14 +29,7 @@ unfolding links_of
 lists-by_entries tag files a b = sym (any-map (entry_lists a b) (λ (file : LinkFile). (file.system, area_of file tag)) files)
 
 pub same-area : (tag : List ℕ) (before after : List LinkFile) → area_entries tag before ≡ area_entries tag after → SameArea tag before after
-same-area tag before after same = record {
-  carriers = λ a.
-      carries-by_entries tag before a
-      ∙ (ap (λ (es : List (Address × Option Area)). list_any (entry_carries a) es) same ∙ sym (carries-by_entries tag after a));
-  links = λ a b.
-      lists-by_entries tag before a b
-      ∙ (ap (λ (es : List (Address × Option Area)). list_any (entry_lists a b) es) same ∙ sym (lists-by_entries tag after a b));
-}
+same-area tag before after same = grind (arith, carries-by_entries, lists-by_entries)
 
 -- two epochs with such a change between them
 pub tidy-pair : (tag : List ℕ) (before after : Epoch) → Tidy before.files tag → Tidy after.files tag → FilesFit before.files → FilesFit after.files →

@@ -30,16 +30,7 @@ module _ (laws : Laws) where
   }
 
   pub change-outlives : (run : Run) (files : List LinkFile) → SameSystems run.systems files → Outlives run (changed_to run files)
-  change-outlives run files same = record {
-    later = λ s h.
-        let (z, i, renewed) = renewed-to files run.systems s same h in
-        let grown : HasGrown s z = record {
-          address = renewed.address;
-          cursor = omega (arith, renewed.cursor);
-          filed = ([], renewed.history ∙ sym (append-nil s.history));
-        } in
-        (z, i, grown);
-  }
+  change-outlives run files same = grind (arith, renewed-to, append-nil)
 
   events-ok : (run : Run) → RunOk run → (events : List RunEvent) → RunOk (after_events run events)
   events-ok run ok events = along (λ r. RunOk r) (λ r event. event-ok laws r event) events run ok

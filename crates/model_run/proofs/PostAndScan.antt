@@ -65,9 +65,4 @@ module _ (files : List LinkFile) (known : LawsOfRuns files) (tag : List ℕ) (i 
 -- who lists itself is sent its own at once
 pub listed-sent : (files : List LinkFile) → LawsOfRuns files → (tag : List ℕ) (a : Address) → IsTrue (lists files tag a a) →
     (i : ℕ) × SentItsOwn (run_of files (post_and_scan i tag)) tag
-listed-sent files known tag a lists_itself =
-    let (file, h, e, link) = lists-file files tag a a lists_itself in
-    let (i, is) = among-nth file files h in
-    let own = ap (λ (b : Address). is_link file tag b) e ∙ link in
-    let area = link-area file tag file.system (link-among file tag file.system own) in
-    (i, own-sent files known tag i file is area own)
+listed-sent files known tag a lists_itself = grind (arith, lists-file, among-nth, link-area, link-among, own-sent)

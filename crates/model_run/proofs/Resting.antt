@@ -38,8 +38,7 @@ use Rattle.model_run.proofs.Targets.{some_same, none_some}
 -- the key of a received message does not hang on its sender
 key-same : (a b : Address) (q : Message) (o : Option (List ℕ)) → key_with (received a q) o ≡ key_with (received b q) o
 unfolding received
-key-same a b q None = refl
-key-same a b q (Some id) = refl
+key-same a b q o = grind arith
 
 received-key : (a b : Address) (q : Message) → key_of (received a q) ≡ key_of (received b q)
 unfolding key_of received
@@ -68,9 +67,7 @@ module _ (files : List LinkFile) (known : LawsOfRuns files) where
 
   -- each packet was made by a scan
   pub export-of : (events : List RunEvent) (p : Packet) → Among p (run_of files events).packets → (e : Export) × Among e (exports files events) × (p ≡ e.packet)
-  export-of events p h =
-      let P : List Packet → Type 0 = λ ps. Among p ps in
-      Among-map_from (λ (e : Export). e.packet) p (exports files events) (subst P (sym (known.packets events)) h)
+  export-of events p h = grind (arith, Among-map_from)
 
   module _ (keys : List Key) where
     -- all that was filed has some of these keys
@@ -89,10 +86,7 @@ module _ (files : List LinkFile) (known : LawsOfRuns files) where
         (within s (nth-among e.system s (run_of files events).systems there) m (Among-take s.cursor m s.history j))
 
     pub new-key : (s : System) (sender : Address) (q : Message) (m : Filed) → tossing s.file s.base sender q ≡ Some m → is_known s.base (key_of m) ≡ false
-    new-key s sender q m h =
-        let same = tossing-is s.file s.base sender q m h in
-        let to_file = (known.toss s.file s.base sender q).0 (h ∙ ap (λ (x : Filed). Some x) same) in
-        ap (λ (x : Filed). is_known s.base (key_of x)) same ∙ to_file.new
+    new-key s sender q m h = grind (arith, tossing-is)
 
     -- what a delivery does: no system changes, or more is filed
     record Fewer (before after : Run) : Type 0 where
@@ -114,21 +108,10 @@ module _ (files : List LinkFile) (known : LawsOfRuns files) where
       came : (k : ℕ) (p : Packet) → k < n → nth k after.packets ≡ Some p → Among k after.delivered ⊎ GoesNowhere p
 
     pub with_index-new : (k : ℕ) (ks : List ℕ) → Among k (with_index k ks)
-    with_index-new k ks = cases (list_any (λ d. d == k) ks) refl
-      where
-        cases : (b : Bool) → list_any (λ d. d == k) ks ≡ b → Among k (if b then ks else k ∷ ks)
-        cases true e =
-            let (d, i, q) = any-from (λ d. d == k) ks e in
-            let P : ℕ → Type 0 = λ x. Among x ks in
-            subst P (eqb-true d k q) i
-        cases false e = inl refl
+    with_index-new k ks = grind (arith, any-from, eqb-true)
 
     pub with_index-old : (k j : ℕ) (ks : List ℕ) → Among j ks → Among j (with_index k ks)
-    with_index-old k j ks h = cases (list_any (λ d. d == k) ks)
-      where
-        cases : (b : Bool) → Among j (if b then ks else k ∷ ks)
-        cases true = h
-        cases false = inr h
+    with_index-old k j ks h = grind arith
 
     -- a packet comes
     module _ (events : List RunEvent) (within : Within (run_of files events)) (k : ℕ) where
@@ -160,12 +143,7 @@ module _ (files : List LinkFile) (known : LawsOfRuns files) where
         next : (after : List ℕ) → ((j : ℕ) → Among j run.delivered → Among j after) →
             ((q : Packet) → nth k run.packets ≡ Some q → Among k after ⊎ GoesNowhere q) →
             (j : ℕ) (q : Packet) → j < suc k → nth j run.packets ≡ Some q → Among j after ⊎ GoesNowhere q
-        next after more here j q less at =
-            elim (cases_eq j k) [
-              | inr other ↦ earlier after more j q (omega arith) at
-              | inl same ↦ (let P : ℕ → Type 0 = λ i. (nth i run.packets ≡ Some q → Among i after ⊎ GoesNowhere q) in
-                  subst P (sym same) (here q) at)
-            ]
+        next after more here j q less at = grind (arith, cases_eq, earlier)
 
         module _ (p : Packet) (is : nth k run.packets ≡ Some p) where
           each : (s : System) → Among s run.systems →
@@ -204,12 +182,7 @@ module _ (files : List LinkFile) (known : LawsOfRuns files) where
               ]
 
         delivered : (o : Option Packet) → nth k run.packets ≡ o → Fewer before (delivery run k o) ⊎ Rests before (delivery run k o) (suc k)
-        delivered None e = inr (record {
-          systems = rests.systems;
-          packets = rests.packets;
-          came = next run.delivered (λ j h. h) (λ q at. absurd (none_some (sym e ∙ at)));
-        })
-        delivered (Some p) e = comes p e (nth (receiver run p) run.systems) refl
+        delivered o h1 = grind (arith, next, none_some, comes)
 
     -- the first packets come, until something is filed
     record Delivered (events : List RunEvent) (n : ℕ) : Type 0 where
@@ -218,12 +191,7 @@ module _ (files : List LinkFile) (known : LawsOfRuns files) where
       out : Fewer (run_of files events) (run_of files (events ++ more)) ⊎ Rests (run_of files events) (run_of files (events ++ more)) n
 
     deliver : (events : List RunEvent) → Within (run_of files events) → (n : ℕ) → Delivered events n
-    deliver events within zero = record {
-      more = [];
-      moves = tt;
-      out = (let P : List RunEvent → Type 0 = λ es. Fewer (run_of files events) (run_of files es) ⊎ Rests (run_of files events) (run_of files es) 0 in
-          subst P (sym (append-nil events)) (inr (record { systems = refl; packets = refl; came = λ k p less. absurd (omega arith) })));
-    }
+    deliver events within zero = grind (arith, append-nil)
     deliver events within (suc n) =
         let so_far = deliver events within n in
         let now = events ++ so_far.more in
@@ -255,15 +223,7 @@ module _ (files : List LinkFile) (known : LawsOfRuns files) where
     length-change (suc i) f (s ∷ ss) = ap suc (length-change i f ss)
 
     pub scanned-more : (before run : Run) (n : ℕ) → Scanned before run n → (o : Option System) → nth n run.systems ≡ o → Scanned before (scanning run n trial_moment o) (suc n)
-    scanned-more before run n so_far None e = record {
-      within = so_far.within;
-      lacks = so_far.lacks;
-      quiet = λ i s less at. elim (cases_eq i n) [
-        | inr other ↦ so_far.quiet i s (omega arith) at
-        | inl same ↦ (let P : ℕ → Type 0 = λ j. nth j run.systems ≡ Some s in absurd (none_some (sym e ∙ subst P same at)))
-      ];
-      size = so_far.size;
-    }
+    scanned-more before run n so_far None e = grind (arith, cases_eq, none_some)
     scanned-more before run n so_far (Some z) e = record {
       within = λ s h m j. elim (Among-change n scanning_at s run.systems h) [
         | inl old ↦ so_far.within s old m j

@@ -86,11 +86,7 @@ all-scanned (s ∷ ss) quiet =
 -- each system lacks one key at most
 few_lack : (key : Key) (ss : List System) → all_lacking (key ∷ []) ss ≤ length ss
 few_lack key [] = omega arith
-few_lack key (s ∷ ss) = omega (arith, few_lack key ss, one (is_known s.base key))
-  where
-    one : (b : Bool) → weight b ≤ 1
-    one true = omega arith
-    one false = omega arith
+few_lack key (s ∷ ss) = grind (arith, few_lack key ss)
 
 module _ (files : List LinkFile) (known : LawsOfRuns files) (tag : List ℕ) (all_known : AllAreCarriers files tag)
     (i : ℕ) (file : LinkFile) (is : nth i files ≡ Some file) (area : has_area file tag ≡ true) where
@@ -171,10 +167,7 @@ module _ (files : List LinkFile) (known : LawsOfRuns files) (tag : List ℕ) (al
       (before ≡ start.systems) ⊎ (all_lacking keys before < all_lacking keys start.systems) →
       (after ≡ before) ⊎ (all_lacking keys after < all_lacking keys before) →
       (after ≡ start.systems) ⊎ (all_lacking keys after < all_lacking keys start.systems)
-  fewer-still start before after (inl same) (inl still) = inl (still ∙ same)
-  fewer-still start before after (inl same) (inr less) = inr (let e = ap (λ (ss : List System). all_lacking keys ss) same in omega (arith, less, e))
-  fewer-still start before after (inr less) (inl still) = inr (let e = ap (λ (ss : List System). all_lacking keys ss) still in omega (arith, less, e))
-  fewer-still start before after (inr less) (inr lesser) = inr (omega (arith, less, lesser))
+  fewer-still start before after h1 h2 = grind arith
 
   module _ (start : Run) (events : List RunEvent) (k : ℕ) (so_far : AllCame start (run_of files events) k) where
     abbrev then_ : Run
@@ -316,8 +309,4 @@ module _ (files : List LinkFile) (known : LawsOfRuns files) (tag : List ℕ) (al
 
   -- there are no more rounds than systems, and one
   pub rounds-settle : (events : List RunEvent) (n : ℕ) → length files < n → Progress events n → is_settled (run_of files events) ≡ true
-  rounds-settle events n many so_far =
-      elim so_far.out [
-        | inl settled ↦ settled
-        | inr few ↦ absurd (omega (arith, few, many))
-      ]
+  rounds-settle events n many so_far = grind arith

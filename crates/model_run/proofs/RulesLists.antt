@@ -1,5 +1,5 @@
 -- Members of lists that were made of others, and lists in which none stands twice.
-use Rattle.std.proofs.Common.{◌≡◌, inl, inr, refl, ap, List, [], ◌∷◌, ◌++◌, map}
+use Rattle.std.proofs.Common.{◌≡◌, inl, inr, refl, ap, List, [], ◌∷◌, ◌++◌, map, arith}
 use Rattle.model_graph.specs.Walk.{Among, Different}
 use Rattle.model_graph.proofs.Members.{Among-append_cases}
 
@@ -9,11 +9,7 @@ Among-map_to g x (y ∷ xs) h = elim h [ inl e ↦ inl (ap g e) | inr t ↦ inr 
 
 pub Among-map_from : {X Y : Type 0} (g : X → Y) (y : Y) (xs : List X) → Among y (map g xs) → (x : X) × Among x xs × (y ≡ g x)
 Among-map_from g y [] h = absurd h
-Among-map_from g y (x ∷ xs) h =
-    elim h [
-      | inl e ↦ (x, inl refl, e)
-      | inr t ↦ (let (z, i, e) = Among-map_from g y xs t in (z, inr i, e))
-    ]
+Among-map_from g y (x ∷ xs) h = grind (arith, Among-map_from g y xs)
 
 -- two lists with no member in common
 pub Different-append : {X : Type 0} (xs ys : List X) → Different xs → Different ys → ((x : X) → Among x xs → ¬ Among x ys) → Different (xs ++ ys)

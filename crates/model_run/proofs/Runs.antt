@@ -1,5 +1,5 @@
 -- Every run by the rules is orderly.
-use Rattle.std.proofs.Common.{◌≡◌, ◌≢◌, inl, inr, refl, sym, subst, ap, ◌∙◌, IsTrue, List, [], ◌∷◌, map, None}
+use Rattle.std.proofs.Common.{◌≡◌, ◌≢◌, inl, inr, refl, sym, subst, ap, ◌∙◌, IsTrue, List, [], ◌∷◌, map, None, arith}
 use Rattle.std.specs.Prelude.{Bool, true, false}
 use Rattle.model_graph.specs.Walk.{Among, Reaches}
 use Rattle.model_graph.specs.Beyond.{IsWay}
@@ -50,29 +50,13 @@ module _ {A N K C : Type 0} (net : Net A N) (Same : C → C → Type 0) where
 
 -- before anything happened nothing was against them
 pub nothing-by_rules : {A N : Type 0} (K C : Type 0) (net : Net A N) (Same : C → C → Type 0) → ByRules {K = K} net Same []
-nothing-by_rules K C net Same = (tt, each)
-  where
-    each : (rule : Rule) → Kept {K = K} net Same [] rule
-    each filing = tt
-    each keeping = tt
-    each sending = tt
-    each telling = tt
-    each keys = tt
+nothing-by_rules K C net Same = grind arith
 
 module _ {A N K C : Type 0} (can : CanTell A) (can_keys : CanTell K) (net : Net A N) (tidy : Tidy net)
     (Same : C → C → Type 0) (compares : Compares Same) where
   -- before anything happened
   nothing-yet : Invariant {K = K} net Same (view_of [])
-  nothing-yet = record {
-    once = tt;
-    good = λ m h. absurd h;
-    one_posting = λ p q h i own_p own_q same. absurd h;
-    was_filed = λ m h. h;
-    sent = λ c h. absurd h;
-    sent_once = tt;
-    passed_on = λ m h p i own same d link beyond. absurd h;
-    known = λ c h. absurd h;
-  }
+  nothing-yet = grind arith
 
   true_false : (let no_bit : Bool = false in no_bit ≡ true) → ⊥
   true_false e = cc

@@ -28,16 +28,7 @@ use Rattle.model_run.proofs.Targets.{some_same, none_some}
 -- no item that passes stands before the first
 first_is_least : {X : Type 0} (p : X → Bool) (xs : List X) (i : ℕ) (x : X) → nth i xs ≡ Some x → p x ≡ true → position_or_len p xs ≤ i
 first_is_least {X} p [] i x at t = absurd (none_some at)
-first_is_least {X} p (y ∷ xs) i x at t =
-    elim (yes_or_no (p y)) [
-      | inl here ↦ (let zero_is : position_or_len p (y ∷ xs) ≡ 0 = cond-false (not (p y)) (1 + position_or_len p xs) 0 (ap not here) in omega (arith, zero_is))
-      | inr f ↦ later i at (cond-true (not (p y)) (1 + position_or_len p xs) 0 (ap not f)) (λ j at_j. first_is_least p xs j x at_j t) f
-    ]
-  where
-    later : (i : ℕ) → nth i (y ∷ xs) ≡ Some x → position_or_len p (y ∷ xs) ≡ 1 + position_or_len p xs →
-        ((j : ℕ) → nth j xs ≡ Some x → position_or_len p xs ≤ j) → p y ≡ false → position_or_len p (y ∷ xs) ≤ i
-    later zero at more rest f = absurd (not_both (p x) t (ap p (sym (some_same at)) ∙ f))
-    later (suc j) at more rest f = (let least = rest j at in omega (arith, more, least))
+first_is_least {X} p (y ∷ xs) i x at t = grind (arith, yes_or_no, cond-false, cond-true, not_both, some_same, first_is_least p xs)
 
 module _ (files : List LinkFile) (i j : ℕ) (before : i < j) (first second : LinkFile) (first_at : nth i files ≡ Some first) (second_at : nth j files ≡ Some second)
     (same : first.system ≡ second.system) where
@@ -72,48 +63,22 @@ module _ (files : List LinkFile) (i j : ℕ) (before : i < j) (first second : Li
     now = run_of files events
 
     scanned-nothing : (k : ℕ) (stamp : Stamp) (o : Option System) → HasNothing (scanning now k stamp o)
-    scanned-nothing k stamp None = empty
-    scanned-nothing k stamp (Some s) = scans (is_stamp stamp)
-      where
-        scans : (b : Bool) → HasNothing (if b then record {
-          systems = change k scanning_at now.systems;
-          packets = now.packets ++ scanned s.file s.base s.cursor stamp;
-          delivered = now.delivered;
-        } else now)
-        scans false = empty
-        scans true = λ z at. elim (nth-change k j scanning_at z now.systems at) [
-          | inl other ↦ empty z other.1
-          | inr here ↦ (let (x, is, e) = here.1 in ap (λ (t : System). t.base) e ∙ empty x is)
-        ]
+    scanned-nothing k stamp o = grind (arith, nth-change)
 
     comes-nothing : (k : ℕ) (q : Packet) (o : Option System) → HasNothing (coming now k q o)
-    comes-nothing k q None z at = empty z at
-    comes-nothing k q (Some s) z at =
-        elim (nth-change (receiver now q) j (taking q (length q.messages)) z now.systems at) [
-          | inl other ↦ empty z other.1
-          | inr here ↦ (let (x, is, _) = here.1 in absurd (not_receiver events q x is here.0))
-        ]
+    comes-nothing k q o = grind (arith, nth-change, not_receiver)
 
     delivered-nothing : (k : ℕ) (o : Option Packet) → HasNothing (delivery now k o)
-    delivered-nothing k None = empty
-    delivered-nothing k (Some q) = comes-nothing k q (nth (receiver now q) now.systems)
+    delivered-nothing k o = grind (arith, comes-nothing)
 
   moved-nothing : (events : List RunEvent) (event : RunEvent) → IsMove event → HasNothing (run_of files events) → HasNothing (after_event (run_of files events) event)
-  moved-nothing events (Posting k tag draft serial stamp) move empty = absurd move
-  moved-nothing events (PartDelivery k messages) move empty = absurd move
-  moved-nothing events (Purging k) move empty = absurd move
-  moved-nothing events (Scanning k stamp) move empty = scanned-nothing events empty k stamp (nth k (run_of files events).systems)
-  moved-nothing events (Delivery k) move empty = delivered-nothing events empty k (nth k (run_of files events).packets)
+  moved-nothing events event h1 h2 = grind (arith, scanned-nothing, delivered-nothing)
 
   -- where another system posts, and all settles, the second file's lacks the posting
   module _ (known : LawsOfRuns files) (tag : List ℕ) (all_known : AllAreCarriers files tag) (area : has_area second tag ≡ true)
       (k : ℕ) (other : k ≢ j) (third : LinkFile) (third_at : nth k files ≡ Some third) (third_area : has_area third tag ≡ true) where
     nothing_first : HasNothing (run_of files (trial_posting k tag ∷ []))
-    nothing_first s at =
-        elim (nth-change k j (posting_at tag trial_draft 1 trial_moment) s (map fresh files) at) [
-          | inr here ↦ absurd (other here.0)
-          | inl there ↦ (let (f, _, e) = nth-map_from fresh j s files there.1 in ap (λ (t : System). t.base) e)
-        ]
+    nothing_first s at = grind (arith, nth-change, nth-map_from)
 
     pub second-harmed : IsHarmed files tag
     second-harmed =

@@ -173,11 +173,7 @@ module _ (laws : Laws) where
   event-sent s (TossHere sender messages) ok sofar =
       let next = tossing_at sender messages s.system in
       quiet-sent s next (grown-done s.system next (tossing-grows sender messages s.system) (within s.system ok)) sofar
-  event-sent s (ScanHere stamp) ok sofar = scans (is_stamp stamp)
-    where
-      scans : (b : Bool) → IsSentSoFar (if b then with_scanned stamp s else s)
-      scans true = scan-sent s ok sofar stamp
-      scans false = sofar
+  event-sent s (ScanHere stamp) ok sofar = grind (arith, scan-sent)
   event-sent s PurgeHere ok sofar = record {
     counts_are = sofar.counts_are;
     packets = λ p h. own-later s.system (after_lone s PurgeHere).system p refl (λ m i. i) (sofar.packets p h);
@@ -185,9 +181,7 @@ module _ (laws : Laws) where
 
   events-sent : (events : List LoneEvent) (s : LoneSystem) → AreOfPackets events → SystemOk s.system → IsSentSoFar s → IsSentSoFar (after_all_lone s events)
   events-sent [] s plain ok sofar = sofar
-  events-sent (event ∷ later) s plain ok sofar =
-      events-sent later (after_lone s event) (λ e i. plain e (inr i))
-      (event-ok laws s event (plain event (inl refl)) ok) (event-sent s event ok sofar)
+  events-sent (event ∷ later) s plain ok sofar = grind (arith, event-ok, event-sent, events-sent later (after_lone s event))
 
   pub run-sent : (file : LinkFile) → IsFile file → (events : List LoneEvent) → AreOfPackets events → IsSentSoFar (lone_run file events)
   run-sent file fits events plain =

@@ -25,38 +25,16 @@ module _ (n : ℕ) where
   linked a b = (polygon n).linked a b
 
   pub linked-parts : (a b : ℕ) → IsTrue (linked a b) → (a < n) × (b < n) × (a ≢ b)
-  linked-parts a b h =
-      let first = and_parts (nat_lt a n) (nat_lt b n && not (a == b)) h in
-      let second = and_parts (nat_lt b n) (not (a == b)) first.1 in (
-        ltb-true a n first.0,
-        ltb-true b n second.0,
-        elim (eqb_tells a b) [
-          | inl same ↦ absurd (false_true (sym (ap not same.0) ∙ second.1))
-          | inr other ↦ other.1
-        ],
-      )
+  linked-parts a b h = grind (arith, and_parts, ltb-true, eqb_tells, false_true)
 
   linked-from : (a b : ℕ) → a < n → b < n → a ≢ b → IsTrue (linked a b)
-  linked-from a b below_a below_b other =
-      and_from (nat_lt a n) (nat_lt b n && not (a == b)) (lt-ltb a n below_a)
-      (and_from (nat_lt b n) (not (a == b)) (lt-ltb b n below_b) (elim (eqb_tells a b) [
-        | inl same ↦ absurd (other same.1)
-        | inr apart ↦ ap not apart.0
-      ]))
+  linked-from a b below_a below_b other = grind (arith, and_from, lt-ltb, eqb_tells)
 
   simple : Simple linked
-  simple = record {
-    both_ways = λ a b h. let p = linked-parts a b h in linked-from b a p.1 p.0 (λ e. p.2 (sym e));
-    no_self = λ a h. (linked-parts a a h).2 refl;
-  }
+  simple = grind (arith, linked-parts, linked-from)
 
   in-cycle : (first : ℕ) (rest : List ℕ) → Cycle linked first rest → (x : ℕ) → Among x (first ∷ rest) → x < n
-  in-cycle first rest cycle x h =
-      let (last, walk, back) = cycle.closed in
-      elim h [
-        | inl e ↦ (let below = (linked-parts last first back).1 in omega (arith, e, below))
-        | inr t ↦ (let (y, link) = walk_links linked simple first rest last walk x t in (linked-parts x y link).0)
-      ]
+  in-cycle first rest cycle x h = grind (arith, linked-parts, walk_links, simple)
 
   pub polygon-tidy : Tidy (polygon n)
   polygon-tidy = record {

@@ -53,9 +53,7 @@ posted-parts file tag draft serial stamp = (refl, refl)
 -- a change of what has the index is one by what becomes of it
 change-at : {X : Type 0} (i : ℕ) (f g : X → X) (x : X) (xs : List X) → nth i xs ≡ Some x → f x ≡ g x → change i f xs ≡ change i g xs
 change-at i f g x [] at e = refl
-change-at zero f g x (y ∷ xs) at e =
-    let same : y ≡ x = some_same at in
-    ap (λ (z : _). z ∷ xs) (ap f same ∙ (e ∙ ap g (sym same)))
+change-at zero f g x (y ∷ xs) at e = grind (arith, some_same)
 change-at (suc i) f g x (y ∷ xs) at e = ap (λ (ys : List _). y ∷ ys) (change-at i f g x xs at e)
 
 module _ (laws : Laws) (files : List LinkFile) (tag : List ℕ) (tidy : Tidy files tag) (past : List REvent) where

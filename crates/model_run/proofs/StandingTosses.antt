@@ -1,5 +1,5 @@
 -- Messages of a packet come by the rules, whether they are filed or known.
-use Rattle.std.proofs.Common.{◌≡◌, ◌≢◌, ◌⊎◌, inl, inr, refl, sym, subst, ap, ◌∙◌, ℕ, zero, suc, IsTrue, List, [], ◌∷◌, ◌++◌, Option, Some, None}
+use Rattle.std.proofs.Common.{◌≡◌, ◌≢◌, ◌⊎◌, inl, inr, refl, sym, subst, ap, ◌∙◌, ℕ, zero, suc, IsTrue, List, [], ◌∷◌, ◌++◌, Option, Some, None, arith}
 use Rattle.std.specs.Prelude.{true, bytes_eq, filter, is_none, ◌==◌}
 use Rattle.std.proofs.lemmas.Bool.{cond-false, ne_eqb}
 use Rattle.echo_addr.specs.declared.address.Address.{Address}
@@ -53,9 +53,7 @@ received-sender sender q = refl
 
 -- the sender of a packet of a system in range
 pub origin-is : (file : LinkFile) (p : Packet) → PacketOk p → sender_of file p.header ≡ origin p
-origin-is file p ok =
-    let with_zone : ℕ → Address = λ z. record { zone = z; net = p.header.orig_net; node = p.header.orig_node } in
-    ap with_zone (cond-false (p.header.orig_zone == 0) file.system.zone p.header.orig_zone (ne_eqb p.header.orig_zone 0 ok.zone))
+origin-is file p ok = grind (arith, cond-false, ne_eqb)
 
 module _ (laws : Laws) (files : List LinkFile) (tag : List ℕ) (tidy : Tidy files tag) (past : List REvent) (p : Packet) (ok_p : PacketOk p) where
   abbrev came_of : {run : Run} → Standing files tag past run → List RCopy
@@ -89,8 +87,7 @@ module _ (laws : Laws) (files : List LinkFile) (tag : List ℕ) (tidy : Tidy fil
       ok_after = changing-ok laws run i one (λ t ok. tossing_one-ok laws (origin p) q t ok (λ none. (ok_p.messages q in_p).1)) st.ok
 
       copy-in : Among m (copies p)
-      copy-in = Among-map_to (received (origin p)) q (filter (λ packed. is_none (text_refusal packed.text)) p.messages)
-          (Among-filter_to (λ packed. is_none (text_refusal packed.text)) q p.messages in_p (ap (λ (o : Option _). is_none o) (ok_p.messages q in_p).0))
+      copy-in = grind (arith, Among-map_to, Among-filter_to)
 
       abbrev c : RCopy
       c = sent_as p m

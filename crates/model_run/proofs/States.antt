@@ -1,5 +1,5 @@
 -- What a system keeps, its history aside.
-use Rattle.std.proofs.Common.{◌≡◌, List, [], ◌∷◌, ◌++◌, refl, sym, ◌∙◌, Option, Some, None}
+use Rattle.std.proofs.Common.{◌≡◌, List, [], ◌∷◌, ◌++◌, refl, sym, ◌∙◌, Option, Some, None, arith}
 use Rattle.std.specs.Prelude.{option_to_list}
 use Rattle.std.proofs.lemmas.List.{append-nil}
 use Rattle.echo_addr.specs.declared.address.Address.{Address}
@@ -12,12 +12,4 @@ use Rattle.model_run.specs.Run.{System, filing, state_of, tossing_at}
 pub tossing-state : (sender : Address) (ms : List Message) (s : System)
     → state_of (tossing_at sender ms s) ≡ record { file = s.file; base = tossed s.file s.base sender ms; cursor = s.cursor }
 tossing-state sender [] s = refl
-tossing-state sender (m ∷ ms) s = by (tossing s.file s.base sender m) (tossing-state sender ms)
-  where
-    by : (o : Option Filed)
-        → ((z : System) → state_of (tossing_at sender ms z) ≡ record { file = z.file; base = tossed z.file z.base sender ms; cursor = z.cursor })
-        → state_of (tossing_at sender ms (filing s o)) ≡ record { file = s.file; base = tossed s.file (s.base ++ option_to_list o) sender ms; cursor = s.cursor }
-    by None later =
-        later s
-        ∙ (let e = sym (append-nil s.base) in λ i. record { file = s.file; base = tossed s.file (e i) sender ms; cursor = s.cursor })
-    by (Some x) later = later (filing s (Some x))
+tossing-state sender (m ∷ ms) s = grind (arith, append-nil, tossing-state sender ms)

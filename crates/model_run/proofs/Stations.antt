@@ -57,10 +57,7 @@ posting-done s o fits = (filing-done s o fits).0
 
 pub tossing-done : (sender : Address) (ms : List Message) (s : System) → Within s → SameDone s (tossing_at sender ms s)
 tossing-done sender [] s within = itself s
-tossing-done sender (q ∷ ms) s within =
-    let next = filing s (tossing s.file s.base sender q) in
-    let (same, fits) = filing-done s (tossing s.file s.base sender q) within in
-    joined s next (tossing_at sender ms next) same (tossing-done sender ms next fits)
+tossing-done sender (q ∷ ms) s within = grind (arith, within, filing-done, joined, tossing-done sender ms)
 
 pub purging-done : (s : System) → SameDone s (purging_at s)
 purging-done s = record { file = refl; done = refl }

@@ -14,27 +14,11 @@ use Rattle.echo_links.specs.Links.{Area, IsArea, IsFile, LinkFile, area_of, has_
 use Rattle.model_run.proofs.Lists.{and-parts, not_both, yes_or_no}
 
 upper-byte : (b : ℕ) → is_tag_byte b ≡ true → to_ascii_uppercase b ≡ b
-upper-byte b h =
-    let not_small = (and-parts (is_in_range 33 126 b) (not (is_in_range 97 122 b)) h).1 in
-    elim (yes_or_no (nat_lt b 97)) [
-      | inl t ↦ cond-true (nat_lt b 97) b (cond (nat_lt b 123) (b - 32) b) t
-      | inr f ↦ cond-false (nat_lt b 97) b (cond (nat_lt b 123) (b - 32) b) f ∙ cond-false (nat_lt b 123) (b - 32) b (above f (negated (is_in_range 97 122 b) not_small))
-    ]
-  where
-    negated : (c : Bool) → not c ≡ true → c ≡ false
-    negated true e = absurd (not_both false e refl)
-    negated false e = refl
-
-    above : nat_lt b 97 ≡ false → is_in_range 97 122 b ≡ false → nat_lt b 123 ≡ false
-    above f g = grind (arith, nat_tests)
+upper-byte b h = grind (arith, and-parts, yes_or_no, nat_lt, cond-true, cond-false, not_both, nat_tests)
 
 upper-bytes : (tag : List ℕ) → list_all is_tag_byte tag ≡ true → upper tag ≡ tag
 upper-bytes [] h = refl
-upper-bytes (b ∷ tag) h =
-    let both = and-parts (is_tag_byte b) (list_all is_tag_byte tag) h in
-    let first = upper-byte b both.0 in
-    let later = upper-bytes tag both.1 in
-    cc
+upper-bytes (b ∷ tag) h = grind (arith, and-parts, upper-byte, upper-bytes tag)
 
 found : (areas : List Area) (tag : List ℕ) → AllByRecursion IsArea areas → is_some (find (λ (area : Area). bytes_eq area.tag tag) areas) ≡ true → is_tag tag ≡ true
 found [] tag all h = absurd (not_both false h refl)
@@ -46,15 +30,9 @@ found (area ∷ areas) tag all h =
     ]
 
 pub upper-same : (file : LinkFile) (tag : List ℕ) → IsFile file → has_area file tag ≡ true → upper tag ≡ tag
-upper-same file tag fits h =
-    let is = found file.areas tag fits.each_area h in
-    upper-bytes tag (and-parts (nat_lt 0 (length tag) && nat_le (length tag) 60) (list_all is_tag_byte tag) is).1
+upper-same file tag fits h = grind (arith, found, upper-bytes, and-parts, nat_lt)
 
 -- a link is a link of an area that is there
 pub link-area : (file : LinkFile) (tag : List ℕ) (a : Address) → Among a (links_of file tag) → has_area file tag ≡ true
 unfolding links_of
-link-area file tag a h = there (area_of file tag) h
-  where
-    there : (o : Option Area) → Among a (unwrap_or (option_map (λ (area : Area). area.links) o) []) → is_some o ≡ true
-    there None h = absurd h
-    there (Some area) h = refl
+link-area file tag a h = grind arith

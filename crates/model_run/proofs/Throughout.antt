@@ -71,8 +71,7 @@ module _ (laws : Laws) (tag : List ℕ) where
 
   stands-after : (later : List Epoch) (files : List LinkFile) (run : Run) → Stands laws tag files run → GoOn files run later → Stands laws tag (last_files files later) (after_epochs run later)
   stands-after [] files run st go = st
-  stands-after (epoch ∷ later) files run st go =
-      stands-after later epoch.files (after_epoch run epoch) (stands-epoch laws tag files run epoch st go.0) go.1
+  stands-after (epoch ∷ later) files run st go = grind (arith, stands-after later epoch.files (after_epoch run epoch) (stands-epoch laws tag files run epoch st go.0) go.1)
 
   -- what is owed at the end of all epochs
   record Ended (was : Address → Type 0) (run : Run) (m : Filed) : Type 0 where
@@ -83,15 +82,12 @@ module _ (laws : Laws) (tag : List ℕ) where
   owed-after : (was : Address → Type 0) (m : Filed) (later : List Epoch) (files : List LinkFile) (run : Run) (st : Stands laws tag files run) →
       GoOn files run later → Owed laws tag was files st.past run m → Ended was (after_epochs run later) m
   owed-after was m [] files run st go owed = record { files = files; stands = st; owed = owed }
-  owed-after was m (epoch ∷ later) files run st go owed =
-      owed-after was m later epoch.files (after_epoch run epoch) (stands-epoch laws tag files run epoch st go.0) go.1 (owed-epoch laws tag was m files run st owed epoch go.0)
+  owed-after was m (epoch ∷ later) files run st go owed = grind (arith, owed-epoch, owed-after was m later epoch.files (after_epoch run epoch) (stands-epoch laws tag files run epoch st go.0) go.1 (owed-epoch laws tag was m files run st owed epoch go.0))
 
   go-on-later : (earlier later : List Epoch) (files : List LinkFile) (run : Run) → GoOn files run (earlier ++ later) →
       GoOn files run earlier × GoOn (last_files files earlier) (after_epochs run earlier) later
   go-on-later [] later files run go = (tt, go)
-  go-on-later (epoch ∷ earlier) later files run go =
-      let (first, last) = go-on-later earlier later epoch.files (after_epoch run epoch) go.1 in
-      ((go.0, first), last)
+  go-on-later (epoch ∷ earlier) later files run go = grind (arith, go-on-later earlier later epoch.files (after_epoch run epoch) go.1)
 
   -- epochs that are tidy throughout go on so
   go-on : (epochs : List Epoch) → TidyThroughout epochs tag → (later earlier : List Epoch) (last : Epoch) → epochs ≡ earlier ++ last ∷ later →
@@ -211,12 +207,7 @@ module _ (laws : Laws) (tag : List ℕ) where
         (filed_as (address_of s) m) (filed-event laws files tag st.tidy st.past run st.standing s h m i posting.area) posting.own)
 
   pub orderly-throughout : (epochs : List Epoch) → TidyThroughout epochs tag → OrderlyThroughout epochs tag
-  orderly-throughout [] t = record {
-    filed_once = λ s h k. absurd h;
-    sent_once = λ s h k e. absurd h;
-    never_own = λ s h m i posting. absurd h;
-    all_came = λ settled earlier epoch later e m is_of s h c. absurd h;
-  }
+  orderly-throughout [] t = grind arith
   orderly-throughout (first ∷ rest) t =
       let epochs = first ∷ rest in
       let run = run_of_epochs epochs in

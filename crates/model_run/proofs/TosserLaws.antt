@@ -68,15 +68,11 @@ ascending-differ {X} before order (x ∷ xs) up = (later xs up.0, ascending-diff
 
 addresses-only : (a : Address) (all : List Address) → Among a (address_set all) → Among a all
 unfolding address_set
-addresses-only a all h =
-    let there = contained_in a (set_of address_before all) (Contains-from_Among a (set_of address_before all) h) in
-    Among-from_Contains a all (in_contained a all (set_only address_before a all there))
+addresses-only a all h = grind (arith, contained_in, Contains-from_Among, Among-from_Contains, in_contained, set_only)
 
 addresses-all : (a : Address) (all : List Address) → Among a all → Among a (address_set all)
 unfolding address_set
-addresses-all a all h =
-    let there = set_keeps address_before address_order a all (contained_in a all (Contains-from_Among a all h)) in
-    Among-from_Contains a (set_of address_before all) (in_contained a (set_of address_before all) there)
+addresses-all a all h = grind (arith, set_keeps, address_order, contained_in, Contains-from_Among, Among-from_Contains, in_contained)
 
 addresses-once : (all : List Address) → Different (address_set all)
 unfolding address_set

@@ -12,13 +12,7 @@ use Rattle.model_run.proofs.Bases.{Kept-back, Kept-count, SystemOk, count-is}
 
 -- two messages of one content have the same content, part by part
 pub same-parts : (m o : Filed) → content_of m ≡ content_of o → SameContent m o
-same-parts m o e = record {
-  date = ap (λ (c : Content). c.date) e;
-  to_name = ap (λ (c : Content). c.to_name) e;
-  from_name = ap (λ (c : Content). c.from_name) e;
-  subject = ap (λ (c : Content). c.subject) e;
-  kept = ap (λ (c : Content). c.kept) e;
-}
+same-parts m o e = grind arith
 
 module _ (laws : Laws) where
   -- what a system filed with one key is one message
@@ -29,12 +23,4 @@ module _ (laws : Laws) where
 
   pub filed-unchanged : (s : System) → SystemOk s → (o : Filed) → count (key_of o) s.history ≡ 1 →
       ((m : Filed) → Among m s.history → key_of m ≡ key_of o → SameContent m o) → FiledUnchanged s o
-  filed-unchanged s ok o filed same = record {
-    once = Kept-count (key_of o) s.cursor s.base s.history ok.kept ∙ filed;
-    filed_once = filed;
-    kept = λ m n i j e e'.
-        let (h, at_h, kept) = Kept-back s.cursor s.base s.history ok.kept m i in
-        let P : Filed → Type 0 = λ x. (m ≡ x) ⊎ (m ≡ stub_of x) in
-        subst P (one-message s ok h n at_h j (sym kept.key ∙ (e ∙ sym e'))) kept.form;
-    unchanged = same;
-  }
+  filed-unchanged s ok o filed same = grind (arith, Kept-count, Kept-back, one-message)

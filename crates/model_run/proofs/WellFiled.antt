@@ -47,24 +47,17 @@ module _ (laws : Laws) where
   pub tosses-ok : (sender : Address) (ms : List Message) (s : System) → SystemOk s → ((q : Message) → Among q ms → HasNoZero q.text) →
       SystemOk (tossing_at sender ms s)
   tosses-ok sender [] s ok plain = ok
-  tosses-ok sender (q ∷ ms) s ok plain =
-      let o = tossing s.file s.base sender q in
-      tosses-ok sender ms (filing s o) (tossed-ok s ok sender q (plain q (inl refl)) o refl) (λ r i. plain r (inr i))
+  tosses-ok sender (q ∷ ms) s ok plain = grind (arith, tossed-ok, tosses-ok sender ms)
 
   pub event-ok : (s : LoneSystem) (event : LoneEvent) → IsOfPackets event → SystemOk s.system → SystemOk (after_lone s event).system
   event-ok s (PostHere tag draft serial stamp) plain ok = posting-ok laws tag draft serial stamp s.system ok
   event-ok s (TossHere sender messages) plain ok = tosses-ok sender messages s.system ok plain
-  event-ok s (ScanHere stamp) plain ok = scans (is_stamp stamp)
-    where
-      scans : (b : Bool) → SystemOk (if b then with_scanned stamp s else s).system
-      scans true = scanning-ok laws s.system ok
-      scans false = ok
+  event-ok s (ScanHere stamp) plain ok = grind (arith, scanning-ok)
   event-ok s PurgeHere plain ok = purging-ok laws s.system ok
 
   events-ok : (events : List LoneEvent) (s : LoneSystem) → AreOfPackets events → SystemOk s.system → SystemOk (after_all_lone s events).system
   events-ok [] s plain ok = ok
-  events-ok (event ∷ later) s plain ok =
-      events-ok later (after_lone s event) (λ e i. plain e (inr i)) (event-ok s event (plain event (inl refl)) ok)
+  events-ok (event ∷ later) s plain ok = grind (arith, event-ok, events-ok later (after_lone s event))
 
   pub first-ok : (file : LinkFile) → IsFile file → SystemOk (lone_at_first file).system
   first-ok file fits = record { file = fits; kept = refl; valid = λ m j. absurd j; once = λ key. omega arith }

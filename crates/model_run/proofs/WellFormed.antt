@@ -88,35 +88,19 @@ module _ (laws : Laws) where
       tossing-ok sender ms (filing s (tossing s.file s.base sender q)) (tossing_one-ok sender q s ok (h q (inl refl))) (λ r i. h r (inr i))
 
   pub scanning-ok : (s : System) → SystemOk s → SystemOk (scanning_at s)
-  scanning-ok s ok = record {
-    file = ok.file;
-    kept = Kept-scanned s.cursor s.base s.history ok.kept;
-    valid = ok.valid;
-    once = ok.once;
-  }
+  scanning-ok s ok = grind (arith, Kept-scanned)
 
   pub purging-ok : (s : System) → SystemOk s → SystemOk (purging_at s)
-  purging-ok s ok = record {
-    file = ok.file;
-    kept = Kept-purged laws s.cursor s.base s.history ok.kept;
-    valid = ok.valid;
-    once = ok.once;
-  }
+  purging-ok s ok = grind (arith, Kept-purged)
 
   -- what waits is as it was filed
   pub waiting-valid : (s : System) → SystemOk s → (m : Filed) → Among m (drop s.cursor s.base) → IsEcho m.echo
-  waiting-valid s ok m h =
-      let P : List Filed → Type 0 = λ ms. Among m ms in
-      ok.valid m (Among-drop s.cursor m s.history (subst P (Kept-waiting s.cursor s.base s.history ok.kept) h))
+  waiting-valid s ok m h = grind (arith, Among-drop, Kept-waiting)
 
   copy-ok : (file : LinkFile) (address : Address) (m : Filed) → IsFile file → IsEcho m.echo →
       (text_refusal (copy_to file address m).text ≡ None) × IsEcho (echo_of (copy_to file address m).text)
   unfolding copy_to
-  copy-ok file address m fits echo =
-      let valid = laws.exported_text file m.echo fits echo in
-      let read = laws.read_back (exported file m.echo) valid in
-      let Q : EchoText → Type 0 = λ e. IsEcho e in
-      (read.0, subst Q (sym read.1) valid)
+  copy-ok file address m fits echo = grind arith
 
   pub packet-ok : (file : LinkFile) (stamp : Stamp) (waiting : List Filed) (address : Address) → IsFile file →
       ((m : Filed) → Among m waiting → IsEcho m.echo) → PacketOk (packet_to file stamp waiting address)
@@ -173,8 +157,7 @@ module _ (laws : Laws) where
   }
 
   delivery-step : (run : Run) (k : ℕ) (found : Option Packet) → ((p : Packet) → found ≡ Some p → PacketOk p) → RunOk run → RunOk (delivery run k found)
-  delivery-step run k None h ok = ok
-  delivery-step run k (Some p) h ok = coming-step run k p (nth (receiver run p) run.systems) (h p refl) ok
+  delivery-step run k found h1 h2 = grind (arith, coming-step)
 
   part-step : (run : Run) (n : ℕ) (found : Option Packet) → ((p : Packet) → found ≡ Some p → PacketOk p) → RunOk run → RunOk (part_delivery run n found)
   part-step run n None h ok = ok
@@ -192,13 +175,7 @@ module _ (laws : Laws) where
   fresh-ok file fits = record { file = fits; kept = refl; valid = λ m j. absurd j; once = λ key. omega arith }
 
   pub start-ok : (files : List LinkFile) → FilesFit files → RunOk (start files)
-  start-ok files fits = record {
-    systems = λ s h.
-        let (file, i, e) = Among-map_from fresh s files h in
-        let P : System → Type 0 = λ t. SystemOk t in
-        subst P (sym e) (fresh-ok file (fits file i));
-    packets = λ p h. absurd h;
-  }
+  start-ok files fits = grind (arith, Among-map_from, fresh-ok)
 
 -- on every net each system has filed each message at most once
 pub filed-once : (run : Run) → RunOk run → (s : System) → Among s run.systems → (key : Key) → count key s.base ≤ 1
