@@ -195,7 +195,7 @@ fn nothing_added(alloc: Global) -> Adding
     }
 }
 
-// Adds the message of this number, if there is one and it is wanted.
+// Adds the message with this number, if it exists and is selected.
 fn add_if_wanted(
     alloc: Global,
     adding: &mut Adding,

@@ -1,4 +1,4 @@
--- Carriers that go by their places in ascending order.
+-- Carriers by their indexes in ascending order.
 use Rattle.std.proofs.Common.{◌≡◌, ◌≢◌, ◌<◌, ◌≤◌, ◌&&◌, ◌↔◌, nat_lt, ℕ, Bool, true, false, IsTrue, List, [], ◌∷◌, length, Option, Some, None, refl, sym, subst, ap, ◌∙◌, arith, inl, inr}
 use Rattle.std.specs.Prelude.{Contains, is_some, option_map, unwrap_or}
 use Rattle.std.specs.List.{list_any, position_or_len}
@@ -117,7 +117,7 @@ module _ (files : List LinkFile) (tag : List ℕ) (all : List Address) (order : 
     pub polygons : Polygons joined → Polygons (lists files tag)
     polygons h = Polygons-renamed joined (lists files tag) name back renaming simple h
 
-    -- places and addresses have one order
+    -- indexes and addresses have one order
     pub keeps : KeepsOrder joined (λ i j. i < j) (λ a b. address_before a b ≡ true) name
     keeps i j k l link_i link_j lt = order.ascending i j lt (parts j l link_j).one
 

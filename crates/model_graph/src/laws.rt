@@ -46,8 +46,7 @@ pub fn further_out()
         (d ≢ y) × (¬ IsTrue (linked y d)) }
 {}
 
-/// A property of f spreads to all members that reach f, if each member takes it over from the next one on its
-/// way to f.
+/// A property of f spreads to all members that reach f. Each member takes it over from the next one on its way to f.
 pub fn along_ways()
     ensures { (linked : ℕ → ℕ → Bool) → Simple linked → Parted linked →
         (f : ℕ) (test : ℕ → Bool) → IsTrue (test f) →

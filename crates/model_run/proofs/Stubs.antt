@@ -1,4 +1,4 @@
--- The base is what was filed, as the last purge left it.
+-- The base is the history, as the last purge left it.
 use Rattle.std.proofs.Common.{◌≡◌, refl, sym, ap, ◌∙◌, ℕ, zero, suc, ◌+◌, ◌≤◌, arith, List, [], ◌∷◌, ◌++◌, length, drop, Option, Some, None}
 use Rattle.std.specs.Prelude.{Bool, true, false, if◌then◌else◌}
 use Rattle.echo_addr.specs.declared.address.Address.{Address}
@@ -38,21 +38,21 @@ purged-more zero ms m h = purged-none (ms ++ m ∷ []) ∙ ap (λ (ns : List Fil
 purged-more (suc n) [] m h = absurd (omega arith)
 purged-more (suc n) (x ∷ ms) m h = grind (arith, purged-cons, purged-more n ms m (omega arith))
 
--- a later purge takes what the one before it left
+-- a later purge covers the one before it
 purged-again : (n c : ℕ) (ms : List Filed) → n ≤ c → purged (purged ms n) c ≡ purged ms c
 purged-again zero c ms h = ap (λ (ns : List Filed). purged ns c) (purged-none ms)
 purged-again (suc n) zero ms h = absurd (omega arith)
 purged-again (suc n) (suc c) [] h = ap (λ (ns : List Filed). purged ns (suc c)) (purged-empty (suc n))
 purged-again (suc n) (suc c) (m ∷ ms) h = grind (arith, purged-cons, stub_of_stub, purged-again n c ms (omega arith))
 
--- from any place on that no purge came to, all is as it was filed
+-- all messages past the last purge are as they were filed
 purged-waiting : (n c : ℕ) (ms : List Filed) → n ≤ c → drop c (purged ms n) ≡ drop c ms
 purged-waiting zero c ms h = ap (λ (ns : List Filed). drop c ns) (purged-none ms)
 purged-waiting (suc n) zero ms h = absurd (omega arith)
 purged-waiting (suc n) (suc c) [] h = ap (λ (ns : List Filed). drop (suc c) ns) (purged-empty (suc n))
 purged-waiting (suc n) (suc c) (m ∷ ms) h = grind (arith, purged-cons, purged-waiting n c ms (omega arith))
 
--- of a system that was last purged when so many messages had been scanned
+-- the invariant of a system; `n` messages had been scanned before its last purge
 pub record IsLeft (s : System) (n : ℕ) : Type 0 where
   pub purged_before : n ≤ s.cursor
   pub within : s.cursor ≤ length s.history

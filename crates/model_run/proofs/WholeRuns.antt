@@ -1,4 +1,4 @@
--- What holds along whole runs: the link files stay, and all is well formed.
+-- Invariants of whole runs: the link files stay, and all is well formed.
 use Rattle.std.proofs.Common.{◌≡◌, refl, subst, ap, ◌∙◌, ℕ, List, [], ◌∷◌, ◌++◌, length, take, map, Option, Some, None, arith}
 use Rattle.std.specs.Prelude.{Bool, true, false, if◌then◌else◌}
 use Rattle.echo_addr.specs.declared.address.Address.{Address}
@@ -60,12 +60,12 @@ fresh-files (file ∷ files) = ap (λ (fs : List LinkFile). file ∷ fs) (fresh-
 pub fresh-empty : (files : List LinkFile) (s : System) → Among s (map fresh files) → (m : Filed) → ¬ Among m s.history
 fresh-empty files s h m i = grind (arith, Among-map_from)
 
--- what each event keeps holds after all of them
+-- a property that each event keeps holds after all of them
 pub along : (P : Run → Type 0) → ((run : Run) (event : RunEvent) → P run → P (after_event run event)) →
     (events : List RunEvent) → (run : Run) → P run → P (after_events run events)
 along P keeps [] run at = at
 along P keeps (event ∷ later) run at = along P keeps later (after_event run event) (keeps run event at)
 
--- on every net
+-- for every net
 pub run-ok : (laws : Laws) (files : List LinkFile) → FilesFit files → (events : List RunEvent) → RunOk (run_of files events)
 run-ok laws files fit events = along (λ run. RunOk run) (λ run event. event-ok laws run event) events (start files) (start-ok laws files fit)

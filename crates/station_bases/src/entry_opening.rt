@@ -287,7 +287,7 @@ fn second_head(bytes: &[u8]) -> Option<Head>
     }
 }
 
-/// The entries of a base file of version 2 that has no fault; none of another. Its reading is watched.
+/// The entries of a faultless base file of version 2; nothing for another file. Its reading is watched.
 pub(crate) fn open_entries<D: Disk, T: MessageProgress>(
     alloc: Global,
     disk: &mut D,

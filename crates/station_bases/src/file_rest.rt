@@ -17,7 +17,7 @@ use echo_filed::Key;
 use std::alloc::Global;
 use std::hash::BuildHasher;
 
-/// What is held of a base file, and its path, which a commit replaces. `own` is the name of the system in the staging
+/// The part of a base file in memory, and its path, which a commit replaces. `own` is the name of the system in the staging
 /// path.
 #[derive(Drop)]
 pub struct FileRest<'a, S: BuildHasher> {
