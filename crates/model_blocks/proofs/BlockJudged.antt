@@ -135,11 +135,7 @@ module _ (rows : List (List ℕ)) (graph : IsGraph rows) (block top rank : ℕ �
 
 -- the block of a link has the number of a member
 pub block_within : (members : ℕ) (block top : ℕ → ℕ) → HaveOneTop members block top → (b a k : ℕ) → b < members → a < members → IsBlockOfLink block top b a k → k < members
-block_within members block top one_top b a k lt_b lt_a of =
-    elim of [
-      | inl below ↦ omega (arith, (one_top a lt_a).0, below.1)
-      | inr above ↦ omega (arith, (one_top b lt_b).0, above.1)
-    ]
+block_within members block top one_top b a k lt_b lt_a of = grind arith
 
 -- the first pinch of a block is the finding in it
 pub first_is_found : (rows : List (List ℕ)) (graph : IsGraph rows) (block top rank : ℕ → ℕ) (are : AreBlocks (linked rows) (length rows) block top rank) (loops : List (Option BlockLoop)) →
@@ -188,17 +184,11 @@ passed row (suc k) = get_or row k 0 + 1
 
 module _ (rows : List (List ℕ)) (graph : IsGraph rows) (at : ℕ) (row : List ℕ) (is : row ≡ links_at rows at) where
   passed_low : (k : ℕ) → k < length row → passed row k ≤ get_or row k 0
-  passed_low zero lt = omega arith
-  passed_low (suc k) lt = omega (arith, row_rises rows at row graph is k (suc k) (omega arith) lt)
+  passed_low k h1 = grind (arith, row_rises)
 
   -- an item before index k is passed
   passed_high : (j k : ℕ) → j < k → k ≤ length row → get_or row j 0 < passed row k
-  passed_high j zero lt le = absurd (omega arith)
-  passed_high j (suc k) lt le =
-      elim (cases_eq j k) [
-        | inl same ↦ omega (arith, ap (λ (n : ℕ). get_or row n 0) same)
-        | inr differ ↦ omega (arith, row_rises rows at row graph is j k (omega arith) (omega arith))
-      ]
+  passed_high j k h1 h2 = grind (arith, cases_eq, get_or, row_rises)
 
   -- each link before the item at index k is passed
   link_passed : (k a : ℕ) → k < length row → IsTrue (linked rows at a) → a < get_or row k 0 → a < passed row k
@@ -222,16 +212,7 @@ module _ (rows : List (List ℕ)) (graph : IsGraph rows) (at : ℕ) (row : List 
 
     -- a link is passed, or the next
     next_or : (b a c : ℕ) → IsBefore b a at (one + 1) → FirstInBlock (linked rows) b a c → IsBefore b a at (passed row k) ⊎ ((b ≡ at) × (a ≡ one))
-    next_or b a c h first =
-        elim h [
-          | inl less ↦ inl (inl less)
-          | inr here ↦
-              elim (cases_eq a one) [
-                | inl same ↦ inr (here.0, same)
-                | inr differ ↦
-                    inl (inr (here.0, link_passed k a lt (subst (λ (n : ℕ). IsTrue (linked rows n a)) here.0 first.pinch.one) (omega (arith, here.1, differ))))
-              ]
-        ]
+    next_or b a c h first = grind (arith, cases_eq, link_passed)
 
     pub loops_passed : ((c : ℕ) → ¬ FirstInBlock (linked rows) at one c) → AreLoopsBefore (linked rows) at (passed row (suc k)) loops
     loops_passed none = record {
@@ -306,16 +287,7 @@ module _ (rows : List (List ℕ)) (graph : IsGraph rows) (at : ℕ) (row : List 
   }
 
 pub loops_begun : (links : ℕ → ℕ → Bool) → AreLoopsBefore links 0 0 []
-loops_begun links = record {
-  ascending = λ i j d lt inside. absurd (omega (arith, inside));
-  sound = λ l (k, lt, is). absurd (omega (arith, lt));
-  before = λ l (k, lt, is). absurd (omega (arith, lt));
-  all = λ b a c h first. elim h [ inl less ↦ absurd (omega arith) | inr h' ↦ absurd (omega (arith, h'.1)) ];
-}
+loops_begun links = grind arith
 
 pub loops_done : (rows : List (List ℕ)) (loops : List BlockLoop) (end : ℕ) → length rows ≤ end → AreLoopsBefore (linked rows) end 0 loops → AreBlockLoops (linked rows) loops
-loops_done rows loops end past old = record {
-  ascending = old.ascending;
-  sound = old.sound;
-  all = λ b a c first. old.all b a c (inl (omega (arith, linked_within rows b a first.pinch.one))) first;
-}
+loops_done rows loops end past old = grind (arith, linked_within)

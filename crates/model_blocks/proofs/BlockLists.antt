@@ -18,13 +18,7 @@ pub record Walked (block : ℕ → ℕ) (k members : ℕ) (found : List ℕ) (ne
   pub next_is : IsLastBefore block k bound next
 
 pub Walked-begun : (block : ℕ → ℕ) (k members : ℕ) (next : Option ℕ) → IsLastBefore block k members next → Walked block k members [] next
-Walked-begun block k members next last = record {
-  bound = members;
-  within = omega arith;
-  descending = λ i j lt inside. absurd (omega (arith, inside));
-  held = λ v. (λ (i, lt, is). absurd (omega (arith, lt)), λ (low, lt, own). absurd (omega arith));
-  next_is = last;
-}
+Walked-begun block k members next last = grind arith
 
 push_descending : (xs : List ℕ) (n : ℕ) → ((i j : ℕ) → i < j → j < length xs → get_or xs j 0 < get_or xs i 0) → ((a : ℕ) → Contains xs a → n < a) →
     (i j : ℕ) → i < j → j < length (xs ++ n ∷ []) → get_or (xs ++ n ∷ []) j 0 < get_or (xs ++ n ∷ []) i 0
@@ -122,10 +116,7 @@ module _ (members : List ℕ) (up : IsAscending members) (top i x : ℕ) (inside
   )
 
   earlier : (v : ℕ) → Contains (take i members) v → v < x
-  earlier v (k, lt, is) =
-      let low : k < i = omega (arith, length-take-le i members (omega arith)) in
-      let at : get_or members k 0 ≡ v = sym (get_or_default_zero members k v (omega arith)) ∙ (sym (get_or-take i members k v low) ∙ is) in
-      omega (arith, up k i low inside, at, here)
+  earlier v (k, lt, is) = grind (arith, length-take-le, get_or, get_or_default_zero, get_or-take)
 
   -- one more member after names below it
   one_more : (added : Bool) (names : List ℕ) → IsAscending names → ((v : ℕ) → Contains names v ↔ (Contains (take i members) v ⊎ (IsTrue added × (v ≡ top)))) →

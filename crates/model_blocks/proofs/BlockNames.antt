@@ -55,58 +55,31 @@ module _ (links : ℕ → ℕ → Bool) (simple : Simple links) (members : ℕ) 
     pub link : IsTrue (links (name i) (name j))
 
   parts : (i j : ℕ) → IsTrue (sub i j) → Parts i j
-  parts i j h =
-      let (sizes, link) = and_parts (nat_lt i (length names) && nat_lt j (length names)) (links (name i) (name j)) h in
-      let (one, other) = and_parts (nat_lt i (length names)) (nat_lt j (length names)) sizes in
-      record { one = ltb-true i (length names) one; other = ltb-true j (length names) other; link = link }
+  parts i j h = grind (arith, and_parts, nat_lt, ltb-true)
 
   pub placed_from : (i j : ℕ) → i < length names → j < length names → IsTrue (links (name i) (name j)) → IsTrue (sub i j)
-  placed_from i j one other link =
-      and_from (nat_lt i (length names) && nat_lt j (length names)) (links (name i) (name j))
-      (and_from (nat_lt i (length names)) (nat_lt j (length names)) (lt-ltb i (length names) one) (lt-ltb j (length names) other)) link
+  placed_from i j one other link = grind (arith, and_from, nat_lt, lt-ltb)
 
   pub placed_to : (i j : ℕ) → IsTrue (sub i j) → (i < length names) × (j < length names) × IsTrue (links (name i) (name j))
   placed_to i j h = (let p = parts i j h in (p.one, p.other, p.link))
 
   inner_parts : (v w : ℕ) → IsTrue (inner v w) → IsTrue (links v w) × (inside v ≡ true) × (inside w ≡ true)
-  inner_parts v w h =
-      let (link, both) = and_parts (links v w) ((inside v) && (inside w)) h in
-      let (in_v, in_w) = and_parts (inside v) (inside w) both in
-      (link, in_v, in_w)
+  inner_parts v w h = grind (arith, and_parts)
 
   inner_from : (v w : ℕ) → IsTrue (links v w) → inside v ≡ true → inside w ≡ true → IsTrue (inner v w)
   inner_from v w link in_v in_w = and_from (links v w) ((inside v) && (inside w)) link (and_from (inside v) (inside w) in_v in_w)
 
   ends : (v w : ℕ) → IsTrue (inner v w) → ((i : ℕ) × (i < length names) × (name i ≡ v)) × ((j : ℕ) × (j < length names) × (name j ≡ w))
-  ends v w h =
-      let (link, in_v, in_w) = inner_parts v w h in
-      (number v (within w v (simple.both_ways v w link)) in_v, number w (within v w link) in_w)
+  ends v w h = grind (arith, inner_parts, number)
 
   renaming : IsRenaming sub inner name back
-  renaming = record {
-    links = λ i j h. (let p = parts i j h in inner_from (name i) (name j) p.link (named i p.one).1 (named j p.other).1);
-    links_back = λ v w h.
-        let ((i, in_i, is_i), (j, in_j, is_j)) = ends v w h in
-        let link = (inner_parts v w h).0 in
-        let here = placed_from i j in_i in_j (subst (λ (x : ℕ). IsTrue (links (name i) x)) (sym is_j) (subst (λ (x : ℕ). IsTrue (links x w)) (sym is_i) link)) in
-        let back_i : i ≡ back v = sym (back_name i in_i) ∙ ap back is_i in
-        let back_j : j ≡ back w = sym (back_name j in_j) ∙ ap back is_j in
-        subst (λ (n : ℕ). IsTrue (sub (back v) n)) back_j (subst (λ (n : ℕ). IsTrue (sub n j)) back_i here);
-    back_name = λ i j h. back_name i (parts i j h).one;
-    name_back = λ v w h. (let ((i, in_i, is_i), other) = ends v w h in ap name (ap back (sym is_i) ∙ back_name i in_i) ∙ is_i);
-  }
+  renaming = grind (arith, parts, inner_from, named, ends, inner_parts, placed_from, back_name, name_back)
 
   simple_sub : Simple sub
-  simple_sub = record {
-    both_ways = λ i j h. (let p = parts i j h in placed_from j i p.other p.one (simple.both_ways (name i) (name j) p.link));
-    no_self = λ i h. simple.no_self (name i) (parts i i h).link;
-  }
+  simple_sub = grind (arith, parts, placed_from)
 
   simple_inner : Simple inner
-  simple_inner = record {
-    both_ways = λ v w h. (let (link, in_v, in_w) = inner_parts v w h in inner_from w v (simple.both_ways v w link) in_w in_v);
-    no_self = λ v h. simple.no_self v (inner_parts v v h).0;
-  }
+  simple_inner = grind (arith, inner_parts, inner_from)
 
   keeps : KeepsOrder sub (λ i j. i < j) (λ i j. i < j) name
   keeps i j k l link_i link_j lt = up i j lt (parts j l link_j).one

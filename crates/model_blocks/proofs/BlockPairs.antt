@@ -15,16 +15,10 @@ module _ (links : ℕ → ℕ → Bool) where
   joined_other z b a d c h = elim h [ inl h' ↦ (a, d, inr refl, inl refl, h') | inr h' ↦ (a, c, inr refl, inr refl, h') ]
 
   ends_at : (z x y d c : ℕ) → (y ≡ d) ⊎ (y ≡ c) → Around links z x y → Around links z x d ⊎ Around links z x c
-  ends_at z x y d c at around = elim at [
-    | inl e ↦ inl (subst (Around links z x) e around)
-    | inr e ↦ inr (subst (Around links z x) e around)
-  ]
+  ends_at z x y d c at around = grind arith
 
   pub joined_by : (z b a d c : ℕ) → AreJoinedWithout links z b a d c → (Around links z b d ⊎ Around links z b c) ⊎ (Around links z a d ⊎ Around links z a c)
-  joined_by z b a d c (x, y, at_x, at_y, around) = elim at_x [
-    | inl e ↦ inl (ends_at z b y d c at_y (subst (λ (v : ℕ). Around links z v y) e around))
-    | inr e ↦ inr (ends_at z a y d c at_y (subst (λ (v : ℕ). Around links z v y) e around))
-  ]
+  joined_by z b a d c (x, y, at_x, at_y, around) = grind (arith, ends_at)
 
   -- a walk between members passes members only
   module _ (members : ℕ) (within : (a b : ℕ) → IsTrue (links a b) → b < members) where
