@@ -5,8 +5,7 @@ use Rattle.model_graph.specs.Walk.{Among, Simple}
 use Rattle.model_graph.specs.Beyond.{Around}
 use Rattle.model_graph.specs.Pinches.{IsPinch}
 use Rattle.model_graph.specs.Blocks.{AreBlocks, AreFull, OnOneSide, IsInFull, IsCovered}
-use Rattle.model_graph.proofs.Around.{Around-keeps, Around-sym}
-use Rattle.model_graph.proofs.Walks.{linked_differ}
+use Rattle.model_graph.proofs.Members.{linked_differ, Around-keeps, Around-sym}
 
 -- x hangs below b in block k: the n-th member up from x is in k, its top is b, and no member on the way is b
 abbrev pub Hangs : (ℕ → ℕ) → (ℕ → ℕ) → ℕ → ℕ → ℕ → ℕ → Type 0

@@ -8,10 +8,10 @@ use Rattle.model_graph.specs.Family.{IsFamily, IsParent, AreSiblings, KeepsToFam
 use Rattle.model_graph.specs.Rows.{linked, IsGraph}
 use Rattle.model_graph.specs.Levels.{level_of}
 use Rattle.model_graph.specs.Forest.{IsForest, parent_of, IsParentAt, Siblings, LinkedSiblings, AgreesWithFirst, KeepsHere}
-use Rattle.model_graph.proofs.Walks.{Reaches-sym}
 use Rattle.model_graph.proofs.Rows.{linked_within}
-use Rattle.model_graph.proofs.Visits.{level_cases}
 use Rattle.model_graph.proofs.PinchSearch.{Simple-from_graph}
+use Rattle.model_graph.proofs.Members.{Reaches-sym}
+use Rattle.model_graph.proofs.Floods.{level_cases}
 
 -- the level as a number; 0 without a level
 abbrev pub height : List (Option ℕ) → ℕ → ℕ

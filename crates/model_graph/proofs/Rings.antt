@@ -6,8 +6,7 @@ use Rattle.model_graph.specs.Walk.{Among, Different, IsAt, Simple}
 use Rattle.model_graph.specs.Cycle.{Cycle, IsCycle}
 use Rattle.model_graph.specs.Pinches.{IsPinch, FirstPinch}
 use Rattle.model_graph.specs.Loops.{FirstWalk, HasUnlinked, turned, IsWritten, NamedLoop}
-use Rattle.model_graph.proofs.Members.{Among-index, Among-get_or, Among-append_left, Among-append_right, Among-append_cases, Different-push}
-use Rattle.model_graph.proofs.Walks.{walk_ends}
+use Rattle.model_graph.proofs.Members.{Among-index, Among-get_or, Among-append_left, Among-append_right, Among-append_cases, Different-push, walk_ends}
 use Rattle.model_graph.proofs.Turns.{IsCycle-rotated, IsCycle-turned, Cycle-reversed, reverse-cons as reverse_cons}
 
 -- the pinch and the walk around it make a cycle

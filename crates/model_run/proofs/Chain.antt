@@ -4,8 +4,7 @@ use Rattle.std.specs.Prelude.{Bool, true, false, ◌&&◌, ◌||◌, ◌==◌, n
 use Rattle.std.proofs.lemmas.Bool.{ltb-true, lt-ltb, and_parts, and_from, or_cases, eq-eqb, eqb-true}
 use Rattle.model_graph.specs.Walk.{Different, Simple, Walk, Reaches}
 use Rattle.model_graph.specs.Cycle.{NoCycle}
-use Rattle.model_graph.proofs.Members.{ℕ-can_tell}
-use Rattle.model_graph.proofs.Walks.{Connected-from_root}
+use Rattle.model_graph.proofs.Members.{ℕ-can_tell, Connected-from_root}
 use Rattle.model_graph.proofs.Cycles.{Polygons-from_no_cycle}
 use Rattle.model_run.specs.Nets.{Net, Tidy}
 

@@ -12,14 +12,13 @@ use Rattle.echo_text.specs.Echo.{EchoText, IsEcho, msgid_of}
 use Rattle.echo_text.specs.Refusal.{text_refusal}
 use Rattle.echo_text.specs.declared.fault.TextFault.{TextFault}
 use Rattle.model_steps.specs.declared.stamp.Stamp.{Stamp}
-use Rattle.echo_links.specs.Links.{LinkFile, is_link, links_of, same_address}
+use Rattle.echo_links.specs.Links.{LinkFile, is_link, links_of, same_address, IsFile}
 use Rattle.echo_filed.specs.Sets.{same_entry}
 use Rattle.echo_filed.specs.Filed.{Filed, key_of, key_with}
 use Rattle.model_steps.specs.Tossing.{received}
 use Rattle.model_steps.specs.Scanning.{packet_to, header_to, copy_to, exported, goes_to, targets, is_sender, is_seen_by, recipients}
 use Rattle.model_run.specs.Run.{destination}
 use Rattle.model_run.specs.Orderly.{copies}
-use Rattle.echo_links.specs.Links.{IsFile}
 use Rattle.model_run.proofs.TosserPremises.{Laws}
 use Rattle.model_run.proofs.Lists.{not_both, yes_or_no, and-parts, and-from, any-to, any-from, filter-yes, Among-filter_from, Among-filter_to}
 use Rattle.model_run.specs.Keeping.{content_of}

@@ -14,11 +14,10 @@ use Rattle.model_steps.specs.Stamps.{is_stamp}
 use Rattle.model_steps.specs.Tossing.{sender_of, tossing}
 use Rattle.model_run.specs.Event.{RunEvent, Posting, Scanning, Delivery, PartDelivery, Purging}
 use Rattle.model_run.specs.Run.{System, Run, after_event, change, coming, delivery, filing, fresh, nth, part_delivery, posting_at, purging_at, receiver, run_of, scanning, scanning_at, start, taking, tossing_at}
-use Rattle.model_run.proofs.Lists.{change-all}
+use Rattle.model_run.proofs.Lists.{change-all, Among-map_from}
 use Rattle.model_run.proofs.Bases.{Kept, Kept-filed, Kept-purged, Kept-scanned}
 use Rattle.model_run.proofs.WholeRuns.{along}
 use Rattle.model_run.proofs.TosserPremises.{Laws}
-use Rattle.model_run.proofs.RulesLists.{Among-map_from}
 
 module _ (P : System → Type 0) (filed : (s : System) (o : Option Filed) → P s → P (filing s o))
     (scans : (s : System) → P s → P (scanning_at s)) (purges : (s : System) → P s → P (purging_at s)) where

@@ -14,23 +14,19 @@ use Rattle.model_steps.specs.Stamps.{is_stamp}
 use Rattle.model_run.specs.Event.{RunEvent, Posting, Scanning, Delivery, PartDelivery, Purging}
 use Rattle.model_run.specs.Run.{Run, System, after_event, change, changing, coming, delivery, destination, nth, part_delivery, posting_at, purging_at, receiver, run_of, scanning, scanning_at, taking}
 use Rattle.model_run.specs.Orderly.{Orderly, Settled, copies, tag_of}
-use Rattle.model_run.proofs.Lists.{any-to, first_passes, nth-among, with_index-from, nth-append as nth-more}
+use Rattle.model_run.proofs.Lists.{any-to, first_passes, nth-among, with_index-from, nth-append as nth-more, Among-map_to}
 use Rattle.model_run.specs.Grave.{ListsNobody}
 use Rattle.model_run.specs.Harms.{NeverSettles}
 use Rattle.model_run.specs.LawsOfRuns.{LawsOfRuns}
 use Rattle.model_run.specs.Postings.{post_and_scan, trial_moment, trial_posting}
-use Rattle.model_run.proofs.HarmCounts.{sent-packet}
-use Rattle.model_run.proofs.Entries.{link-among}
-use Rattle.model_run.proofs.Holders.{key-tag}
-use Rattle.model_run.proofs.OneMessage.{post_of, post_of-tag}
-use Rattle.model_run.proofs.PostAndScan.{sent-to_link}
+use Rattle.model_run.proofs.Holders.{key-tag, sent-to_link}
+use Rattle.model_run.proofs.OneMessage.{post_of, post_of-tag, sent-packet}
 use Rattle.model_run.proofs.Places.{lists-file}
-use Rattle.model_run.proofs.Tags.{link-area}
 use Rattle.model_run.proofs.HarmLists.{among-nth, nth-middle}
 use Rattle.model_run.proofs.Resting.{file-there}
 use Rattle.model_run.proofs.HarmSteps.{after_one_more, along, run-files}
-use Rattle.model_run.proofs.RulesLists.{Among-map_to}
 use Rattle.model_run.proofs.Targets.{some_same}
+use Rattle.model_run.proofs.Areas.{link-area, link-among}
 
 -- an area that no file has is orderly
 pub nobody-orderly : (files : List LinkFile) (tag : List ℕ) → ¬ IsTrue (list_any (λ (file : LinkFile). has_area file tag) files) →

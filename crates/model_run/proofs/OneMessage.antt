@@ -1,8 +1,8 @@
 -- One system posts, and then messages only move: the holders of the message, and their senders.
-use Rattle.std.proofs.Common.{◌≡◌, ◌⊎◌, inl, inr, refl, sym, subst, ap, ◌∙◌, ℕ, ◌≤◌, ◌==◌, arith, List, [], ◌∷◌, ◌++◌, length, take, map, Option, Some, None}
-use Rattle.std.specs.Prelude.{Bool, true, false, is_none, if◌then◌else◌}
+use Rattle.std.proofs.Common.{◌≡◌, ◌⊎◌, inl, inr, refl, sym, subst, ap, ◌∙◌, ℕ, ◌≤◌, ◌==◌, arith, List, [], ◌∷◌, ◌++◌, length, take, map, Option, Some, None, ◌≢◌, zero, suc, ◌+◌}
+use Rattle.std.specs.Prelude.{Bool, true, false, is_none, if◌then◌else◌, filter}
 use Rattle.std.specs.List.{AllByRecursion}
-use Rattle.std.proofs.lemmas.Bool.{cond-false, eqb-true}
+use Rattle.std.proofs.lemmas.Bool.{cond-false, eqb-true, cond-true}
 use Rattle.echo_addr.specs.declared.address.Address.{Address}
 use Rattle.model_graph.specs.Walk.{Among}
 use Rattle.model_graph.proofs.Members.{Among-append_left}
@@ -13,23 +13,26 @@ use Rattle.model_steps.specs.declared.fault.PostFault.{PostFault}
 use Rattle.echo_links.specs.Links.{LinkFile, has_area, is_link, same_address, upper}
 use Rattle.echo_links.proofs.Addresses.{same_address_decides}
 use Rattle.echo_filed.specs.Written.{echo_of}
-use Rattle.echo_filed.specs.Filed.{Filed}
+use Rattle.echo_filed.specs.Filed.{Filed, key_of, same_key}
 use Rattle.model_steps.specs.Posting.{posted, posting}
 use Rattle.model_steps.specs.Tossing.{received, sender_of, tossing, zone_of}
 use Rattle.model_steps.specs.Scanning.{scanned}
 use Rattle.model_steps.specs.Stamps.{is_stamp}
 use Rattle.model_run.specs.Event.{RunEvent, Posting, Scanning, Delivery, PartDelivery, Purging}
 use Rattle.model_run.specs.Run.{System, Run, after_event, change, coming, delivery, destination, filing, fresh, nth, posting_at, receiver, run_of, scanning, scanning_at, taking, tossing_at}
-use Rattle.model_run.specs.Orderly.{copies, origin}
+use Rattle.model_run.specs.Orderly.{copies, origin, count, sent_count}
 use Rattle.model_run.proofs.Lists.{Among-take, first_passes, nth-among, nth-change, yes_or_no}
 use Rattle.model_run.specs.Postings.{IsMove, trial_moment, trial_posting, trial_draft}
 use Rattle.model_run.proofs.HarmLists.{nth-changed, nth-map, nth-map_from}
 use Rattle.model_run.specs.LawsOfRuns.{LawsOfRuns}
 use Rattle.model_run.proofs.Resting.{copy-there, export-of, file-there}
 use Rattle.model_run.proofs.HarmSteps.{along, after_one_more, tossing-is, tossing-new}
-use Rattle.model_run.proofs.Tags.{upper-same}
 use Rattle.model_run.proofs.WholeRuns.{taking-file}
 use Rattle.model_run.proofs.Targets.{some_same}
+use Rattle.model_run.proofs.Areas.{upper-same}
+use Rattle.echo_filed.specs.declared.key.Key.{Key}
+use Rattle.echo_filed.proofs.Keys.{same_key_decides}
+use Rattle.model_run.specs.Exports.{Export, sent_by}
 
 -- the message that the system files
 abbrev pub post_of : LinkFile → List ℕ → Filed
@@ -227,3 +230,55 @@ module _ (files : List LinkFile) (known : LawsOfRuns files) (tag : List ℕ) (i 
       let (z, there, later) = known.stays (trial_posting i tag ∷ []) more i (filing (fresh file) (Some (post_of file tag))) posted-at in
       let P : List Filed → Type 0 = λ ms. Among (post_of file tag) ms in
       (z, there, later.file, subst P (sym later.filed.1) (inl refl))
+
+-- The number of times a key is filed, and sent by one system and by all.
+
+abbrev weight : Bool → ℕ
+weight b = if b then 1 else 0
+
+pub one-or_zero : (n : ℕ) → (1 ≤ n) ⊎ (n ≡ 0)
+one-or_zero n = grind arith
+
+pub has-one : (key : Key) (ms : List Filed) (m : Filed) → Among m ms → key_of m ≡ key → 1 ≤ count key ms
+has-one key [] m h e = absurd h
+has-one key (x ∷ ms) m h e = grind (arith, same_key_decides, has-one key ms m)
+
+-- a counted message is in the list
+pub counted : (key : Key) (ms : List Filed) → 1 ≤ count key ms → (m : Filed) × Among m ms × (key_of m ≡ key)
+counted key [] h = absurd (omega (arith, h))
+counted key (m ∷ ms) h = grind (arith, yes_or_no, same_key_decides, counted key ms)
+
+-- a sent message is in a packet to the address
+pub sent-packet : (a : Address) (key : Key) (ps : List Packet) → 1 ≤ sent_count a key ps →
+    (q : Packet) × Among q ps × (destination q ≡ a) × ((m : Filed) × Among m (copies q) × (key_of m ≡ key))
+sent-packet a key [] h = absurd (omega (arith, h))
+sent-packet a key (q ∷ ps) h = grind (arith, yes_or_no, cond-false, cond-true, one-or_zero, same_address_decides, counted, sent-packet a key ps)
+
+-- and is one message, if it is counted once
+pub counted-one : (key : Key) (ms : List Filed) → count key ms ≤ 1 → (m n : Filed) → Among m ms → Among n ms → key_of m ≡ key → key_of n ≡ key → m ≡ n
+counted-one key [] few m n h i e q = absurd h
+counted-one key (x ∷ ms) few m n h i e q = grind (arith, same_key_decides, has-one, counted-one key ms (omega (arith, few)) m n)
+
+module _ (a : Address) (key : Key) where
+  -- the number of times one packet holds it
+  abbrev held : Export → ℕ
+  held e = if same_address (destination e.packet) a then count key (copies e.packet) else 0
+
+  sent-own : (i : ℕ) (e : Export) (es : List Export) → (e.system == i) ≡ true →
+      sent_count a key (sent_by i (e ∷ es)) ≡ held e + sent_count a key (sent_by i es)
+  sent-own i e es t = grind (arith, cond-true)
+
+  sent-other : (i : ℕ) (e : Export) (es : List Export) → (e.system == i) ≡ false →
+      sent_count a key (sent_by i (e ∷ es)) ≡ sent_count a key (sent_by i es)
+  sent-other i e es f = grind (arith, cond-false)
+
+  -- the messages sent by one system are part of all sent
+  pub sent-part : (i : ℕ) (es : List Export) → sent_count a key (sent_by i es) ≤ sent_count a key (map (λ (e : Export). e.packet) es)
+  sent-part i [] = omega arith
+  sent-part i (e ∷ es) = grind (arith, yes_or_no, sent-own, sent-other, sent-part i es)
+
+  -- and so are those sent by two systems
+  pub sent-two : (i j : ℕ) → i ≢ j → (es : List Export) →
+      sent_count a key (sent_by i es) + sent_count a key (sent_by j es) ≤ sent_count a key (map (λ (e : Export). e.packet) es)
+  sent-two i j other [] = omega arith
+  sent-two i j other (e ∷ es) = grind (arith, yes_or_no, eqb-true, sent-own, sent-other, sent-two i j other es)

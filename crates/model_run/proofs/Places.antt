@@ -8,16 +8,13 @@ use Rattle.echo_links.proofs.Addresses.{same_address_decides}
 use Rattle.model_run.specs.Event.{RunEvent}
 use Rattle.model_run.specs.Run.{System, nth, run_of}
 use Rattle.model_run.specs.Tidy.{Carries, lists}
-use Rattle.model_run.proofs.Lists.{and-from, and-parts, any-from, any-to, nth-among}
-use Rattle.model_run.proofs.Entries.{link-among}
+use Rattle.model_run.proofs.Lists.{and-from, and-parts, any-from, any-to, nth-among, Among-map_to}
 use Rattle.model_run.specs.LawsOfRuns.{LawsOfRuns}
 use Rattle.model_run.proofs.HarmLists.{nth-map}
 use Rattle.model_run.proofs.Resting.{file-there}
-use Rattle.model_run.proofs.Tags.{link-area}
 use Rattle.model_run.proofs.HarmSteps.{run-files}
-use Rattle.model_run.proofs.RulesLists.{Among-map_to}
 use Rattle.model_run.proofs.Targets.{some_same, none_some}
-use Rattle.model_run.proofs.Areas.{one_name as different-same}
+use Rattle.model_run.proofs.Areas.{one_name as different-same, link-area, link-among}
 
 -- in a list of different images an image has one index
 different-index : {X Y : Type 0} (g : X → Y) (xs : List X) → Different (map g xs) → (i j : ℕ) (x y : X) → nth i xs ≡ Some x → nth j xs ≡ Some y → g x ≡ g y → i ≡ j

@@ -16,11 +16,9 @@ use Rattle.model_run.specs.Run.{System, destination}
 use Rattle.model_run.specs.Orderly.{SameContent, copies, count, origin, sent_count}
 use Rattle.model_run.specs.Exports.{IsSentCopy}
 use Rattle.model_run.proofs.TosserPremises.{Laws}
-use Rattle.model_run.proofs.Lists.{not_both, yes_or_no, any-from, any-to, filter-none, Among-filter_from, Among-filter_to}
-use Rattle.model_run.proofs.Bases.{Kept-waiting, SystemOk}
-use Rattle.model_run.proofs.WellFormed.{scanned-from, waiting-valid}
+use Rattle.model_run.proofs.Lists.{not_both, yes_or_no, any-from, any-to, filter-none, Among-filter_from, Among-filter_to, Among-map_to, Among-map_from}
+use Rattle.model_run.proofs.Bases.{Kept-waiting, SystemOk, scanned-from, waiting-valid}
 use Rattle.model_run.proofs.Copies.{Targeted, copied, copied-key, copies-are, goes-from, goes-to, packet-destination, target-recipient, targets-to, recipients-differ}
-use Rattle.model_run.proofs.RulesLists.{Among-map_to, Among-map_from}
 
 packet-origin : (file : LinkFile) (stamp : Stamp) (waiting : List Filed) (address : Address) → origin (packet_to file stamp waiting address) ≡ file.system
 unfolding packet_to header_to

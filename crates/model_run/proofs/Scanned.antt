@@ -15,22 +15,20 @@ use Rattle.echo_filed.specs.declared.key.Key.{Key}
 use Rattle.echo_filed.specs.Sets.{address_set}
 use Rattle.echo_filed.specs.Filed.{Filed, key_of, same_key}
 use Rattle.model_run.specs.Events.{Exports, Text, copy_to}
-use Rattle.model_run.specs.Events as rules
 use Rattle.model_run.specs.Run.{System, Run, change, destination, nth, scanning_at}
 use Rattle.model_run.specs.Orderly.{count, origin, sent_count, tag_of}
 use Rattle.model_run.specs.Keeping.{Content, IsFiledIn, IsHistory, IsSent, copy_count, filed_as, said, sent_as}
-use Rattle.model_run.proofs.Counts.{one_if}
-use Rattle.model_run.proofs.TosserPremises.{Laws}
-use Rattle.model_run.proofs.Lists.{yes_or_no, not_both, and-parts, filter-yes, filter-no, nth-append, Among-drop, Among-filter_from, Among-filter_to, same_list as Among-in}
+use Rattle.model_run.proofs.TosserPremises.{Laws, one_if}
+use Rattle.model_run.proofs.Lists.{yes_or_no, not_both, and-parts, filter-yes, filter-no, nth-append, Among-drop, Among-filter_from, Among-filter_to, same_list as Among-in, Among-map_to, Among-map_from}
 use Rattle.model_run.proofs.Bases.{Kept-length, SystemOk}
 use Rattle.model_run.proofs.Areas.{address_of, bytes-equal, bytes-same, key-tag}
 use Rattle.model_run.proofs.Copies.{copied, copied-key, copied-tag, goes-from, goes-to, targets-from, targets-to}
-use Rattle.model_run.proofs.DeliveredOnce.{IsDeliveredOnce}
 use Rattle.model_run.proofs.ScanPackets.{scanned-copied, scanned-count, scanned-origin, target-packet}
 use Rattle.model_run.proofs.ExportLists.{sent-append}
 use Rattle.model_run.proofs.Histories.{RCopy, REvent, RFiled, filed-after, filed-before, filed-new}
-use Rattle.model_run.proofs.RulesLists.{Among-map_to, Among-map_from}
 use Rattle.model_run.proofs.Targets.{some_same}
+use Rattle.model_run.proofs.WholeRuns.{IsDeliveredOnce}
+use Rattle.model_run.specs.Events as rules
 
 -- the number of copies to an address, for joined lists, and for one message
 copy_count-append : (x : Address) (k : Key) (cs ds : List RCopy) → copy_count x k (cs ++ ds) ≡ copy_count x k cs + copy_count x k ds

@@ -5,7 +5,7 @@ use Rattle.echo_addr.specs.declared.address.Address.{Address}
 use Rattle.echo_addr.specs.declared.address.NetNode.{NetNode}
 use Rattle.echo_addr.specs.Address.{net_node_of}
 use Rattle.model_graph.specs.Walk.{Reaches}
-use Rattle.model_graph.proofs.Walks.{Reaches-trans}
+use Rattle.model_graph.proofs.Members.{Reaches-trans}
 use Rattle.echo_links.proofs.Addresses.{same_address_decides}
 use Rattle.echo_links.specs.Links.{same_address}
 use Rattle.echo_filed.specs.Filed.{Filed}

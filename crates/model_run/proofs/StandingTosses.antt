@@ -14,7 +14,6 @@ use Rattle.echo_filed.specs.Filed.{Filed, key_of}
 use Rattle.base_file.specs.Base.{is_known}
 use Rattle.model_steps.specs.Tossing.{received, sender_of, tossing}
 use Rattle.model_steps.proofs.Received.{received_tossing, tossing_received}
-use Rattle.model_run.specs.Events as rules
 use Rattle.model_run.proofs.Eras.{came-append, copies-cases, filed-past, inv}
 use Rattle.model_run.specs.Run.{System, Run, change, changing, destination, filing, nth, tossing_at}
 use Rattle.model_run.specs.Orderly.{copies, origin, tag_of}
@@ -22,15 +21,13 @@ use Rattle.model_run.specs.Tidy.{Tidy, lists}
 use Rattle.model_run.specs.AreaNets.{net_of}
 use Rattle.model_run.specs.Keeping.{sent_as}
 use Rattle.model_run.proofs.TosserPremises.{Laws}
-use Rattle.model_run.proofs.Lists.{nth-among, nth-changed, yes_or_no, not_both, Among-filter_to, same_list as Among-in}
-use Rattle.model_run.proofs.Bases.{HasKey, SystemOk, known-in_history}
-use Rattle.model_run.proofs.WellFormed.{PacketOk, RunOk, changing-ok, received-echo, tossed-fresh, tossing_one-ok}
+use Rattle.model_run.proofs.Lists.{nth-among, nth-changed, yes_or_no, not_both, Among-filter_to, same_list as Among-in, Among-map_to}
+use Rattle.model_run.proofs.Bases.{HasKey, SystemOk, known-in_history, PacketOk, RunOk, changing-ok, received-echo, tossed-fresh, tossing_one-ok}
 use Rattle.model_run.proofs.Areas.{address_of, bytes-equal, bytes-same, key-tag, link-has_area, lists-link, tidy-net}
 use Rattle.model_run.proofs.WholeRuns.{filing-file}
-use Rattle.model_run.proofs.Histories.{REvent, RCopy}
-use Rattle.model_run.proofs.Standing.{Equal, Standing, can, can_keys, equal-compares, filed-here, stands-idle, stands-known, stands-other, stands-tossed}
-use Rattle.model_run.proofs.RulesLists.{Among-map_to}
+use Rattle.model_run.proofs.Histories.{REvent, RCopy, Equal, Standing, can, can_keys, equal-compares, filed-here, stands-idle, stands-known, stands-other, stands-tossed}
 use Rattle.model_run.proofs.Targets.{none_some}
+use Rattle.model_run.specs.Events as rules
 
 pub none_or_some : {X : Type 0} (o : Option X) → (o ≡ None) ⊎ ((x : X) × (o ≡ Some x))
 none_or_some None = inl refl

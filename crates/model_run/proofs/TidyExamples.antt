@@ -10,9 +10,8 @@ use Rattle.echo_links.specs.Links.{LinkFile, has_area, is_link, links_of, same_a
 use Rattle.model_run.specs.Tidy.{Carries, Tidy, lists}
 use Rattle.model_run.proofs.TosserLaws.{the_laws}
 use Rattle.model_graph.proofs.Members.{Among-at}
-use Rattle.model_run.proofs.Lists.{and-parts, any-from, not_both}
+use Rattle.model_run.proofs.Lists.{and-parts, any-from, not_both, Among-map_to}
 use Rattle.model_run.proofs.NetExamples.{address, beside, far, file, one_sided, over_zones, own_link, ring, triangle, two_files}
-use Rattle.model_run.proofs.RulesLists.{Among-map_to}
 
 abbrev pub test : List ℕ
 test = codes "TEST"

@@ -1,7 +1,7 @@
 use Rattle.std.proofs.Common.{◌≢◌, IsTrue, refl, arith}
 use Rattle.model_graph.specs.Rows.{linked}
 use Rattle.model_graph.specs.Forest.{Siblings}
-use Rattle.model_graph.proofs.Kinship.{for_each_link, link_within}
+use Rattle.model_graph.proofs.Family.{for_each_link, link_within}
 use Rattle.model_graph.proofs.kin.covers.Goals as goal
 
 pub are_siblings-requires-clause-other : goal.are_siblings-requires-clause-other

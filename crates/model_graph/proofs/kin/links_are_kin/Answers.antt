@@ -1,6 +1,6 @@
 use Rattle.std.proofs.Common.{refl, arith}
 use Rattle.model_graph.specs.Forest.{IsKin}
-use Rattle.model_graph.proofs.Kinship.{for_each_link, link_within}
+use Rattle.model_graph.proofs.Family.{for_each_link, link_within}
 use Rattle.model_graph.proofs.kin.links_are_kin.Goals as goal
 
 pub is_kin-requires-clause-other : goal.is_kin-requires-clause-other

@@ -4,8 +4,7 @@ use Rattle.std.proofs.lemmas.Option.{same_Some}
 use Rattle.model_graph.specs.Rows.{linked}
 use Rattle.model_graph.specs.Levels.{level_of}
 use Rattle.model_graph.specs.Floods.{Flooding}
-use Rattle.model_graph.proofs.Visits.{level_within}
-use Rattle.model_graph.proofs.Floods.{Flooding-step}
+use Rattle.model_graph.proofs.Floods.{level_within, Flooding-step}
 use Rattle.model_graph.proofs.levels.flood.Goals as goal
 
 -- the member at the head has a level, at most its index in the queue

@@ -3,7 +3,7 @@ use Rattle.std.proofs.lemmas.List.{get_or-replicate, get_or_past, length-replica
 use Rattle.std.proofs.lemmas.Bool.{cases_lt}
 use Rattle.model_graph.specs.Rows.{linked}
 use Rattle.model_graph.specs.Levels.{level_of}
-use Rattle.model_graph.proofs.Reached.{AreLevels-from_flooded, Searched-from_flooded}
+use Rattle.model_graph.proofs.Floods.{AreLevels-from_flooded, Searched-from_flooded}
 use Rattle.model_graph.proofs.levels.levels_around.Goals as goal
 
 none_in : (n i : ℕ) → level_of (replicate n None) i ≡ None

@@ -4,7 +4,7 @@ use Rattle.model_graph.specs.Rows.{links_at, IsGraph}
 use Rattle.model_graph.specs.Levels.{level_of}
 use Rattle.model_graph.specs.Visits.{Visited}
 use Rattle.model_graph.proofs.Rows.{holds_at}
-use Rattle.model_graph.proofs.Visits.{none_from, some_from, Visited-passed, Visited-made}
+use Rattle.model_graph.proofs.Floods.{none_from, some_from, Visited-passed, Visited-made}
 use Rattle.model_graph.proofs.levels.visit.Goals as goal
 use Rattle.model_graph.proofs.levels.visit.Goals.{then-other-without+then-is_none+in_ok-push, else-other-without, else-other-without-via-then-other-without+else-is_none, else-other-without-via-else-other-without}
 

@@ -3,9 +3,8 @@ use Rattle.std.proofs.lemmas.Bool.{ltb-true}
 use Rattle.model_graph.specs.Rows.{linked}
 use Rattle.std.proofs.lemmas.Option.{MatchOption-at_some, MatchOption-at_none}
 use Rattle.model_graph.specs.Pinches.{IsPinch, FirstOther}
-use Rattle.model_graph.proofs.PinchSearch.{FirstHere-here, no_pinch_at, row_link}
+use Rattle.model_graph.proofs.PinchSearch.{FirstHere-here, no_pinch_at, row_link, Simple-from_graph}
 use Rattle.model_graph.specs.Blocks.{block_of, top_of, rank_of}
-use Rattle.model_graph.proofs.PinchSearch.{Simple-from_graph}
 use Rattle.model_graph.proofs.BlockWalks.{no_pinch_covered}
 use Rattle.model_graph.proofs.pinching.first_pinch_at.Goals as goal
 use Rattle.model_graph.proofs.pinching.first_pinch_at.Goals.{then-chosen-at, else-chosen-at}

@@ -4,8 +4,8 @@ use Rattle.model_graph.specs.Rows.{linked, IsGraph}
 use Rattle.model_graph.specs.Levels.{level_of, AreLevels}
 use Rattle.model_graph.specs.Pinches.{IsPinch}
 use Rattle.model_graph.specs.Descents.{SmallestAt}
-use Rattle.model_graph.proofs.Around.{Around-sym}
-use Rattle.model_graph.proofs.Visits.{level_cases, level_within}
+use Rattle.model_graph.proofs.Members.{Around-sym}
+use Rattle.model_graph.proofs.Floods.{level_cases, level_within}
 use Rattle.model_graph.proofs.PinchSearch.{Simple-from_graph, level_from_around}
 use Rattle.model_graph.proofs.Descending.{Descent-push, lower_exists, FirstWalk-from_descent}
 use Rattle.model_graph.proofs.ring.ring_of.Goals as goal
