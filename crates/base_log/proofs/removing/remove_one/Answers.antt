@@ -1,12 +1,11 @@
-use Rattle.std.proofs.Common.{List, ℕ, ◌≢◌, rules, sym, ◌∙◌, subst}
+use Rattle.std.proofs.Common.{List, arith, ℕ, ◌≢◌, rules, sym, ◌∙◌, subst}
 use Rattle.std.proofs.lemmas.Result.{on_ok_weaker}
 use Rattle.disk_io.specs.Disk.{IsIn}
-use Rattle.disk_io.specs.Runs.{HasCause}
 use Rattle.disk_io.specs.Steps.{TornRemoval}
 use Rattle.disk_io.proofs.Moments.{then_nothing}
 use Rattle.base_log.specs.Moments.{StandsAlone}
 use Rattle.base_log.specs.Standing.{base_at}
-use Rattle.base_log.proofs.Calls.{but_one_call}
+use Rattle.base_log.proofs.Calls.{but_one_call, cause_since}
 use Rattle.base_log.proofs.LeftOutside.{left_call, left_quiet, left_twice}
 use Rattle.base_log.proofs.Removed.{but_one_quiet, but_one_twice, looked_run, not_there, outside_but_one, removed_run, rest_beside}
 use Rattle.base_log.proofs.removing.remove_one.Goals as goal
@@ -75,7 +74,6 @@ returns-in_err-remove g c =
 
 pub returns : goal.returns
 returns g c =
-    let cause : HasCause (g.D.Disk.failures c.args.disk.now) (g.D.Disk.failures c.sync_folder_of.new.disk) c.sync_folder_of.result = search rules in
     let d0 = g.D.Disk.state c.args.disk.now in
     let d1 = g.D.Disk.state c.exists.new.self in
     let d2 = g.D.Disk.state c.remove.new.self in
@@ -101,5 +99,5 @@ returns g c =
         outside = outside_but_one path d0 d3 file c.requires.file.inside kept;
       };
       leaves = left_twice path d0 d2 d3 outside.named left (left_quiet path d2 d3 synced);
-      cause = cause;
+      cause = cause_since (g.D.Disk.failures c.args.disk.now) (g.D.Disk.failures c.remove.new.self) (g.D.Disk.failures c.sync_folder_of.new.disk) c.sync_folder_of.result (omega arith) c.sync_folder_of.ensures.cause;
     }
