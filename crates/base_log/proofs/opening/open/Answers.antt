@@ -1,12 +1,12 @@
 use Rattle.std.proofs.Common.{List, ℕ, rules, ◌≡◌, ◌≢◌, ◌∙◌, inl, refl, ap, sym, subst, arith}
 use Rattle.std.specs.Prelude.{IsSome}
-use Rattle.disk_io.specs.Disk.{Honestly}
+use Rattle.disk_io.specs.Disk.{DiskState, Honestly}
 use Rattle.disk_io.proofs.Moments.{then_nothing}
-use Rattle.disk_io.specs.Runs.{LeavesOnly}
+use Rattle.disk_io.specs.Runs.{ChangesNothing, LeavesOnly}
 use Rattle.base_log.specs.Moments.{KeepsOutside}
 use Rattle.base_log.specs.Names.{AreNames, folder_of, log_of, messages_of, keys_of}
 use Rattle.base_log.specs.Opening.{HasFiles, StandsOrWasLeft}
-use Rattle.base_log.specs.Standing.{base_at}
+use Rattle.base_log.specs.Standing.{BaseBytes, base_at}
 use Rattle.base_log.specs.declared.log.CommitRecord.{CommitRecord}
 use Rattle.base_log.proofs.Calls.{cause_since}
 use Rattle.base_log.proofs.Empty.{chained_alone, no_record}
@@ -16,7 +16,7 @@ use Rattle.base_log.proofs.Paths.{log_in, messages_in, keys_in, messages_not_log
 use Rattle.base_log.proofs.Removed.{outside_but_one}
 use Rattle.base_log.proofs.Renewed.{same_base}
 use Rattle.base_log.proofs.opening.open.Given as given
-use Rattle.base_log.proofs.opening.open.Goals.{After-make_files, After-settle_files}
+use Rattle.base_log.proofs.opening.open.Goals.{After-make_files, After-settle_log}
 use Rattle.base_log.proofs.opening.open.Goals as goal
 
 pub settle_log-requires-clause-ended : goal.settle_log-requires-clause-ended
@@ -66,85 +66,31 @@ settle_files-requires-2 g c =
       keys = λ h2. subst (λ (l : List ℕ). IsSome (d2.seen l)) (ap (λ (t : CommitRecord). keys_of path t.number) (sym none) ∙ sym c.requires.names.keys) made.keys;
     }
 
-pub returns-in_err-settle_log : goal.returns-in_err-settle_log
-returns-in_err-settle_log g c =
+-- a run that leaves the base of the folder, and everything outside the folder
+record Leaves (path : List ℕ) (base : BaseBytes) (old new : DiskState) : Type 0 where
+  any_moment : Honestly new (LeavesOnly old new (StandsOrWasLeft path old base))
+  outside : KeepsOutside path old new
+
+then_quiet : {path : List ℕ} {base : BaseBytes} {old mid : DiskState} (new : DiskState) → Leaves path base old mid → ChangesNothing mid new → Leaves path base old new
+then_quiet {path} {base} {old} {mid} new was quiet = record {
+  any_moment = λ h. then_nothing old mid new (StandsOrWasLeft path old base) (was.any_moment (quiet.honest h)) quiet;
+  outside = outside_twice path old mid new was.outside (outside_quiet path mid new quiet);
+}
+
+log_settled : (g : given.Over) (c : After-settle_log g)
+    → Leaves (folder_of c.args.names.now) (base_at (g.D.Disk.state c.args.disk.now) (folder_of c.args.names.now) c.args.log.now.end.told) (g.D.Disk.state c.args.disk.now) (g.D.Disk.state c.settle_log.new.disk)
+log_settled g c =
     let path = folder_of c.args.names.now in
     let d0 = g.D.Disk.state c.args.disk.now in
     let others = c.settle_log.ensures.others in
     record {
-      settled = search rules;
-      same = search rules;
       any_moment = λ h1. c.settle_log.ensures.any_moment h1 (base_at d0 path c.args.log.now.end.told) (c.requires.stands (others.honest h1));
       outside = outside_but_one path d0 (g.D.Disk.state c.settle_log.new.disk) (log_of path) (log_in path) others;
-      cause = search rules;
     }
 
--- after the files of the log's number are synced
-record Synced (g : given.Over) (c : After-settle_files g) : Type 0 where
-  any_moment : Honestly (g.D.Disk.state c.settle_files.new.disk) (LeavesOnly (g.D.Disk.state c.args.disk.now) (g.D.Disk.state c.settle_files.new.disk)
-      (StandsOrWasLeft (folder_of c.args.names.now) (g.D.Disk.state c.args.disk.now) (base_at (g.D.Disk.state c.args.disk.now) (folder_of c.args.names.now) c.args.log.now.end.told)))
-  outside : KeepsOutside (folder_of c.args.names.now) (g.D.Disk.state c.args.disk.now) (g.D.Disk.state c.settle_files.new.disk)
-
-synced : (g : given.Over) (c : After-settle_files g) → Synced g c
-synced g c =
-    let path = folder_of c.args.names.now in
-    let d0 = g.D.Disk.state c.args.disk.now in
-    let d1 = g.D.Disk.state c.settle_log.new.disk in
-    let d2 = g.D.Disk.state c.settle_files.new.disk in
-    let base = base_at d0 path c.args.log.now.end.told in
-    let others = c.settle_log.ensures.others in
-    let quiet = c.settle_files.ensures.quiet in
-    record {
-      any_moment = λ h2.
-          let h1 = quiet.honest h2 in
-          then_nothing d0 d1 d2 (StandsOrWasLeft path d0 base) (c.settle_log.ensures.any_moment h1 base (c.requires.stands (others.honest h1))) quiet;
-      outside = outside_twice path d0 d1 d2 (outside_but_one path d0 d1 (log_of path) (log_in path) others) (outside_quiet path d1 d2 quiet);
-    }
-
-pub returns-in_err-settle_files : goal.returns-in_err-settle_files
-returns-in_err-settle_files g c =
-    let so_far = synced g (goal.at.returns-in_err-settle_files g c).After-settle_files in
-    record { settled = search rules; same = search rules; any_moment = so_far.any_moment; outside = so_far.outside; cause = search rules }
-
-pub returns-then-log-gt0 : goal.returns-then-log-gt0
-returns-then-log-gt0 g c =
-    let so_far = synced g (goal.at.returns-then-log-gt0 g c).After-settle_files in
-    let path = folder_of c.args.names.now in
-    let log = c.args.log.now in
-    let told = log.end.told in
-    let d0 = g.D.Disk.state c.args.disk.now in
-    let d1 = g.D.Disk.state c.settle_log.new.disk in
-    let d2 = g.D.Disk.state c.settle_files.new.disk in
-    let others = c.settle_log.ensures.others in
-    let quiet = c.settle_files.ensures.quiet in
-    let m = messages_of path told.number in
-    let k = keys_of path told.number in
-    record {
-      settled = λ h2.
-          let h1 = quiet.honest h2 in
-          let h0 = others.honest h1 in
-          let base = base_at d0 path told in
-          let some : log.end.gate ≢ 0 = λ none. absurd (omega (arith, none, c.if-log-gt0.true)) in
-          let tells = end_tells log.bytes.items log.end c.requires.log.read path d0.seen (c.requires.log.same h0) base (c.requires.stands h0) in
-          let has = has_files log.bytes.items log.end c.requires.log.read path d0.seen (c.requires.log.same h0) base (c.requires.stands h0) some in
-          files_settled d1 d2 path log.end (c.in_ok-settle_log.ensures.log h1) quiet tells.digit (files_beside d0 d1 path told others has)
-          (others.alone m (messages_not_log path told.number) (c.requires.alone h0 m (messages_in path told.number)))
-          (others.alone k (keys_not_log path told.number) (c.requires.alone h0 k (keys_in path told.number)))
-          (subst (λ (l : List ℕ). d2.is_flushed l) c.requires.names.messages c.in_ok-settle_files.ensures.messages)
-          (subst (λ (l : List ℕ). d2.is_flushed l) c.requires.names.keys c.in_ok-settle_files.ensures.keys);
-      same = λ h2. same_base d0 d2 path log.end (quiet.seen m ∙ others.seen m (messages_not_log path told.number)) (quiet.seen k ∙ others.seen k (keys_not_log path told.number));
-      any_moment = so_far.any_moment;
-      outside = so_far.outside;
-      cause = search rules;
-    }
-
--- after the files of a folder without a record are made
-record Made (g : given.Over) (c : After-make_files g) : Type 0 where
-  any_moment : Honestly (g.D.Disk.state c.make_files.new.disk) (LeavesOnly (g.D.Disk.state c.args.disk.now) (g.D.Disk.state c.make_files.new.disk)
-      (StandsOrWasLeft (folder_of c.args.names.now) (g.D.Disk.state c.args.disk.now) (base_at (g.D.Disk.state c.args.disk.now) (folder_of c.args.names.now) c.args.log.now.end.told)))
-  outside : KeepsOutside (folder_of c.args.names.now) (g.D.Disk.state c.args.disk.now) (g.D.Disk.state c.make_files.new.disk)
-
-made : (g : given.Over) (c : After-make_files g) → Made g c
+-- the files of a folder without a record are made
+made : (g : given.Over) (c : After-make_files g)
+    → Leaves (folder_of c.args.names.now) (base_at (g.D.Disk.state c.args.disk.now) (folder_of c.args.names.now) c.args.log.now.end.told) (g.D.Disk.state c.args.disk.now) (g.D.Disk.state c.make_files.new.disk)
 made g c =
     let path = folder_of c.args.names.now in
     let log = c.args.log.now in
@@ -166,30 +112,64 @@ made g c =
       outside = outside_twice path d0 d1 d2 (outside_but_one path d0 d1 (log_of path) (log_in path) others) c.make_files.ensures.outside;
     }
 
-pub returns-in_err-make_files : goal.returns-in_err-make_files
-returns-in_err-make_files g c =
-    let so_far = made g (goal.at.returns-in_err-make_files g c).After-make_files in
-    record { settled = search rules; same = search rules; any_moment = so_far.any_moment; outside = so_far.outside; cause = search rules }
+pub returns-in_err-settle_log-clause-any_moment : goal.returns-in_err-settle_log-clause-any_moment
+returns-in_err-settle_log-clause-any_moment g c = (log_settled g (goal.at.returns-in_err-settle_log-clause-any_moment g c).After-settle_log).any_moment
 
-pub returns-in_err-settle_files-2 : goal.returns-in_err-settle_files-2
-returns-in_err-settle_files-2 g c =
-    let so_far = made g (goal.at.returns-in_err-settle_files-2 g c).After-make_files in
+pub returns-in_err-settle_log-clause-outside : goal.returns-in_err-settle_log-clause-outside
+returns-in_err-settle_log-clause-outside g c = (log_settled g (goal.at.returns-in_err-settle_log-clause-outside g c).After-settle_log).outside
+
+pub returns-in_err-settle_files-clause-any_moment : goal.returns-in_err-settle_files-clause-any_moment
+returns-in_err-settle_files-clause-any_moment g c = (then_quiet (g.D.Disk.state c.settle_files.new.disk) (log_settled g (goal.at.returns-in_err-settle_files-clause-any_moment g c).After-settle_log) c.settle_files.ensures.quiet).any_moment
+
+pub returns-in_err-settle_files-clause-outside : goal.returns-in_err-settle_files-clause-outside
+returns-in_err-settle_files-clause-outside g c = (then_quiet (g.D.Disk.state c.settle_files.new.disk) (log_settled g (goal.at.returns-in_err-settle_files-clause-outside g c).After-settle_log) c.settle_files.ensures.quiet).outside
+
+pub returns-in_err-make_files-clause-any_moment : goal.returns-in_err-make_files-clause-any_moment
+returns-in_err-make_files-clause-any_moment g c = (made g (goal.at.returns-in_err-make_files-clause-any_moment g c).After-make_files).any_moment
+
+pub returns-in_err-make_files-clause-outside : goal.returns-in_err-make_files-clause-outside
+returns-in_err-make_files-clause-outside g c = (made g (goal.at.returns-in_err-make_files-clause-outside g c).After-make_files).outside
+
+pub returns-in_err-settle_files-2-clause-any_moment : goal.returns-in_err-settle_files-2-clause-any_moment
+returns-in_err-settle_files-2-clause-any_moment g c = (then_quiet (g.D.Disk.state c.settle_files-2.new.disk) (made g (goal.at.returns-in_err-settle_files-2-clause-any_moment g c).After-make_files) c.settle_files-2.ensures.quiet).any_moment
+
+pub returns-in_err-settle_files-2-clause-outside : goal.returns-in_err-settle_files-2-clause-outside
+returns-in_err-settle_files-2-clause-outside g c = (then_quiet (g.D.Disk.state c.settle_files-2.new.disk) (made g (goal.at.returns-in_err-settle_files-2-clause-outside g c).After-make_files) c.settle_files-2.ensures.quiet).outside
+
+pub returns-then-log-gt0 : goal.returns-then-log-gt0
+returns-then-log-gt0 g c =
     let path = folder_of c.args.names.now in
+    let log = c.args.log.now in
+    let told = log.end.told in
     let d0 = g.D.Disk.state c.args.disk.now in
-    let d2 = g.D.Disk.state c.make_files.new.disk in
-    let d3 = g.D.Disk.state c.settle_files-2.new.disk in
-    let quiet = c.settle_files-2.ensures.quiet in
+    let d1 = g.D.Disk.state c.settle_log.new.disk in
+    let d2 = g.D.Disk.state c.settle_files.new.disk in
+    let others = c.settle_log.ensures.others in
+    let quiet = c.settle_files.ensures.quiet in
+    let run = then_quiet d2 (log_settled g (goal.at.returns-then-log-gt0 g c).After-settle_log) quiet in
+    let m = messages_of path told.number in
+    let k = keys_of path told.number in
     record {
-      settled = search rules;
-      same = search rules;
-      any_moment = λ h3. then_nothing d0 d2 d3 (StandsOrWasLeft path d0 (base_at d0 path c.args.log.now.end.told)) (so_far.any_moment (quiet.honest h3)) quiet;
-      outside = outside_twice path d0 d2 d3 so_far.outside (outside_quiet path d2 d3 quiet);
+      settled = λ h2.
+          let h1 = quiet.honest h2 in
+          let h0 = others.honest h1 in
+          let base = base_at d0 path told in
+          let some : log.end.gate ≢ 0 = λ none. absurd (omega (arith, none, c.if-log-gt0.true)) in
+          let tells = end_tells log.bytes.items log.end c.requires.log.read path d0.seen (c.requires.log.same h0) base (c.requires.stands h0) in
+          let has = has_files log.bytes.items log.end c.requires.log.read path d0.seen (c.requires.log.same h0) base (c.requires.stands h0) some in
+          files_settled d1 d2 path log.end (c.in_ok-settle_log.ensures.log h1) quiet tells.digit (files_beside d0 d1 path told others has)
+          (others.alone m (messages_not_log path told.number) (c.requires.alone h0 m (messages_in path told.number)))
+          (others.alone k (keys_not_log path told.number) (c.requires.alone h0 k (keys_in path told.number)))
+          (subst (λ (l : List ℕ). d2.is_flushed l) c.requires.names.messages c.in_ok-settle_files.ensures.messages)
+          (subst (λ (l : List ℕ). d2.is_flushed l) c.requires.names.keys c.in_ok-settle_files.ensures.keys);
+      same = λ h2. same_base d0 d2 path log.end (quiet.seen m ∙ others.seen m (messages_not_log path told.number)) (quiet.seen k ∙ others.seen k (keys_not_log path told.number));
+      any_moment = run.any_moment;
+      outside = run.outside;
       cause = search rules;
     }
 
 pub returns : goal.returns
 returns g c =
-    let so_far = made g (goal.at.returns g c).After-make_files in
     let path = folder_of c.args.names.now in
     let log = c.args.log.now in
     let told = log.end.told in
@@ -198,6 +178,7 @@ returns g c =
     let d2 = g.D.Disk.state c.make_files.new.disk in
     let d3 = g.D.Disk.state c.settle_files-2.new.disk in
     let quiet = c.settle_files-2.ensures.quiet in
+    let run = then_quiet d3 (made g (goal.at.returns g c).After-make_files) quiet in
     let none = nothing_read log.bytes.items log.end c.requires.log.read (omega (arith, c.if-log-gt0.false)) in
     let files = c.in_ok-make_files.ensures.made in
     record {
@@ -211,7 +192,7 @@ returns g c =
           (subst (λ (l : List ℕ). d3.is_flushed l) c.requires.names.messages c.in_ok-settle_files-2.ensures.messages)
           (subst (λ (l : List ℕ). d3.is_flushed l) c.requires.names.keys c.in_ok-settle_files-2.ensures.keys);
       same = λ h3. subst (λ (t : CommitRecord). base_at d3 path t ≡ base_at d0 path t) (sym none) refl;
-      any_moment = λ h3. then_nothing d0 d2 d3 (StandsOrWasLeft path d0 (base_at d0 path told)) (so_far.any_moment (quiet.honest h3)) quiet;
-      outside = outside_twice path d0 d2 d3 so_far.outside (outside_quiet path d2 d3 quiet);
+      any_moment = run.any_moment;
+      outside = run.outside;
       cause = search rules;
     }
