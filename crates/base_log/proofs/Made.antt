@@ -22,14 +22,6 @@ outside_both path number d0 d1 d2 one two =
     outside_twice path d0 d1 d2 (outside_but_one path d0 d1 (messages_of path number) (messages_in path number) (but_one_call d0 d1 (messages_of path number) one))
     (outside_but_one path d1 d2 (keys_of path number) (keys_in path number) (but_one_call d1 d2 (keys_of path number) two))
 
--- those of another number are as they were
-module _ (path : List ℕ) (n number : ℕ) (other : number ≢ n) (d0 d1 d2 : DiskState) (one : Made d0 d1 (messages_of path number)) (two : Made d1 d2 (keys_of path number)) where
-  pub messages_seen : d2.seen (messages_of path n) ≡ d0.seen (messages_of path n)
-  messages_seen = two.beside (messages_of path n) (messages_not_keys path n number) ∙ one.beside (messages_of path n) (λ is. other (sym (messages_of-injective path n number is)))
-
-  pub keys_seen : d2.seen (keys_of path n) ≡ d0.seen (keys_of path n)
-  keys_seen = two.beside (keys_of path n) (λ is. other (sym (keys_of-injective path n number is))) ∙ one.beside (keys_of path n) (keys_not_messages path n number)
-
 -- a crash during the calls leaves the files that count
 module _ (d0 : DiskState) (path : List ℕ) (end : End) (rest : IsAtRest d0 path end) (number : ℕ) (other : number ≢ end.told.number) (d1 : DiskState) (one : Made d0 d1 (messages_of path number)) where
   pub messages_run : LeavesOnly d0 d1 (FilesAlone d0 path end rest)
