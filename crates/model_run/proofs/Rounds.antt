@@ -26,7 +26,6 @@ use Rattle.model_run.specs.Grave.{AllAreCarriers}
 use Rattle.model_run.specs.LawsOfRuns.{LawsOfRuns}
 use Rattle.model_run.specs.Postings.{trial_moment, trial_posting}
 use Rattle.model_run.specs.Rounds.{deliveries, round_after, scans}
-use Rattle.base_file.specs.Base.{is_known}
 use Rattle.model_run.proofs.Holders.{key-tag}
 use Rattle.model_run.proofs.HarmLists.{among-nth, none_passes, nth-below, nth-index}
 use Rattle.model_run.proofs.OneMessage.{only-posted, post_of, post_of-tag}
