@@ -67,7 +67,7 @@ files_of area first cursor number base (suc n) =
 abbrev pub first_number : ℕ → ℕ
 first_number greatest = max greatest 1 + 1
 
--- These files were made, so many of them.
+-- These files were made, and this is their number.
 pub record IsMade (files : List MessageFile) (old new : Option (List MessageFile)) (count : ℕ) : Type 0 where
   pub many : count ≡ length files
   pub got : Gets old new files
@@ -77,27 +77,28 @@ abbrev pub IsUnmade : Unexported → Type 0
 IsUnmade (Message fault) = IsOutOfMemory fault
 IsUnmade (File status) = ⊤
 
--- Why these files of a message, one or none, were not made: the message was not read or there was no memory, or the folder did not get the one file.
+-- Why the files of a message, one or none, were not made: it was not read, or there was no memory.
+-- Or the folder did not get the one file.
 abbrev pub IsUnexported : List MessageFile → List ℕ → ℕ → ℕ → Unexported → Type 0
 IsUnexported files path before now (Message fault) = IsUnread path before now fault
 IsUnexported files path before now (File status) = (file : MessageFile) × (files ≡ file ∷ [])
 
--- All messages were looked at, and the next one is behind them; or the next one is the first that has no file, for this reason.
+-- After a whole run the next message is the one after all. Else the file of the next one was not made, for this reason.
 abbrev pub EndsAt : List ℕ → ℕ → ℕ → Base → List ℕ → ℕ → ℕ → ℕ → ℕ → Option Unexported → Type 0
 EndsAt area from number base path before now seen next None = (seen ≡ length base.messages) × (next ≡ max from (length base.messages))
 EndsAt area from number base path before now seen next (Some why) =
     (next ≡ seen) × (seen < length base.messages)
     × IsUnexported (file_at area from base.cursor (number + length (files_of area from base.cursor number base.messages seen)) seen (slice_get base.messages seen)) path before now why
 
--- The files of the first messages of a base were made: of those of the area from the number `from` on.
+-- The files of the first messages of a base were made: of its messages of the area from `from` on.
 pub record IsMadeFrom (area : List ℕ) (from number : ℕ) (base : Base) (path : List ℕ) (before now : ℕ) (old new : Option (List MessageFile)) (exported : Exported) : Type 0 where
   pub seen : ℕ
   pub made_is : exported.made ≡ length (files_of area from base.cursor number base.messages seen)
   pub files_are : Gets old new (files_of area from base.cursor number base.messages seen)
   pub end_is : EndsAt area from number base path before now seen exported.next exported.stop
 
--- The files of the messages of a base were made: of those of the area from the number `first` on, or from behind the one that
--- is the last file of the folder. The area is asked for in letters of either case.
+-- The files for a base were made: its messages of the area from `first` on, or after the one in the folder's last file.
+-- The requested area may have letters of either case.
 pub record IsExport (area : List ℕ) (first greatest : ℕ) (last : Option (List ℕ)) (base : Base) (path : List ℕ) (before now : ℕ) (old new : Option (List MessageFile)) (exported : Exported) : Type 0 where
   pub from : ℕ
   pub from_is : from ≡ resumed (upper area) first base.cursor last base.messages (length base.messages)
