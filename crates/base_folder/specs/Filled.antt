@@ -16,6 +16,7 @@ use Rattle.base_store.specs.declared.store_error.StoreError.{StoreError}
 use Rattle.base_store.specs.declared.store_error.StoreError.TheVariants as error
 use Rattle.base_folder.specs.OpenError.{IsWrong}
 use Rattle.base_folder.specs.Source.{LooksAt, SourceState}
+use Rattle.base_folder.specs.declared.open_error.OpenError.{OpenError}
 use Rattle.base_folder.specs.declared.open_error.OpenError.TheVariants as unread
 use Rattle.base_folder.specs.declared.unfilled.UnfilledFolder.{UnfilledFolder}
 use Rattle.base_folder.specs.declared.unfilled.UnfilledFolder.TheVariants as unfilled
@@ -36,11 +37,10 @@ pub record AddsOnly {T E : Type 0} (old new : Folder) (before after : DiskState)
   pub same : Honestly after (OnOk result (committed_by after new ≡ committed_by before old))
   pub run : StagesOnly (path_of old) (committed_by before old) before after
 
--- The source of messages was honest, and has the messages of this base.
+-- The source of messages was honest, and its messages are those of this base.
 pub record ShowsBase (old new : SourceState) (base : Base) : Type 0 where
   pub honest : new.is_honest
   pub holds : old.holds base
-  pub count : old.count ≡ length base.messages
   pub is : IsBase base.messages base.cursor
 
 -- It is no damage of the messages.
@@ -96,14 +96,18 @@ pub record IsFilledFull {D : Type 0} (state : D → DiskState) (keyed : ℕ → 
   pub full : LacksNext keyed (state disk) folder base.messages ⊎ (HoldsBase keyed (held_by (state disk) folder) base × IsFull folder)
 
 -- A fault of the store, as one of the folder.
-abbrev pub unfilled_cause : StoreError → UnfilledFolder
-unfilled_cause error.Memory = unfilled.Folder unread.Memory
-unfilled_cause error.Device = unfilled.Folder unread.Device
-unfilled_cause error.Damaged = unfilled.Folder unread.Memory
-unfilled_cause error.TooMany = unfilled.Folder (unread.Wrong fault.TooMany)
+abbrev pub unfilled_cause : StoreError → OpenError
+unfilled_cause error.Memory = unread.Memory
+unfilled_cause error.Device = unread.Device
+unfilled_cause error.Damaged = unread.Memory
+unfilled_cause error.TooMany = unread.Wrong fault.TooMany
 
--- Four bytes do not count what it is to be filled with, or something is wrong with it, or with the messages.
+-- Something is wrong with the messages or the folder, or four bytes do not count what the folder is to be filled with.
 abbrev pub IsUnfilled : Bool → List ℕ → Files → UnfilledFolder → Type 0
 IsUnfilled strange path files (unfilled.Messages why) = Unit {0}
-IsUnfilled strange path files (unfilled.Folder (unread.Wrong fault.TooMany)) = Unit {0}
-IsUnfilled strange path files (unfilled.Folder why) = IsWrong strange path files why
+IsUnfilled strange path files (unfilled.Folder why) = (why ≡ unread.Wrong fault.TooMany) ⊎ IsWrong strange path files why
+
+-- An error of a call on the open folder. The files of the folder are not wrong.
+pub record HasFillCause {T : Type 0} (before now : ℕ) (result : Result T UnfilledFolder) : Type 0 where
+  pub cause : HasUnfilledCause before now result
+  pub sound : (strange : Bool) (path : List ℕ) (files : Files) → IfErr result (IsUnfilled strange path files)

@@ -12,10 +12,11 @@ ghost use Rattle.base_folder_store.specs.Held.{HoldsBase, StandsForBase};
 ghost use Rattle.base_folder_store.specs.Opened.{committed_by, held_by, path_of};
 ghost use Rattle.base_folder_store.specs.Owned.{with_mark};
 ghost use Rattle.base_folder_store.specs.State.{IsUsable};
-ghost use Rattle.base_folder.specs.Filled.{AddsOnly, HasUnfilledCause, HoldsFront, HoldsMore, IsFilledFull, IsKept, IsUnfilled, ReadsFor, ShowsBase, StandsForOneOf, StandsForOneOfOrWasLeft, no_messages};
+ghost use Rattle.base_folder.specs.Filled.{AddsOnly, HasFillCause, HasUnfilledCause, HoldsFront, HoldsMore, IsFilledFull, IsKept, IsUnfilled, ReadsFor, ShowsBase, StandsForOneOf, StandsForOneOfOrWasLeft, no_messages};
 ghost use Rattle.base_folder.specs.Ours.{SameKey};
 
 use crate::as_file::fault_of;
+use crate::open_error::OpenError;
 use crate::opening::open_base;
 use crate::source::MessageSource;
 use crate::unfilled::UnfilledFolder;
@@ -63,7 +64,7 @@ fn add_next<D: Disk, H: Digest, M: MessageSource>(
         → HoldsFront H.keyed (held_by (D.state disk.old) folder.old) base.messages place cursor
         → OnOk result (HoldsFront H.keyed (held_by (D.state disk.new) folder.new) base.messages (place + 1) cursor)) }
     ensures reads { ReadsFor (M.state messages.old) (M.state messages.new) result }
-    ensures cause { HasUnfilledCause (D.failures disk.old) (D.failures disk.new) result }
+    ensures cause { HasFillCause (D.failures disk.old) (D.failures disk.new) result }
     ensures many { (base : Base) → ShowsBase (M.state messages.old) (M.state messages.new) base → IsErrOf result (UnfilledFolder.Folder (OpenError.Wrong BaseFault.TooMany))
         → (m : TheMessage) × (slice_get base.messages place ≡ Some m) × (HasRoomFor folder.old m → ⊥) }
 {
@@ -96,7 +97,7 @@ fn add_from<D: Disk, H: Digest, M: MessageSource>(
         → HoldsFront H.keyed (held_by (D.state disk.old) folder.old) base.messages from cursor
         → OnOk result (HoldsFront H.keyed (held_by (D.state disk.new) folder.new) base.messages to cursor)) }
     ensures reads { ReadsFor (M.state messages.old) (M.state messages.new) result }
-    ensures cause { HasUnfilledCause (D.failures disk.old) (D.failures disk.new) result }
+    ensures cause { HasFillCause (D.failures disk.old) (D.failures disk.new) result }
     ensures many { Honestly (D.state disk.new) ((base : Base) (cursor : ℕ) → ShowsBase (M.state messages.old) (M.state messages.new) base
         → HoldsFront H.keyed (held_by (D.state disk.old) folder.old) base.messages from cursor
         → IsErrOf result (UnfilledFolder.Folder (OpenError.Wrong BaseFault.TooMany)) → IsFilledFull D.state H.keyed (path_of folder.old) base) }
@@ -121,7 +122,7 @@ fn add_all<D: Disk, H: Digest, M: MessageSource>(
         → HoldsFront H.keyed (held_by (D.state disk.old) folder.old) base.messages 0 0
         → OnOk result (HoldsBase H.keyed (held_by (D.state disk.new) folder.new) base)) }
     ensures reads { ReadsFor (M.state messages.old) (M.state messages.new) result }
-    ensures cause { HasUnfilledCause (D.failures disk.old) (D.failures disk.new) result }
+    ensures cause { HasFillCause (D.failures disk.old) (D.failures disk.new) result }
     ensures many { Honestly (D.state disk.new) ((M.state messages.new).is_honest → (base : Base) → (M.state messages.old).holds base
         → HoldsFront H.keyed (held_by (D.state disk.old) folder.old) base.messages 0 0
         → IsErrOf result (UnfilledFolder.Folder (OpenError.Wrong BaseFault.TooMany)) → IsFilledFull D.state H.keyed (path_of folder.old) base) }
@@ -153,7 +154,7 @@ fn fill_opened<D: Disk, H: Digest, M: MessageSource>(
         → LeavesOnly (D.state disk.old) (D.state disk.new) (StandsForOneOf H.keyed (path_of folder.old) (D.state disk.old) first base)) }
     ensures outside { KeepsOutside (path_of folder.old) (D.state disk.old) (D.state disk.new) }
     ensures reads { ReadsFor (M.state messages.old) (M.state messages.new) result }
-    ensures cause { HasUnfilledCause (D.failures disk.old) (D.failures disk.new) result }
+    ensures cause { HasFillCause (D.failures disk.old) (D.failures disk.new) result }
     ensures many { Honestly (D.state disk.new) ((M.state messages.new).is_honest → (base : Base) → (M.state messages.old).holds base
         → HoldsFront H.keyed (held_by (D.state disk.old) folder.old) base.messages 0 0
         → IsErrOf result (UnfilledFolder.Folder (OpenError.Wrong BaseFault.TooMany)) → IsFilledFull D.state H.keyed (path_of folder.old) base) }

@@ -29,8 +29,9 @@ impl From<OpenError> for UnfilledFolder {
 impl From<StoreError> for UnfilledFolder {
     ghost use Rattle.std.specs.Prelude.{◌≡◌};
     ghost use Rattle.base_folder.specs.Filled.{unfilled_cause};
+    ghost use Rattle.base_folder.specs.declared.unfilled.UnfilledFolder.TheVariants as unfilled;
 
-    ghost from_gives = { λ cause e. e ≡ unfilled_cause cause };
+    ghost from_gives = { λ cause e. e ≡ unfilled.Folder (unfilled_cause cause) };
 
     fn from(cause: StoreError) -> UnfilledFolder {
         UnfilledFolder::Folder(match cause {

@@ -20,7 +20,7 @@ use std::io;
 const OWN: &str = "base";
 
 /// `convert FROM TO`: FROM is read first. TO is an empty folder, or a path that nothing has. If FROM is a folder, one
-/// message at a time is in memory.
+/// message at a time is in memory. Before a folder TO is filled, FROM is read to its end, so a fault leaves TO empty.
 pub fn run_convert<'a, W: Sink>(
     rt: &HostRuntime,
     from: &'a str,
@@ -31,6 +31,9 @@ pub fn run_convert<'a, W: Sink>(
     if is_folder(rt, from) {
         let messages = look_into(rt, from, 0, None)?;
         let mut messages = Distinct::new(rt.alloc(), messages, hasher);
+        if is_folder(rt, to) {
+            judge_messages(rt, from, &mut messages)?;
+        }
         return convert_messages(rt, from, &mut messages, to, out);
     }
     let mut messages = BaseReader::read(rt.alloc(), &read_file(rt, from, usize::MAX)?, hasher)?;
@@ -48,7 +51,6 @@ fn convert_messages<'a, M: MessageSource, W: Sink>(
     requires { (M.state messages.old).is_ready }
 {
     if is_folder(rt, to) {
-        judge_messages(rt, from, messages)?;
         fill_empty(rt, from, messages, to)?;
     } else {
         save_file(rt, from, messages, to)?;
@@ -56,7 +58,7 @@ fn convert_messages<'a, M: MessageSource, W: Sink>(
     print_converted(rt, messages.count(), messages.cursor(), out)
 }
 
-// Reads the messages to the end, and reports the first fault. So an empty folder with a wrong source stays empty.
+// Reads the messages to the end, and reports the first fault.
 fn judge_messages<'a, M: MessageSource>(
     rt: &HostRuntime,
     from: &'a str,
