@@ -79,7 +79,7 @@ fills_run keyed path d f before now first next was is run =
     (λ (h : StandsFor path before c). inl (record { outside = left.outside; stands = record { bytes = before; stands = h; holds = was } }))
     (λ (h : StandsFor path now c). inr (record { outside = left.outside; stands = record { bytes = now; stands = h; holds = is } })) left.stands)
 
--- a folder at rest keeps the base that was committed
+-- a folder at rest keeps the committed base
 pub filled_is_kept : (keyed : ℕ → ℕ → List ℕ → ℕ) (path : List ℕ) (d : DiskState) (f : Folder) (base : Base) → path_of f ≡ path → IsAtRest d (path_of f) f.end → HoldsBase keyed (committed_by d f) base → IsKept keyed path d base
 filled_is_kept keyed path d f base at rest holds =
     subst (λ (p : List ℕ). IsKept keyed p d base) at
@@ -88,7 +88,7 @@ filled_is_kept keyed path d f base at rest holds =
       stays = λ c left. record { bytes = committed_by d f; stands = rest_stands d (path_of f) f.end rest c left; holds = holds };
     })
 
--- what a crash leaves of a folder that was opened, and of one that was filled then
+-- the files that a crash leaves while a folder is opened and then filled
 pub opened_run : (keyed : ℕ → ℕ → List ℕ → ℕ) (path : List ℕ) (d e : DiskState) (first next : Base) → LeavesOnly d e (StandsForBaseOrWasLeft keyed path d first) → LeavesOnly d e (StandsForOneOfOrWasLeft keyed path d first next)
 opened_run keyed path d e first next run =
     weaker_run d e (StandsForBaseOrWasLeft keyed path d first) (StandsForOneOfOrWasLeft keyed path d first next) run

@@ -13,7 +13,7 @@ use Rattle.base_folder_store.specs.Opened.{held_by}
 use Rattle.base_folder_store.specs.State.{IsIndexed}
 use Rattle.base_folder_store.specs.declared.folder.Folder.{Folder}
 
--- an index of what is held is one of the same
+-- an index of the folder's bytes is one of equal bytes
 pub indexed_held : (d e : DiskState) (f g : Folder) (i : Index) → held_by e g ≡ held_by d f → IsIndexOf (held_by d f).keys i → IsIndexOf (held_by e g).keys i
 indexed_held d e f g i same is = subst (λ (b : BaseBytes). IsIndexOf b.keys i) (sym same) is
 
@@ -25,7 +25,7 @@ indexed_more d e f g i (Ok done) bytes digest staged back indexed =
     λ honest. subst (λ (b : BaseBytes). IsIndexOf b.keys i) (sym (staged honest)) (index_stays (held_by d f).keys more i (indexed (back honest)))
 indexed_more d e f g i (Err failed) bytes digest staged back indexed = tt
 
--- and one of keys to which nothing was added
+-- an index remains one if no key was added
 pub indexed_same : {T : Type 0} (d e : DiskState) (f g : Folder) (i : Index) (r : Result T StoreError) → Honestly e (OnOk r (held_by e g ≡ held_by d f))
     → (e.is_honest → d.is_honest) → IsIndexed d f i → OnOk r (IsIndexed e g i)
 indexed_same d e f g i (Ok done) same back indexed = λ honest. indexed_held d e f g i (same honest) (indexed (back honest))
