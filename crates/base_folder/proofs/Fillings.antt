@@ -182,12 +182,12 @@ reads_fault a b i e why P is looks cause answers =
       looks = looks;
       later = cause.later;
       failed = λ read. cause.failed (failed_read i e read);
-      whole = λ honest base holds. undamaged i e (answers_give (λ x. P base) (λ x. Unit {0}) (λ x p. tt) (Err e) (answers honest base holds));
+      whole = λ honest base holds. undamaged i e (answers_give {T = Unit {0}} (λ x. P base) (λ x. Unit {0}) (λ x p. tt) (Err e) (answers honest base holds));
     })
 
 -- No message that was read is missing.
-pub none_missing : (a b : SourceState) (base : Base) (i : ℕ) (o : Option Filed) → o ≡ None → o ≡ b.at_hand → b.at_hand ≡ slice_get base.messages i → i < a.count → a.holds base → ⊥
-none_missing a b base i o none hand got within holds =
+pub none_missing : (a b : SourceState) (base : Base) (i : ℕ) → None ≡ b.at_hand → b.at_hand ≡ slice_get base.messages i → i < a.count → a.holds base → ⊥
+none_missing a b base i hand got within holds =
     let there = there base.messages i (omega (arith, within, a.counted base holds)) in
     cc
 
@@ -212,12 +212,12 @@ cause_stored a b e r same cause = record {
 }
 
 pub cause_opened : {T U : Type 0} (a b : ℕ) (why : OpenError) (r : Result T UnfilledFolder) → IsErrAnd r (λ x. x ≡ unfilled.Folder why) → HasUnreadCause {T = U} a b (Err why) → HasUnfilledCause a b r
-cause_opened {T} {U} a b why r same cause = record {
+cause_opened a b why r same cause = record {
   later = cause.later;
   failed = λ is.
       let err = handed_on {U = Unit {0}} (unfilled.Folder why) (unfilled.Folder unread.Device) r same is in
       let device : why ≡ unread.Device = cc (err) in
-      cause.failed (ap (λ (w : OpenError). Err {T = U} w) device);
+      cause.failed (ap (λ (w : OpenError). Err w) device);
 }
 
 pub cause_since : {U : Type 0} (a b c : ℕ) (two : Result U UnfilledFolder) → a ≤ b → HasFillCause b c two → HasFillCause a c two

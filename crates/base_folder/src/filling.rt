@@ -71,12 +71,13 @@ fn add_next<D: Disk, H: Digest, M: MessageSource>(
     if let Err(error) = messages.fetch(place) {
         return Err(UnfilledFolder::Messages(fault_of(error, place)));
     }
-    let Some(message) = messages.at_hand() else {
-        let message = place as u64;
-        return Err(UnfilledFolder::Messages(BaseFault::Damaged { message }));
-    };
-    add::<D, H>(alloc, disk, folder, message)?;
-    Ok(())
+    match messages.at_hand() {
+        Some(message) => Ok(add::<D, H>(alloc, disk, folder, message)?),
+        None => {
+            let message = place as u64;
+            Err(UnfilledFolder::Messages(BaseFault::Damaged { message }))
+        }
+    }
 }
 
 // Adds the messages from one number up to another.

@@ -55,3 +55,13 @@ returns-clause-many g c = λ honest source base holds was is.
     let later = shows_later (g.M.MessageSource.state c.args.messages.now) (g.M.MessageSource.state c.add_from.new.messages) (g.M.MessageSource.state c.add_from-2.new.messages) base c.in_ok-add_from.ensures.reads.looks shown in
     full_at g.D.Disk.state g.H.Digest.keyed _ _ base (scanned g after).path
     (c.add_from-2.ensures.many honest base base.cursor later (front g after (c.add_from-2.ensures.kept.run.outside.honest honest) base before was) is)
+
+pub add_from-requires-2-clause-usable : goal.add_from-requires-2-clause-usable
+add_from-requires-2-clause-usable g c =
+    let kept = adds_end c.args.folder.now c.add_from.new.folder c.move_to_end.new.self (g.D.Disk.state c.args.disk.now) (g.D.Disk.state c.add_from.new.disk) c.move_to_end.ensures c.in_ok-add_from.ensures.kept in
+    record { named = kept.named; opened = kept.opened }
+
+pub returns-in_err-add_from-clause-many : goal.returns-in_err-add_from-clause-many
+returns-in_err-add_from-clause-many g c = λ honest source base holds was is.
+    let shown : ShowsBase (g.M.MessageSource.state c.args.messages.now) (g.M.MessageSource.state c.add_from.new.messages) base = record { honest = source; holds = holds; is = c.count-count.ensures.base base holds } in
+    c.in_err-add_from.ensures.many honest base 0 shown was (handed_on c.in_err-add_from.field-0.0 _ c.from_residual.result c.from_residual.ensures.1 is)

@@ -1,4 +1,4 @@
-use Rattle.std.proofs.Common.{◌≡◌, ℕ, Result, Ok, inl, subst, arith}
+use Rattle.std.proofs.Common.{◌≡◌, ℕ, Result, Ok, Err, inl, subst, arith}
 use Rattle.base_folder_store.specs.Opened.{held_by}
 use Rattle.base_folder_store.proofs.Causes.{handed_on}
 use Rattle.base_folder.specs.Filled.{AddsOnly, HasFillCause, HoldsFront, ReadsFor, ShowsBase}
@@ -45,22 +45,22 @@ pub returns-in_err-add_next-clause-kept : goal.returns-in_err-add_next-clause-ke
 returns-in_err-add_next-clause-kept g c =
     let d = g.D.Disk.state c.args.disk.now in
     let k = g.D.Disk.state c.add_next.new.disk in
-    by_error (λ (r : Result (Unit {0}) UnfilledFolder). AddsOnly c.args.folder.now c.add_next.new.folder d k r) _ c.from_residual.result c.from_residual.ensures.1
-    (adds_twice c.args.folder.now c.messages.folder c.add_next.new.folder d (g.D.Disk.state c.messages.disk) k _ c.messages.invariant.kept c.in_err-add_next.ensures.kept)
+    by_error (λ (r : Result (Unit {0}) UnfilledFolder). AddsOnly c.args.folder.now c.add_next.new.folder d k r) c.in_err-add_next.field-0.0 c.from_residual.result c.from_residual.ensures.1
+    (adds_twice c.args.folder.now c.messages.folder c.add_next.new.folder d (g.D.Disk.state c.messages.disk) k (Err c.in_err-add_next.field-0.0) c.messages.invariant.kept c.in_err-add_next.ensures.kept)
 
 pub returns-in_err-add_next-clause-reads : goal.returns-in_err-add_next-clause-reads
 returns-in_err-add_next-clause-reads g c =
     let a = g.M.MessageSource.state c.args.messages.now in
     let z = g.M.MessageSource.state c.add_next.new.messages in
-    by_error (λ (r : Result (Unit {0}) UnfilledFolder). ReadsFor a z r) _ c.from_residual.result c.from_residual.ensures.1
-    (reads_twice a (g.M.MessageSource.state c.messages.messages) z _ c.messages.invariant.reads c.in_err-add_next.ensures.reads)
+    by_error (λ (r : Result (Unit {0}) UnfilledFolder). ReadsFor a z r) c.in_err-add_next.field-0.0 c.from_residual.result c.from_residual.ensures.1
+    (reads_twice a (g.M.MessageSource.state c.messages.messages) z (Err c.in_err-add_next.field-0.0) c.messages.invariant.reads c.in_err-add_next.ensures.reads)
 
 pub returns-in_err-add_next-clause-cause : goal.returns-in_err-add_next-clause-cause
 returns-in_err-add_next-clause-cause g c =
     let a = g.D.Disk.failures c.args.disk.now in
     let z = g.D.Disk.failures c.add_next.new.disk in
-    by_error (λ (r : Result (Unit {0}) UnfilledFolder). HasFillCause a z r) _ c.from_residual.result c.from_residual.ensures.1
-    (cause_since a (g.D.Disk.failures c.messages.disk) z _ c.messages.invariant.cause c.in_err-add_next.ensures.cause)
+    by_error (λ (r : Result (Unit {0}) UnfilledFolder). HasFillCause a z r) c.in_err-add_next.field-0.0 c.from_residual.result c.from_residual.ensures.1
+    (cause_since a (g.D.Disk.failures c.messages.disk) z (Err c.in_err-add_next.field-0.0) c.messages.invariant.cause c.in_err-add_next.ensures.cause)
 
 pub returns-in_err-add_next-clause-many : goal.returns-in_err-add_next-clause-many
 returns-in_err-add_next-clause-many g c = λ honest base cursor shows front is.

@@ -73,3 +73,6 @@ returns-in_err-commit-clause-many g c = λ honest source base holds front is.
         c.in_err-commit.ensures.many (many_stored c.in_err-commit.field-0.0 c.from_residual-in_err-commit.result c.from_residual-in_err-commit.ensures.1 is),
       );
     }
+
+pub returns-in_err-add_all-clause-many : goal.returns-in_err-add_all-clause-many
+returns-in_err-add_all-clause-many g c = λ honest source base holds front is. c.in_err-add_all.ensures.many honest source base holds front (handed_on c.in_err-add_all.field-0.0 _ c.from_residual.result c.from_residual.ensures.1 is)
