@@ -1,5 +1,5 @@
 -- A folder filled with the messages of a base, one after another.
-use Rattle.std.proofs.Common.{◌≡◌, ◌≤◌, ◌<◌, ◌+◌, ℕ, List, [], Option, Some, None, length, take, false, inl, inr, ⊎_elim, Bool, Result, Ok, Err, refl, sym, ap, subst, ◌∙◌, arith}
+use Rattle.std.proofs.Common.{◌≡◌, ◌≤◌, ◌<◌, ◌+◌, ℕ, List, [], Some, None, length, take, false, inl, inr, ⊎_elim, Bool, Result, Ok, Err, refl, sym, ap, subst, ◌∙◌, arith}
 use Rattle.std.specs.Prelude.{IfErr, IsErrAnd, IsErrOf, slice_get}
 use Rattle.std.proofs.lemmas.List.{length-take-le, take_all}
 use Rattle.std.proofs.lemmas.Option.{get_or_from_slice_get, slice_get_within}
@@ -8,8 +8,7 @@ use Rattle.disk_io.specs.Disk.{DiskState, Files}
 use Rattle.disk_io.specs.Runs.{LeavesOnly}
 use Rattle.disk_io.proofs.Moments.{then_run, weaker_run}
 use Rattle.base_log.specs.AtRest.{IsAtRest}
-use Rattle.base_log.specs.Moments.{IsBeforeOrAfter, KeepsOutside, SameOutside, StandsAlone}
-use Rattle.base_log.proofs.Gates.{outside_twice}
+use Rattle.base_log.specs.Moments.{IsBeforeOrAfter, KeepsOutside, StandsAlone}
 use Rattle.base_log.proofs.Rested.{rest_same, rest_stands}
 use Rattle.echo_filed.specs.Filed.{Filed, key_of}
 use Rattle.base_log.specs.Standing.{BaseBytes, StandsFor}

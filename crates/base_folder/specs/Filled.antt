@@ -1,5 +1,5 @@
 -- Filling a base folder with messages.
-use Rattle.std.specs.Prelude.{◌≡◌, ◌≤◌, ◌⊎◌, ℕ, Bool, List, [], false, length, take, Some, slice_get, Result, IfErr, IsErrOf, OnOk}
+use Rattle.std.specs.Prelude.{◌≡◌, ◌≤◌, ◌⊎◌, ℕ, Bool, List, [], false, take, Some, slice_get, Result, IfErr, IsErrOf, OnOk}
 use Rattle.base_file.specs.Base.{Base, IsBase, is_known}
 use Rattle.echo_filed.specs.Filed.{Filed, key_of}
 use Rattle.base_log.specs.Standing.{BaseBytes}

@@ -1,11 +1,11 @@
-use Rattle.std.proofs.Common.{◌≡◌, ◌∙◌, ℕ, Result, Ok, arith}
+use Rattle.std.proofs.Common.{◌≡◌, Ok, arith}
 use Rattle.std.proofs.lemmas.Result.{on_ok_weaker}
 use Rattle.base_file.specs.Base.{Base}
 use Rattle.base_folder_store.specs.Opened.{held_by}
 use Rattle.base_folder_store.proofs.Causes.{handed_on}
-use Rattle.base_folder.specs.Filled.{AddsOnly, HasFillCause, HoldsFront, ReadsFor, ShowsBase}
+use Rattle.base_folder.specs.Filled.{AddsOnly, HoldsFront, ShowsBase}
 use Rattle.base_folder.specs.declared.unfilled.UnfilledFolder.{UnfilledFolder}
-use Rattle.base_folder.proofs.Fillings.{adds_end, adds_twice, by_error, cause_since, front_all, front_scanned, full_at, reads_twice, shows_before, shows_later}
+use Rattle.base_folder.proofs.Fillings.{adds_end, adds_twice, cause_since, front_all, front_scanned, full_at, reads_twice, shows_before, shows_later}
 use Rattle.base_folder.proofs.filling.add_all.Given as given
 use Rattle.base_folder.proofs.filling.add_all.Goals.{After-add_from-2}
 use Rattle.base_folder.proofs.filling.add_all.Goals as goal

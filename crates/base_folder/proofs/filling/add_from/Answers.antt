@@ -1,7 +1,7 @@
 use Rattle.std.proofs.Common.{◌≡◌, ℕ, Result, Ok, Err, inl, subst, arith}
 use Rattle.base_folder_store.specs.Opened.{held_by}
 use Rattle.base_folder_store.proofs.Causes.{handed_on}
-use Rattle.base_folder.specs.Filled.{AddsOnly, HasFillCause, HoldsFront, ReadsFor, ShowsBase}
+use Rattle.base_folder.specs.Filled.{AddsOnly, HasFillCause, HoldsFront, ReadsFor}
 use Rattle.base_folder.specs.declared.unfilled.UnfilledFolder.{UnfilledFolder}
 use Rattle.base_folder.proofs.Fillings.{adds_none, adds_twice, by_error, cause_since, reads_none, reads_twice, shows_before, shows_later}
 use Rattle.base_folder.proofs.filling.add_from.Goals as goal

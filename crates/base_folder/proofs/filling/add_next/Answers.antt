@@ -1,9 +1,7 @@
-use Rattle.std.proofs.Common.{◌≡◌, ◌∙◌, Some, Err, sym, arith}
+use Rattle.std.proofs.Common.{◌≡◌, ◌∙◌, Some, sym}
 use Rattle.std.specs.Prelude.{slice_get}
-use Rattle.std.proofs.lemmas.Result.{on_ok_weaker}
 use Rattle.base_folder_store.specs.Opened.{held_by}
-use Rattle.base_folder.specs.Filled.{HoldsMore, unfilled_cause}
-use Rattle.base_folder.specs.declared.unfilled.UnfilledFolder.TheVariants as unfilled
+use Rattle.base_folder.specs.Filled.{unfilled_cause}
 use Rattle.base_folder.proofs.Fillings.{adds_failed, adds_none, cause_stored, front_one, many_stored, none_missing, reads_fault, reads_folder}
 use Rattle.base_folder.proofs.filling.add_next.Goals as goal
 

@@ -1,12 +1,9 @@
-use Rattle.std.proofs.Common.{◌≡◌, ◌∙◌, List, ℕ, Result, OnOk, ap, arith, inr, subst}
-use Rattle.disk_io.specs.Disk.{Honestly}
+use Rattle.std.proofs.Common.{◌≡◌, ◌∙◌, List, ℕ, OnOk, ap, arith, inr, subst}
 use Rattle.base_log.specs.Moments.{KeepsOutside}
 use Rattle.base_log.proofs.Gates.{outside_twice}
 use Rattle.base_folder_store.specs.Held.{HoldsBase, StandsForBase}
 use Rattle.base_folder_store.specs.Opened.{committed_by, held_by, path_of}
-use Rattle.base_folder.specs.Filled.{HoldsFront, IsKept, IsUnfilled, no_messages}
-use Rattle.base_folder.specs.Source.{LooksAt}
-use Rattle.base_folder.specs.declared.unfilled.UnfilledFolder.{UnfilledFolder}
+use Rattle.base_folder.specs.Filled.{IsKept, IsUnfilled, no_messages}
 use Rattle.base_folder.specs.declared.unfilled.UnfilledFolder.TheVariants as unfilled
 use Rattle.base_folder.proofs.Fillings.{cause_opened, cause_since, fill_run, full_at, never_many, opened_run, reads_folder}
 use Rattle.base_folder.proofs.Lookings.{err_is}

@@ -1,4 +1,4 @@
-use Rattle.std.proofs.Common.{◌≡◌, ◌∙◌, inr, refl, sym, subst}
+use Rattle.std.proofs.Common.{◌∙◌, inr, refl, sym, subst}
 use Rattle.base_log.specs.Standing.{BaseBytes}
 use Rattle.base_folder_store.specs.Calls.{CommitsOnly}
 use Rattle.base_folder_store.specs.Held.{HoldsBase}
