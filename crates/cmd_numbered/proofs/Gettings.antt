@@ -1,9 +1,8 @@
--- Files that a folder gets one after another.
-use Rattle.std.proofs.Common.{◌≡◌, ◌≤◌, ℕ, Bool, true, List, [], ◌∷◌, ◌++◌, ◌∙◌, ap, sym, append_assoc, append-nil, inl, subst, Option, Some, None, Result, Ok, Err}
+-- The files of messages, and why they were not made.
+use Rattle.std.proofs.Common.{◌≡◌, ◌≤◌, ℕ, Bool, true, List, [], ◌∷◌, ◌∙◌, ap, sym, inl, subst, Option, Some, None, Result, Ok, Err}
 use Rattle.std.specs.Prelude.{if◌then◌else◌}
 use Rattle.std.specs.Result.{IfErr}
 use Rattle.echo_filed.specs.Filed.{Filed}
-use Rattle.cmd_numbered.specs.Folders.{Gets}
 use Rattle.base_file.specs.Base.{Base}
 use Rattle.base_folder.proofs.Fetchings.{unread_since}
 use Rattle.cmd_numbered.specs.Numbered.{EndsAt, IsMadeFrom, IsUnexported, IsUnmade, file_at, file_of, is_exported}
@@ -11,16 +10,6 @@ use Rattle.cmd_numbered.specs.declared.folder.MessageFile.{MessageFile}
 use Rattle.cmd_numbered.specs.declared.numbering.Exported.{Exported}
 use Rattle.cmd_numbered.specs.declared.numbering.Unexported.{Unexported}
 use Rattle.cmd_numbered.specs.declared.numbering.Unexported.TheVariants.{File, Message}
-
-pub gets_none : (before : Option (List MessageFile)) → Gets before before []
-gets_none None = tt
-gets_none (Some files) = sym (append-nil files)
-
-pub gets_more : (first before now : Option (List MessageFile)) (some more : List MessageFile) → Gets first before some → Gets before now more → Gets first now (some ++ more)
-gets_more None before now some more one two = tt
-gets_more (Some xs) None now some more one two = absurd one
-gets_more (Some xs) (Some ys) None some more one two = absurd two
-gets_more (Some xs) (Some ys) (Some zs) some more one two = two ∙ ap (λ (l : List MessageFile). l ++ more) one ∙ append_assoc xs some more
 
 -- the one file of a message that is exported
 pub one_file : (area : List ℕ) (first cursor number i : ℕ) (m : Filed) (found : Option Filed) (is : Bool) → Some m ≡ found → is ≡ is_exported area first cursor i m → is ≡ true
