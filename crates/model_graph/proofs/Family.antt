@@ -1,5 +1,5 @@
 -- If links are parted, they keep to the family that a search by levels gives.
-use Rattle.std.proofs.Common.{◌≡◌, ◌≢◌, ◌⊎◌, inl, inr, refl, sym, subst, ap, ℕ, zero, suc, ◌<◌, ◌≤◌, arith, Bool, IsTrue, [], ◌∷◌, ◌∙◌, le_antisymm, Option, List, length, get_or, ◌+◌}
+use Rattle.std.proofs.Common.{◌≡◌, ◌≢◌, ◌⊎◌, inl, inr, refl, sym, subst, ap, ℕ, zero, suc, ◌<◌, ◌≤◌, arith, Bool, IsTrue, [], ◌∷◌, ◌∙◌, Option, List, length, get_or, ◌+◌}
 use Rattle.std.proofs.lemmas.Bool.{cases_Bool, cases_order, both_ways, cases_eq, cases_lt}
 use Rattle.model_graph.specs.Walk.{Simple, Reaches}
 use Rattle.model_graph.specs.Beyond.{Around, Parted}

@@ -1,5 +1,5 @@
 -- Members of a list, and lists without repeats.
-use Rattle.std.proofs.Common.{◌≡◌, ◌≢◌, ◌⊎◌, inl, inr, refl, sym, subst, ℕ, zero, suc, ◌<◌, arith, length, get_or, Contains, List, [], ◌∷◌, ◌++◌, ◌∙◌, ◌≤◌, le_of_suc-le-suc, Bool, IsTrue}
+use Rattle.std.proofs.Common.{◌≡◌, ◌≢◌, ◌⊎◌, inl, inr, refl, sym, subst, ℕ, zero, suc, ◌<◌, arith, length, get_or, Contains, List, [], ◌∷◌, ◌++◌, ◌∙◌, ◌≤◌, Bool, IsTrue}
 use Rattle.std.proofs.lemmas.Bool.{cases_eq}
 use Rattle.model_graph.specs.Walk.{Among, Different, Simple, Walk, Reaches, Connected}
 use Rattle.model_graph.specs.Beyond.{Around, Beyond}

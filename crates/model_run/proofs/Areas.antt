@@ -1,18 +1,18 @@
 -- The area in link files, and the keys of its messages.
-use Rattle.std.proofs.Common.{◌≡◌, inl, inr, refl, sym, subst, ap, ◌∙◌, ℕ, IsTrue, List, [], ◌∷◌, map, Option, Some, None, arith, ◌-◌, length, cond, nat_lt, ◌≢◌, ◌⊎◌, ◌++◌}
-use Rattle.std.specs.Prelude.{Bool, true, false, bytes_eq, option_map, unwrap_or, is_some, ◌&&◌, not, nat_le, find}
-use Rattle.std.specs.List.{list_any, AllByRecursion, list_all}
+use Rattle.std.proofs.Common.{◌≡◌, inl, inr, refl, sym, subst, ap, ◌∙◌, ℕ, IsTrue, List, [], ◌∷◌, map, Option, Some, arith, nat_lt, ◌≢◌, ◌⊎◌, ◌++◌}
+use Rattle.std.specs.Prelude.{Bool, true, false, bytes_eq, is_some, ◌&&◌, not, find}
+use Rattle.std.specs.List.{AllByRecursion, list_all}
 use Rattle.echo_addr.specs.declared.address.Address.{Address}
 use Rattle.echo_addr.specs.Address.{IsAddress, net_node_of}
 use Rattle.model_graph.specs.Walk.{Among, Different}
 use Rattle.model_graph.proofs.Members.{Among-at, Among-append_cases, Among-append_left, Among-append_right, Among-from_Contains, Contains-from_Among}
 use Rattle.model_run.specs.Nets.{Tidy}
-use Rattle.echo_links.specs.Links.{Area, LinkFile, area_of, has_area, is_link, links_of, same_address, IsArea, IsFile, upper}
+use Rattle.echo_links.specs.Links.{Area, LinkFile, has_area, is_link, links_of, same_address, IsArea, IsFile, upper}
 use Rattle.echo_filed.specs.declared.key.Key.{Key}
 use Rattle.echo_filed.specs.declared.key.Key.TheVariants.{ById}
-use Rattle.echo_text.specs.Echo.{msgid_of, EchoText}
+use Rattle.echo_text.specs.Echo.{EchoText}
 use Rattle.echo_text.specs.Ids.{id_of}
-use Rattle.echo_filed.specs.Filed.{Filed, key_of, key_with}
+use Rattle.echo_filed.specs.Filed.{Filed, key_of}
 use Rattle.model_run.specs.Run.{System}
 use Rattle.model_run.specs.Orderly.{tag_of}
 use Rattle.model_run.specs.Tidy.{lists, Carries}
@@ -20,7 +20,6 @@ use Rattle.model_run.specs.AreaNets.{net_of}
 use Rattle.model_run.proofs.TosserPremises.{Laws}
 use Rattle.model_run.proofs.Lists.{not_both, and-parts, and-from, any-to, any-from, Among-map_to, Among-map_from, yes_or_no, Among-filter_from, Among-filter_to}
 use Rattle.std.specs.Char.{to_ascii_uppercase}
-use Rattle.std.specs.Int.{is_in_range}
 use Rattle.std.specs.Cmp.Lexicographic.{bytes_decides}
 use Rattle.std.proofs.lemmas.Bool.{cond-true, cond-false}
 use Rattle.std.proofs.lemmas.Bool.Decides.{nat_tests}

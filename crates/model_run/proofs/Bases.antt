@@ -10,7 +10,7 @@ use Rattle.echo_filed.specs.declared.key.Key.TheVariants.{ByContent, ById}
 use Rattle.echo_filed.specs.Filed.{Filed, key_of, key_with, same_key}
 use Rattle.base_file.specs.Base.{is_known}
 use Rattle.model_steps.specs.Posting.{has_id, posted, posting}
-use Rattle.echo_filed.specs.Stubs.{stub_of, stub_with}
+use Rattle.echo_filed.specs.Stubs.{stub_of}
 use Rattle.model_steps.specs.Purging.{purged}
 use Rattle.model_run.specs.Run.{System, filing, nth, Run, fresh, posting_at, tossing_at, scanning_at, purging_at, change, receiver, changing, scanning, taking, coming, delivery, part_delivery, after_event, start}
 use Rattle.model_run.specs.Orderly.{count, FiledUnchanged, SameContent}
@@ -26,14 +26,14 @@ use Rattle.model_steps.specs.declared.draft.Draft.{Draft}
 use Rattle.model_steps.specs.declared.stamp.Stamp.{Stamp}
 use Rattle.echo_text.specs.Ids.{id_of}
 use Rattle.model_steps.specs.Tossing.{received, tossing, sender_of}
-use Rattle.model_steps.specs.Scanning.{scanned, packets_of, packet_to, header_to, copy_to, exported, recipients, goes_to}
+use Rattle.model_steps.specs.Scanning.{scanned, packets_of, packet_to, header_to, copy_to, recipients, goes_to}
 use Rattle.model_steps.specs.Stamps.{is_stamp}
 use Rattle.echo_filed.specs.Written.{echo_of}
 use Rattle.model_run.specs.Event.{RunEvent, Posting, Scanning, Delivery, PartDelivery, Purging}
 use Rattle.model_run.specs.Fits.{FilesFit}
 use Rattle.model_steps.proofs.Posted.{posting_posted}
 use Rattle.model_steps.proofs.Received.{tossing_received}
-use Rattle.model_run.specs.Keeping.{Content, content_of}
+use Rattle.model_run.specs.Keeping.{content_of}
 use Rattle.model_run.proofs.TosserPremises as counts
 
 -- a message of the base is the filed message, or its stub

@@ -1,6 +1,6 @@
 -- The chain 0, 1, 2: it is tidy, and a false SEEN-BY hides its end.
 use Rattle.std.proofs.Common.{◌≡◌, ◌≢◌, ◌⊎◌, inl, inr, refl, sym, subst, ◌∙◌, ℕ, ◌+◌, ◌<◌, arith, IsTrue, List, [], ◌∷◌}
-use Rattle.std.specs.Prelude.{Bool, true, false, ◌&&◌, ◌||◌, ◌==◌, nat_lt}
+use Rattle.std.specs.Prelude.{Bool, ◌&&◌, ◌||◌, ◌==◌, nat_lt}
 use Rattle.std.proofs.lemmas.Bool.{ltb-true, lt-ltb, and_parts, and_from, or_cases, eq-eqb, eqb-true}
 use Rattle.model_graph.specs.Walk.{Different, Simple, Walk, Reaches}
 use Rattle.model_graph.specs.Cycle.{NoCycle}

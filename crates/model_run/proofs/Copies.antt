@@ -1,12 +1,12 @@
 -- The contents of the packets of a scan.
-use Rattle.std.proofs.Common.{◌≡◌, ◌≢◌, inl, inr, refl, sym, subst, ap, ◌∙◌, ℕ, List, [], ◌∷◌, ◌++◌, map, Option, Some, None, arith}
+use Rattle.std.proofs.Common.{◌≡◌, ◌≢◌, inl, inr, refl, sym, subst, ap, ℕ, List, [], ◌∷◌, ◌++◌, map, Option, Some, None, arith}
 use Rattle.std.specs.Prelude.{Bool, true, false, filter, not, ◌&&◌, is_none, unwrap_or, option_map}
 use Rattle.std.specs.List.{flat_map}
 use Rattle.echo_addr.specs.declared.address.Address.{Address}
 use Rattle.echo_addr.specs.declared.address.NetNode.{NetNode}
 use Rattle.echo_addr.specs.Address.{net_node_of}
 use Rattle.model_graph.specs.Walk.{Among, Different}
-use Rattle.model_graph.proofs.Members.{Among-at, Among-append_left, Among-append_right}
+use Rattle.model_graph.proofs.Members.{Among-at}
 use Rattle.echo_packet.specs.Message.{Message}
 use Rattle.echo_text.specs.Echo.{EchoText, IsEcho, msgid_of}
 use Rattle.echo_text.specs.Refusal.{text_refusal}

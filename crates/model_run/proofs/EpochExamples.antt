@@ -1,6 +1,6 @@
 -- Nets with changing link files, by computation: one that stays in order, and for each premise of the law on such nets
 -- a run that misses it and is not orderly.
-use Rattle.std.proofs.Common.{◌≡◌, ℕ, List, [], ◌∷◌, refl, codes, map, arith}
+use Rattle.std.proofs.Common.{◌≡◌, ℕ, List, [], ◌∷◌, codes, map, arith}
 use Rattle.std.specs.Prelude.{Bool, true, filter}
 use Rattle.std.specs.Fmt.{digits}
 use Rattle.echo_addr.specs.Entries.{entries, pair_of, tokens}

@@ -12,7 +12,7 @@ use Rattle.echo_filed.specs.Filed.{Filed, key_of, same_key}
 use Rattle.model_steps.specs.Scanning.{scanned, copy_to, goes_to, targets}
 use Rattle.model_steps.specs.Stamps.{is_stamp}
 use Rattle.model_run.specs.Event.{RunEvent, Posting, Scanning, Delivery, PartDelivery, Purging}
-use Rattle.model_run.specs.Run.{System, Run, after_event, after_events, change, coming, delivery, nth, part_delivery, receiver, scanning, scanning_at, destination, filing, fresh, purging_at, tossing_at, posting_at, run_of, start, taking, with_index}
+use Rattle.model_run.specs.Run.{System, Run, after_event, after_events, change, delivery, nth, part_delivery, scanning, scanning_at, destination, filing, fresh, purging_at, tossing_at, run_of, start, taking}
 use Rattle.model_run.specs.Orderly.{count, sent_count, copies, origin}
 use Rattle.model_run.specs.Exports.{Export, event_exports, export_of, exports_after, scan_exports, sent_by, IsSentCopy, exports}
 use Rattle.model_run.proofs.Lists.{yes_or_no, filter-all, filter-no, filter-none, filter-yes, Among-map_from, any-from, any-to, Among-filter_from, Among-filter_to, Among-drop, nth-among, nth-change, nth-changed, Among-map_to}
@@ -20,11 +20,10 @@ use Rattle.model_graph.specs.Walk.{Among}
 use Rattle.model_graph.proofs.Members.{Among-append_cases, Among-append_left, Among-append_right}
 use Rattle.echo_packet.specs.Message.{Message}
 use Rattle.echo_links.specs.Links.{LinkFile, same_address}
-use Rattle.model_steps.specs.Tossing.{tossing, sender_of}
+use Rattle.model_steps.specs.Tossing.{sender_of}
 use Rattle.model_run.proofs.TosserPremises.{Laws}
 use Rattle.model_run.proofs.Bases.{Kept-cursor, Kept-length, SystemOk, count-is, RunOk, event-ok, start-ok}
 use Rattle.model_run.proofs.ScanPackets.{copy-packet, scanned-copy, scanned-count, scanned-origin}
-use Rattle.model_steps.specs.Posting.{posting}
 use Rattle.model_run.specs.Fits.{FilesFit}
 use Rattle.model_run.proofs.TosserPremises as counts
 

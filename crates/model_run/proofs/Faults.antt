@@ -1,6 +1,6 @@
 -- If no carrier's posting does harm, the area is tidy. So an area is tidy, or some posting does harm.
-use Rattle.std.proofs.Common.{◌≡◌, ◌≢◌, ◌⊎◌, inl, inr, sym, subst, ap, ◌∙◌, ℕ, zero, suc, ◌<◌, arith, IsTrue, List, ◌∷◌, length, Some, [], ◌+◌, ◌≤◌, ◌++◌, map, Option, None}
-use Rattle.std.specs.Prelude.{Bool, true, false, not, if◌then◌else◌}
+use Rattle.std.proofs.Common.{◌≡◌, ◌≢◌, ◌⊎◌, inl, inr, sym, subst, ap, ◌∙◌, ℕ, zero, suc, ◌<◌, arith, IsTrue, List, ◌∷◌, length, Some, [], ◌≤◌, Option}
+use Rattle.std.specs.Prelude.{Bool, true}
 use Rattle.std.proofs.lemmas.Bool.{cases_eq, cond-true, cond-false}
 use Rattle.echo_addr.specs.declared.address.Address.{Address}
 use Rattle.echo_addr.specs.Address.{net_node_of}
@@ -11,8 +11,8 @@ use Rattle.model_graph.proofs.Cycles.{Polygons-from_Parted}
 use Rattle.model_graph.proofs.Members.{Among-cases}
 use Rattle.echo_links.specs.Links.{LinkFile, has_area, same_address}
 use Rattle.echo_filed.specs.Filed.{Filed, key_of}
-use Rattle.model_run.specs.Event.{RunEvent, Posting, Scanning, Delivery, PartDelivery, Purging}
-use Rattle.model_run.specs.Run.{nth, run_of, Run, System, after_event, change, coming, delivery, destination, fresh, posting_at, receiver, scanning, scanning_at, taking}
+use Rattle.model_run.specs.Event.{RunEvent}
+use Rattle.model_run.specs.Run.{nth, run_of, Run, System, after_event, coming, delivery, destination, receiver, scanning}
 use Rattle.model_run.specs.Tidy.{Carries, lists, Tidy}
 use Rattle.model_run.proofs.Lists.{not_both, nth-cases, yes_or_no, first_passes, nth-among, nth-change}
 use Rattle.model_run.specs.Grave.{AllAreCarriers, AreTakenForOne, AreTwins, HaveOwnAddresses, GraveFault, SelfLink, OneSided, SameNetNode, Apart, Loop}
@@ -21,7 +21,7 @@ use Rattle.model_run.proofs.Branches.{Touches, closed-by, no_way_around}
 use Rattle.model_run.proofs.Holders.{Holds, Unharmed, harm-or_none, spread, listed-sent, posting-own}
 use Rattle.model_run.specs.LawsOfRuns.{LawsOfRuns}
 use Rattle.model_run.proofs.HarmLists.{among-nth, nth-index, nth-map_from}
-use Rattle.model_run.specs.Postings.{ComesToRest, trial_posting, post_and_scan, IsMove, trial_draft, trial_moment}
+use Rattle.model_run.specs.Postings.{ComesToRest, trial_posting, post_and_scan, IsMove}
 use Rattle.model_run.proofs.Places.{carrier-file, lister-carries}
 use Rattle.model_run.proofs.Spreads.{IsNear, Spread, answered, from_poster, no_kite, not_hidden, one_or_two, reached}
 use Rattle.model_run.proofs.Targets.{some_same, none_some}
@@ -31,8 +31,6 @@ use Rattle.model_run.specs.Orderly.{Orderly, count}
 use Rattle.model_run.proofs.Resting.{runs-settle}
 use Rattle.model_steps.specs.declared.packet.Packet.{Packet}
 use Rattle.model_steps.specs.declared.stamp.Stamp.{Stamp}
-use Rattle.model_steps.specs.Scanning.{scanned}
-use Rattle.model_steps.specs.Stamps.{is_stamp}
 use Rattle.model_run.proofs.OneMessage.{post_of, post_of-tag, poster}
 use Rattle.model_run.proofs.HarmSteps.{after_one_more, along, run-files}
 

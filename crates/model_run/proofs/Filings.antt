@@ -1,10 +1,10 @@
 -- The base is the history, as the last purge left it.
 use Rattle.std.proofs.Common.{◌≡◌, refl, sym, ap, ◌∙◌, ℕ, zero, suc, ◌+◌, ◌≤◌, arith, List, [], ◌∷◌, ◌++◌, length, drop, Option, Some, None, subst, ◌⊎◌, inl, inr}
-use Rattle.std.specs.Prelude.{Bool, true, false, if◌then◌else◌, is_none, ◌||◌}
+use Rattle.std.specs.Prelude.{Bool, true, false, if◌then◌else◌}
 use Rattle.echo_addr.specs.declared.address.Address.{Address}
 use Rattle.echo_packet.specs.Message.{Message}
 use Rattle.echo_links.specs.Links.{LinkFile}
-use Rattle.echo_filed.specs.Filed.{Filed, key_of, same_key}
+use Rattle.echo_filed.specs.Filed.{Filed, key_of}
 use Rattle.echo_filed.specs.Stubs.{stub_of}
 use Rattle.echo_filed.proofs.Keys.{stub_of_stub}
 use Rattle.model_steps.specs.declared.stamp.Stamp.{Stamp}
@@ -18,13 +18,10 @@ use Rattle.std.proofs.lemmas.List.{append_assoc, append-nil}
 use Rattle.model_graph.specs.Walk.{Among}
 use Rattle.model_graph.proofs.Members.{Among-append_left, Among-append_cases, Among-append_right}
 use Rattle.model_steps.specs.declared.packet.Packet.{Packet}
-use Rattle.model_steps.specs.Scanning.{scanned}
 use Rattle.std.proofs.lemmas.Bool.{cond-true, cond-false}
 use Rattle.echo_filed.specs.declared.key.Key.{Key}
-use Rattle.echo_filed.specs.Written.{echo_of}
 use Rattle.base_file.specs.Base.{is_known}
 use Rattle.model_steps.specs.declared.draft.Draft.{Draft}
-use Rattle.model_steps.specs.declared.fault.PostFault.{PostFault}
 use Rattle.model_steps.proofs.FirstRefusals.{refusal_none}
 use Rattle.model_steps.proofs.Posted.{posting_posted}
 use Rattle.model_steps.proofs.Received.{received_tossing, tossing_received}

@@ -14,7 +14,6 @@ use Rattle.model_run.specs.Run.{System, Run, after_event, after_events, filing, 
 use Rattle.model_run.proofs.WholeRuns.{event-files, files_of, filing-file, fresh-files}
 use Rattle.model_run.proofs.Filings.{filing-from as filing-new}
 use Rattle.model_run.proofs.Targets.{some_same, none_some}
-use Rattle.model_steps.specs.declared.outcome.Outcome.TheVariants as outcome
 
 -- events one after another
 pub after-append : (events later : List RunEvent) (run : Run) → after_events run (events ++ later) ≡ after_events (after_events run events) later

@@ -1,5 +1,5 @@
 -- A system keeps its messages over all events.
-use Rattle.std.proofs.Common.{◌≡◌, inl, inr, refl, sym, subst, ap, ◌∙◌, ℕ, arith, List, [], ◌∷◌, ◌++◌, length, Option, Some, None}
+use Rattle.std.proofs.Common.{◌≡◌, inl, inr, refl, sym, subst, ℕ, arith, List, [], ◌∷◌, ◌++◌, length, Option, Some, None}
 use Rattle.std.specs.Prelude.{Bool, true, false, take, if◌then◌else◌}
 use Rattle.std.proofs.lemmas.List.{append_assoc, append-nil}
 use Rattle.echo_addr.specs.declared.address.Address.{Address}

@@ -1,9 +1,9 @@
 -- A net with one file for each address: the system of an address, and the links that it lists.
 use Rattle.std.proofs.Common.{◌≡◌, refl, sym, subst, ap, ◌∙◌, ℕ, zero, suc, IsTrue, List, [], ◌∷◌, map, Some, arith}
-use Rattle.std.specs.Prelude.{true, ◌&&◌}
+use Rattle.std.specs.Prelude.{true}
 use Rattle.echo_addr.specs.declared.address.Address.{Address}
 use Rattle.model_graph.specs.Walk.{Among, Different}
-use Rattle.echo_links.specs.Links.{LinkFile, has_area, is_link, links_of, same_address}
+use Rattle.echo_links.specs.Links.{LinkFile, has_area, is_link, links_of}
 use Rattle.echo_links.proofs.Addresses.{same_address_decides}
 use Rattle.model_run.specs.Event.{RunEvent}
 use Rattle.model_run.specs.Run.{System, nth, run_of}

@@ -16,12 +16,10 @@ use Rattle.model_run.proofs.LaterSystems.{events-last}
 use Rattle.model_run.proofs.HarmLists.{among-nth}
 use Rattle.std.specs.Prelude.{Bool, true, is_some, ◌&&◌, ◌||◌, option_map, unwrap_or}
 use Rattle.echo_addr.specs.declared.address.Address.{Address}
-use Rattle.echo_addr.specs.declared.address.NetNode.{NetNode}
 use Rattle.echo_addr.specs.Address.{net_node_of}
 use Rattle.model_graph.proofs.Members.{Among-append_cases, Among-append_left}
 use Rattle.echo_filed.specs.declared.key.Key.{Key}
 use Rattle.echo_filed.specs.Filed.{Filed, key_of}
-use Rattle.model_run.specs.Nets.{Net}
 use Rattle.model_run.specs.RulesOrderly.{IsSettled, goal}
 use Rattle.model_run.proofs.Eras.{Given, Since, begins, filed-cases, filed-past, given-now, not-given, rests, still-given, whole-poster}
 use Rattle.model_run.specs.Orderly.{IsPosting, Settled}

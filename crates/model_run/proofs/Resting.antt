@@ -1,5 +1,5 @@
 -- The number of some keys that each system lacks: it falls with each filed message.
-use Rattle.std.proofs.Common.{◌≡◌, ◌⊎◌, inl, inr, refl, sym, subst, ap, ◌∙◌, ℕ, zero, suc, ◌+◌, ◌<◌, ◌≤◌, arith, List, [], ◌∷◌, ◌++◌, Option, Some, None, ◌≢◌, ◌==◌, length, take, drop, map}
+use Rattle.std.proofs.Common.{◌≡◌, ◌⊎◌, inl, inr, refl, sym, subst, ap, ◌∙◌, ℕ, zero, suc, ◌+◌, ◌<◌, ◌≤◌, arith, List, [], ◌∷◌, ◌++◌, Option, Some, None, ◌≢◌, length, take, drop, map}
 use Rattle.std.specs.Prelude.{Bool, true, false, if◌then◌else◌, ◌&&◌, filter, is_none}
 use Rattle.echo_addr.specs.declared.address.Address.{Address}
 use Rattle.model_graph.specs.Walk.{Among}
@@ -13,7 +13,7 @@ use Rattle.model_steps.specs.Tossing.{received, tossing, sender_of}
 use Rattle.model_run.specs.Run.{System, change, filing, tossing_at, Run, coming, delivery, destination, nth, receiver, run_of, scanning, scanning_at, taking, with_index}
 use Rattle.model_run.proofs.Lists.{any-from, any-to, not_both, Among-change, Among-filter_to, Among-take, and-from, and-parts, nth-among, nth-change, Among-map_to, Among-map_from}
 use Rattle.model_run.proofs.HarmSteps.{tossing-is, after_one_more, all-append, run-files, tossing-new}
-use Rattle.std.specs.List.{AllByRecursion, list_any}
+use Rattle.std.specs.List.{AllByRecursion}
 use Rattle.std.proofs.lemmas.Bool.{cases_eq, eqb-true}
 use Rattle.std.proofs.lemmas.List.{append_assoc, append-nil, drop_all}
 use Rattle.echo_text.specs.Refusal.{text_refusal}

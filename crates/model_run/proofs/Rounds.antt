@@ -26,11 +26,10 @@ use Rattle.model_run.specs.Grave.{AllAreCarriers}
 use Rattle.model_run.specs.LawsOfRuns.{LawsOfRuns}
 use Rattle.model_run.specs.Postings.{trial_moment, trial_posting}
 use Rattle.model_run.specs.Rounds.{deliveries, round_after, scans}
-use Rattle.base_file.specs.Base.{is_known}
 use Rattle.model_run.proofs.HarmLists.{among-nth, none_passes, nth-below, nth-index}
 use Rattle.model_run.proofs.OneMessage.{only-posted, post_of, post_of-tag}
 use Rattle.model_run.proofs.Places.{carrier-file, file-lists}
-use Rattle.model_run.proofs.Resting.{Scanned, Within, file-there, new-key, packed-within, scanned-more, system-there, taken-within, with_index-new, with_index-old, all_lacking, change-fewer, lacking, tossing-fewer, weight}
+use Rattle.model_run.proofs.Resting.{Scanned, Within, file-there, new-key, packed-within, scanned-more, system-there, taken-within, with_index-new, with_index-old, all_lacking, change-fewer, lacking, tossing-fewer}
 use Rattle.model_run.proofs.HarmSteps.{after_one_more, run-files}
 use Rattle.model_run.proofs.Targets.{none_some}
 use Rattle.model_run.proofs.Areas.{among-link, target-link, key-tag}

@@ -1,6 +1,6 @@
 -- The packets of one scan, on every net.
 use Rattle.std.proofs.Common.{◌≡◌, ◌≢◌, inl, inr, refl, sym, subst, ap, ◌∙◌, ℕ, arith, List, [], ◌∷◌, drop, map}
-use Rattle.std.specs.Prelude.{true, false, filter, if◌then◌else◌, Some}
+use Rattle.std.specs.Prelude.{true, false, filter, Some}
 use Rattle.std.specs.List.{list_any}
 use Rattle.std.proofs.lemmas.Bool.{cond-true, cond-false}
 use Rattle.echo_addr.specs.declared.address.Address.{Address}
@@ -10,7 +10,7 @@ use Rattle.echo_filed.specs.declared.key.Key.{Key}
 use Rattle.model_steps.specs.declared.packet.Packet.{Packet}
 use Rattle.model_steps.specs.declared.stamp.Stamp.{Stamp}
 use Rattle.echo_links.specs.Links.{LinkFile, same_address}
-use Rattle.echo_filed.specs.Filed.{Filed, same_key}
+use Rattle.echo_filed.specs.Filed.{Filed}
 use Rattle.model_steps.specs.Scanning.{copy_to, exported, goes_to, header_to, packet_to, packets_of, recipients, scanned}
 use Rattle.model_run.specs.Run.{System, destination}
 use Rattle.model_run.specs.Orderly.{SameContent, copies, count, origin, sent_count}

@@ -1,6 +1,6 @@
 -- A scan exports the waiting messages, one at a time.
 use Rattle.std.proofs.Common.{◌≡◌, ◌≢◌, ◌⊎◌, ◌↔◌, inl, inr, refl, sym, subst, ap, ◌∙◌, ℕ, ◌+◌, arith, List, [], ◌∷◌, ◌++◌, append_assoc, length, take, drop, map, Some}
-use Rattle.std.specs.Prelude.{Bool, false, bytes_eq, filter, ◌&&◌}
+use Rattle.std.specs.Prelude.{Bool, bytes_eq, filter, ◌&&◌}
 use Rattle.std.proofs.lemmas.Bool.{cond-false}
 use Rattle.std.proofs.lemmas.List.{take-append-drop, take_all}
 use Rattle.echo_addr.specs.declared.address.Address.{Address}
@@ -13,7 +13,7 @@ use Rattle.model_steps.specs.Scanning.{goes_to, scanned, targets}
 use Rattle.echo_links.specs.Links.{same_address}
 use Rattle.echo_filed.specs.declared.key.Key.{Key}
 use Rattle.echo_filed.specs.Sets.{address_set}
-use Rattle.echo_filed.specs.Filed.{Filed, key_of, same_key}
+use Rattle.echo_filed.specs.Filed.{Filed, same_key}
 use Rattle.model_run.specs.Events.{Exports, Text, copy_to}
 use Rattle.model_run.specs.Run.{System, Run, change, destination, nth, scanning_at}
 use Rattle.model_run.specs.Orderly.{count, origin, sent_count, tag_of}

@@ -1,6 +1,6 @@
 -- Properties of one system at all times, if no received text has a byte 00.
 use Rattle.std.proofs.Common.{◌≡◌, inl, inr, refl, sym, subst, ◌≤◌, arith, List, [], ◌∷◌, Option, Some, None, ◌≢◌, ap, ◌∙◌, ℕ, zero, suc, ◌+◌, ◌++◌, length, take, drop}
-use Rattle.std.specs.Prelude.{Bool, true, false, if◌then◌else◌, filter}
+use Rattle.std.specs.Prelude.{true, filter}
 use Rattle.echo_addr.specs.declared.address.Address.{Address}
 use Rattle.model_graph.specs.Walk.{Among}
 use Rattle.echo_packet.specs.Message.{HasNoZero, Message}

@@ -7,7 +7,6 @@ use Rattle.echo_addr.specs.Address.{net_node_of}
 use Rattle.model_graph.specs.Walk.{Reaches}
 use Rattle.model_graph.proofs.Members.{Reaches-trans}
 use Rattle.echo_links.proofs.Addresses.{same_address_decides}
-use Rattle.echo_links.specs.Links.{same_address}
 use Rattle.echo_filed.specs.Filed.{Filed}
 use Rattle.model_steps.specs.Scanning.{is_seen_by}
 use Rattle.model_run.proofs.Lists.{not_both, yes_or_no}

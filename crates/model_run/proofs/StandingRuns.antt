@@ -1,6 +1,6 @@
 -- Each event keeps the rules.
 use Rattle.std.proofs.Common.{◌≡◌, inl, inr, refl, sym, subst, ap, ◌∙◌, ℕ, zero, suc, arith, List, [], ◌∷◌, ◌++◌, length, take, Option, Some, None}
-use Rattle.std.specs.Prelude.{Bool, true, false, bytes_eq, filter, is_none, if◌then◌else◌, option_to_list}
+use Rattle.std.specs.Prelude.{Bool, true, false, bytes_eq, filter, is_none, if◌then◌else◌}
 use Rattle.std.proofs.lemmas.List.{take_all, append-nil}
 use Rattle.echo_addr.specs.declared.address.Address.{Address}
 use Rattle.model_graph.specs.Walk.{Among}
@@ -16,7 +16,7 @@ use Rattle.echo_filed.specs.Filed.{Filed, key_of}
 use Rattle.model_steps.specs.Posting.{posted, posting}
 use Rattle.model_steps.specs.Scanning.{scanned}
 use Rattle.model_steps.specs.Stamps.{is_stamp}
-use Rattle.model_steps.specs.Tossing.{received, tossed, tossing}
+use Rattle.model_steps.specs.Tossing.{received, tossed}
 use Rattle.model_steps.proofs.Posted.{posting_posted}
 use Rattle.model_run.proofs.Eras.{begins, nothing-rests}
 use Rattle.model_run.specs.Event.{RunEvent, Posting, Scanning, Delivery, PartDelivery, Purging}

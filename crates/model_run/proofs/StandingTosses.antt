@@ -1,13 +1,12 @@
 -- Messages of a packet come by the rules, filed or known.
 use Rattle.std.proofs.Common.{◌≡◌, ◌≢◌, ◌⊎◌, inl, inr, refl, sym, subst, ap, ◌∙◌, ℕ, zero, suc, IsTrue, List, [], ◌∷◌, ◌++◌, Option, Some, None, arith}
-use Rattle.std.specs.Prelude.{true, bytes_eq, filter, is_none, ◌==◌}
+use Rattle.std.specs.Prelude.{true, bytes_eq}
 use Rattle.std.proofs.lemmas.Bool.{cond-false, ne_eqb}
 use Rattle.echo_addr.specs.declared.address.Address.{Address}
 use Rattle.model_graph.specs.Walk.{Among}
 use Rattle.model_graph.proofs.Members.{Among-append_right}
 use Rattle.echo_packet.specs.Message.{Message}
 use Rattle.echo_text.specs.Echo.{EchoText}
-use Rattle.echo_text.specs.Refusal.{text_refusal}
 use Rattle.model_steps.specs.declared.packet.Packet.{Packet}
 use Rattle.echo_links.specs.Links.{LinkFile, has_area, is_link}
 use Rattle.echo_filed.specs.Filed.{Filed, key_of}

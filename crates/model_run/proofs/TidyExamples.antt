@@ -1,12 +1,12 @@
 -- A net that is tidy, and for each clause of `Tidy` a net that breaks it.
-use Rattle.std.proofs.Common.{◌≡◌, ◌≢◌, ◌⊎◌, inl, inr, refl, sym, subst, ap, ◌∙◌, ℕ, arith, IsTrue, List, [], ◌∷◌, codes, map}
+use Rattle.std.proofs.Common.{◌≡◌, ◌≢◌, ◌⊎◌, inl, inr, refl, sym, subst, ap, ◌∙◌, ℕ, arith, IsTrue, List, [], ◌∷◌, codes}
 use Rattle.std.specs.Prelude.{◌&&◌, true, false}
 use Rattle.echo_addr.specs.declared.address.Address.{Address}
 use Rattle.echo_addr.specs.Address.{net_node_of}
 use Rattle.echo_addr.specs.declared.address.NetNode.{NetNode}
 use Rattle.model_graph.specs.Walk.{Among, Reaches, Walk}
 use Rattle.model_graph.specs.Cycle.{Cycle}
-use Rattle.echo_links.specs.Links.{LinkFile, has_area, is_link, links_of, same_address}
+use Rattle.echo_links.specs.Links.{LinkFile, has_area, links_of, same_address}
 use Rattle.model_run.specs.Tidy.{Carries, Tidy, lists}
 use Rattle.model_run.proofs.TosserLaws.{the_laws}
 use Rattle.model_graph.proofs.Members.{Among-at}

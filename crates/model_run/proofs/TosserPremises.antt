@@ -1,6 +1,5 @@
 -- The number of messages in a list with a key.
-use Rattle.std.proofs.Common.{◌≡◌, ◌≢◌, ◌⊎◌, inl, inr, refl, sym, subst, ap, ◌∙◌, ℕ, ◌+◌, ◌≤◌, arith, Bool, IsTrue, List, [], ◌∷◌, ◌++◌, cond, map, None}
-use Rattle.std.specs.Prelude.{true, false}
+use Rattle.std.proofs.Common.{◌≡◌, ◌≢◌, ◌⊎◌, inl, inr, refl, sym, ap, ◌∙◌, ℕ, ◌+◌, ◌≤◌, arith, Bool, IsTrue, List, [], ◌∷◌, ◌++◌, cond, map, None}
 use Rattle.std.proofs.lemmas.Bool.{cases_Bool, both_ways}
 use Rattle.model_graph.specs.Walk.{Among, Different}
 use Rattle.echo_addr.specs.declared.address.Address.{Address}

@@ -1,6 +1,6 @@
 -- Invariants of whole runs: the link files stay, and all is well formed.
-use Rattle.std.proofs.Common.{◌≡◌, refl, subst, ap, ◌∙◌, ℕ, List, [], ◌∷◌, ◌++◌, length, take, map, Option, Some, None, arith, inl, inr, sym, ◌+◌, ◌==◌, IsTrue}
-use Rattle.std.specs.Prelude.{Bool, true, false, if◌then◌else◌, nat_le}
+use Rattle.std.proofs.Common.{◌≡◌, refl, subst, ap, ℕ, List, [], ◌∷◌, ◌++◌, length, take, map, Option, Some, None, arith, inl, inr, sym, ◌+◌, ◌==◌, IsTrue}
+use Rattle.std.specs.Prelude.{Bool, true, false, if◌then◌else◌}
 use Rattle.echo_addr.specs.declared.address.Address.{Address}
 use Rattle.model_graph.specs.Walk.{Among, Different}
 use Rattle.echo_packet.specs.Message.{Message}
@@ -14,7 +14,7 @@ use Rattle.model_steps.specs.Tossing.{sender_of, tossing}
 use Rattle.model_steps.specs.Scanning.{scanned}
 use Rattle.model_steps.specs.Stamps.{is_stamp}
 use Rattle.model_run.specs.Event.{RunEvent, Posting, Scanning, Delivery, PartDelivery, Purging}
-use Rattle.model_run.specs.Run.{System, Run, filing, fresh, posting_at, tossing_at, scanning_at, purging_at, nth, change, receiver, scanning, taking, coming, delivery, part_delivery, after_event, after_events, run_of, start}
+use Rattle.model_run.specs.Run.{System, Run, filing, fresh, posting_at, tossing_at, scanning_at, nth, change, scanning, taking, coming, delivery, part_delivery, after_event, after_events, run_of, start}
 use Rattle.model_run.specs.Fits.{FilesFit}
 use Rattle.model_run.proofs.TosserPremises.{Laws}
 use Rattle.model_run.proofs.Lists.{map-change, Among-map_from, nth-append, with_index-different, with_index-from, and-parts, any-from, yes_or_no}
@@ -24,7 +24,7 @@ use Rattle.std.proofs.lemmas.Bool.{eqb-true, leb-true}
 use Rattle.std.proofs.lemmas.List.{drop_all}
 use Rattle.model_graph.proofs.Members.{Among-at}
 use Rattle.model_run.specs.Orderly.{Settled}
-use Rattle.model_run.specs.World.{is_settled, missing, undelivered}
+use Rattle.model_run.specs.World.{is_settled, missing}
 
 pub filing-file : (s : System) (o : Option Filed) → (filing s o).file ≡ s.file
 filing-file s o = grind arith

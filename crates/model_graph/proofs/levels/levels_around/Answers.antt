@@ -1,4 +1,4 @@
-use Rattle.std.proofs.Common.{◌≡◌, ℕ, Option, None, List, replicate, ◌∙◌, ap, rules, arith, inl, inr}
+use Rattle.std.proofs.Common.{◌≡◌, ℕ, Option, None, List, replicate, ◌∙◌, ap, rules, arith}
 use Rattle.std.proofs.lemmas.List.{get_or-replicate, get_or_past, length-replicate}
 use Rattle.std.proofs.lemmas.Bool.{cases_lt}
 use Rattle.model_graph.specs.Rows.{linked}

@@ -1,4 +1,4 @@
-use Rattle.std.proofs.Common.{◌<◌, ◌+◌, ℕ, IsTrue, List, length, get_or, refl, sym, ◌∙◌, subst, arith, below_more}
+use Rattle.std.proofs.Common.{◌<◌, ◌+◌, ℕ, List, length, get_or, refl, sym, ◌∙◌, arith, below_more}
 use Rattle.std.proofs.lemmas.Bool.{ltb-true}
 use Rattle.model_graph.specs.Rows.{linked}
 use Rattle.std.proofs.lemmas.Option.{MatchOption-at_some, MatchOption-at_none}

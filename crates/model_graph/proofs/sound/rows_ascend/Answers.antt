@@ -1,6 +1,5 @@
-use Rattle.std.proofs.Common.{sym, subst, below_more, arith}
+use Rattle.std.proofs.Common.{below_more, arith}
 use Rattle.std.proofs.lemmas.Bool.{both_ways, false≢true}
-use Rattle.model_graph.specs.Rows.{links_at, IsAscending}
 use Rattle.model_graph.proofs.sound.rows_ascend.Goals as goal
 
 pub returns-then-not-is_ascending : goal.returns-then-not-is_ascending
