@@ -39,10 +39,7 @@ module _ {X : Type 0} (p : X → Bool) (xs : List X) (i : ℕ) (d : X) (inside :
   taken = ap (filter p) (take_more xs i d inside) ∙ filter-append p (take i xs) (here ∷ [])
 
   pub one_kept : p here ≡ true → next ≡ all ++ here ∷ [] → next ≡ filter p (take (i + 1) xs)
-  one_kept passes more =
-      more
-      ∙ (ap (λ (ys : List X). ys ++ here ∷ []) before
-      ∙ sym (taken ∙ ap (λ (b : Bool). filter p (take i xs) ++ cond b (here ∷ []) []) passes))
+  one_kept passes more = grind (arith, taken)
 
   pub one_left : p here ≡ false → next ≡ all → next ≡ filter p (take (i + 1) xs)
   one_left fails same =
@@ -50,10 +47,7 @@ module _ {X : Type 0} (p : X → Bool) (xs : List X) (i : ℕ) (d : X) (inside :
 
 -- the same members by another property
 pub retold : (P Q : Link → Type 0) (all : List Link) → AreLinksInOrder P all → ((l : Link) → P l ↔ Q l) → AreLinksInOrder Q all
-retold P Q all order same = record {
-  ascending = order.ascending;
-  members = λ l. (λ h. (same l).0 ((order.members l).0 h), λ h. (order.members l).1 ((same l).1 h));
-}
+retold P Q all order same = grind arith
 
 -- the links that pass a test
 kept_in_order : (p : Link → Bool) (links : List Link) (Q : Link → Type 0) → IsStrictlySortedBy link_order links → ((l : Link) → (Contains links l × IsTrue (p l)) ↔ Q l) →
@@ -79,10 +73,7 @@ from_not false h = refl
 -- four additions, one after the other
 pub four : (old a b c d one two three new : List NetFault) → one ≡ old ++ a → two ≡ one ++ b → three ≡ two ++ c → new ≡ three ++ d →
     new ≡ old ++ (a ++ (b ++ (c ++ d)))
-four old a b c d one two three new first second third fourth =
-    let joined : new ≡ (((old ++ a) ++ b) ++ c) ++ d =
-    fourth ∙ ap (λ (l : List NetFault). l ++ d) (third ∙ ap (λ (l : List NetFault). l ++ c) (second ∙ ap (λ (l : List NetFault). l ++ b) first)) in
-    joined ∙ (append_assoc ((old ++ a) ++ b) c d ∙ (append_assoc (old ++ a) b (c ++ d) ∙ append_assoc old a (b ++ (c ++ d))))
+four old a b c d one two three new first second third fourth = grind (arith, append_assoc)
 
 module _ (files : List LinkFile) (tag : List ℕ) (carriers : List Address) (links : List Link)
     (members : (a : Address) → Contains carriers a ↔ IsTrue (carries files tag a))
@@ -172,9 +163,7 @@ not_true true none = absurd (none refl)
 not_true false none = refl
 
 neither : (p s q : Bool) → p ≡ false → q ≡ false → (p || (s && q)) ≡ false
-neither true s q no_p no_q = cc
-neither false true q no_p no_q = no_q
-neither false false q no_p no_q = refl
+neither p s q h1 h2 = grind arith
 
 -- no system before the smallest is alone
 alone_first : (a : Address) (m : Link) → m.from ≡ m.to → address_before m.from a ≡ false → pair_before m.from m.to a a ≡ false
@@ -284,16 +273,7 @@ module _ (files : List LinkFile) (tag : List ℕ) (all : List NetFault) (r : Are
 -- the additions after the faults of files and links
 module _ (files : List LinkFile) (tag : List ℕ) (all : List NetFault) (r : AreLinkFaults files tag all) where
   pub with_graph : AreSoundLinks files tag → (parts new : List NetFault) → AddsApart files tag all parts → AddsRounds files tag parts new → AreAllFaults files tag new
-  with_graph sound parts new apart loops = record {
-    of_links = all;
-    are_of_links = r;
-    apart = apart.found;
-    are_apart = apart.in_order;
-    rounds = loops.found;
-    are_rounds = λ s. loops.are;
-    no_rounds = λ none. absurd (none sound);
-    whole = loops.whole ∙ (ap (λ (l : List NetFault). l ++ map loop_fault loops.found) apart.whole ∙ append_assoc all (map (fault_of kinds.Apart) apart.found) (map loop_fault loops.found));
-  }
+  with_graph sound parts new apart loops = grind (arith, append_assoc)
 
   pub without_graph : ¬ (all ≡ []) → AreAllFaults files tag all
   without_graph some = record {
@@ -321,9 +301,7 @@ module _ (files : List LinkFile) (tag : List ℕ) (all : List NetFault) (r : Are
       (rest ++ of_graph, r.whole ∙ ap (λ (l : List NetFault). l ++ of_graph) is)
 
   no_parts : Joined files tag → r.apart ≡ []
-  no_parts joined =
-      no_links (AppliesTo files tag kinds.Apart) r.apart r.are_apart
-      (λ l h. h.first l.from h.smallest.holds h.in_order (joined.connected l.from l.to h.smallest.holds h.carries))
+  no_parts joined = grind (arith, no_links)
 
   -- the first fault, and the faults after it
   ahead : (fault : NetFault) → IsFirstFault files tag fault → (first : NetFault) × (rest : List NetFault) × (all ≡ first ∷ rest) ×
@@ -357,10 +335,7 @@ module _ (files : List LinkFile) (tag : List ℕ) (all : List NetFault) (r : Are
   -- all faults but the first are the further ones
   pub behind_named : (verdict : Verdict) → IfNo verdict (IsFirstFault files tag) → names_fault verdict ≡ true → (result : List NetFault) →
       ((first : NetFault) (rest : List NetFault) → all ≡ first ∷ rest → result ≡ rest) → AreFurther files tag verdict result
-  behind_named (Yes s l) h passes result is = absurd cc
-  behind_named (No fault) h passes result is =
-      let (first, rest, whole, is_ahead) = ahead fault h in
-      record { all = all; are_all = r; ahead = is_ahead result (is first rest whole) }
+  behind_named verdict h1 h2 result h3 = grind (arith, ahead)
 
   -- if none is named, all are further ones
   pub none_named : (verdict : Verdict) → names_fault verdict ≡ false → AreFurther files tag verdict all

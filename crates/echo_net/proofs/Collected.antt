@@ -13,7 +13,7 @@ use Rattle.model_graph.proofs.Members.{Among-append_cases, Among-append_left, Am
 use Rattle.echo_links.specs.Links.{LinkFile, area_of, has_area, is_link, links_of, same_address, IsFile}
 use Rattle.echo_filed.specs.Sets.{address_before}
 use Rattle.model_run.specs.Tidy.{carries, lists, Carries, Joined, Tidy}
-use Rattle.model_run.proofs.Lists.{Among-filter_from, Among-filter_to, any-from, any-to, Among-map_to, Among-map_from}
+use Rattle.model_run.proofs.Lists.{Among-filter_from, Among-filter_to, any-from, any-to, Among-map_to, Among-map_from, Among-flat_map_from, Among-flat_map_to}
 use Rattle.echo_net.specs.declared.link.Link.{Link}
 use Rattle.echo_net.specs.Nets.{carrier_count, carrying, link, linked_pairs, links_from_file, listed_links, systems}
 use Rattle.echo_net.proofs.Orders.{same_exact, same_itself, same_where_neither, not_before_itself}
@@ -43,20 +43,6 @@ carries_listed files tag a = (
       let in' = Among-map_to (λ (f : LinkFile). f.system) file (carrying files tag) (Among-filter_to (λ f. has_area f tag) file files there has) in
       Contains-from_Among a (systems (carrying files tag)) (subst (λ (b : Address). Among b (systems (carrying files tag))) (same_exact file.system a same) in'),
 )
-
-Among-flat_map_from : {X Y : Type 0} (f : X → List Y) (y : Y) (xs : List X) → Among y (flat_map f xs) → (x : X) × Among x xs × Among y (f x)
-Among-flat_map_from f y [] h = absurd h
-Among-flat_map_from f y (x ∷ xs) h = elim (Among-append_cases y (f x) (flat_map f xs) h) [
-  | inl here ↦ (x, inl refl, here)
-  | inr later ↦ (let (z, there, in') = Among-flat_map_from f y xs later in (z, inr there, in'))
-]
-
-Among-flat_map_to : {X Y : Type 0} (f : X → List Y) (y : Y) (x : X) (xs : List X) → Among x xs → Among y (f x) → Among y (flat_map f xs)
-Among-flat_map_to f y x [] there h = absurd there
-Among-flat_map_to {X} {Y} f y x (z ∷ xs) there h = elim there [
-  | inl is ↦ Among-append_left y (f z) (flat_map f xs) (subst (λ (w : X). Among y (f w)) is h)
-  | inr later ↦ Among-append_right y (f z) (flat_map f xs) (Among-flat_map_to f y x xs later h)
-]
 
 pub links_listed : (files : List LinkFile) (tag : List ℕ) (l : Link) → Contains (listed_links files tag) l ↔ IsTrue (lists files tag l.from l.to)
 links_listed files tag l = (
@@ -97,9 +83,7 @@ systems_take tag files i d inside =
 
 -- there are as many carriers as files with the area
 pub systems_counted : (tag : List ℕ) (files : List LinkFile) → length (systems (carrying files tag)) ≡ carrier_count files tag
-systems_counted tag files =
-    let has : LinkFile → Bool = λ file. has_area file tag in
-    length-map (filter has files) (λ (file : LinkFile). file.system) ∙ length-filter has files
+systems_counted tag files = grind (arith, length-map, length-filter)
 
 counted_from : {X Y : Type 0} (p : Y → Bool) (f : X → Y) (n : ℕ) (xs : List X) →
     fold (λ (m : ℕ) y. m + cond (p y) 1 0) n (map f xs) ≡ fold (λ (m : ℕ) x. m + cond (p (f x)) 1 0) n xs
@@ -178,10 +162,7 @@ module _ (files : List LinkFile) (tag : List ℕ) (carriers : List Address) (lin
   twin_from a b h = record { one = (members a).1 h.one; other = (members b).1 h.other; in_order = h.in_order; same = h.same }
 
   pub same_net_node : (a b : Address) → IsSmallestPair (HasTwin (Contains carriers)) a b → IsSmallestPair (HasTwin (Carries files tag)) a b
-  same_net_node a b smallest = record {
-    holds = twin_to a b smallest.holds;
-    first = λ c d h. smallest.first c d (twin_from c d h);
-  }
+  same_net_node a b smallest = grind (arith, twin_to, twin_from)
 
   pub net_nodes_differ : ((a b : Address) → ¬ HasTwin (Contains carriers) a b) → NetNodesDiffer files tag
   net_nodes_differ none a b at_a at_b same = elim (cases_Bool (address_before a b)) [

@@ -63,14 +63,10 @@ neighbour_total =
 
 -- two comparisons, one after the other
 pub then_equal : (o p : Ordering) → ordering_then o p ≡ Equal → (o ≡ Equal) × (p ≡ Equal)
-then_equal Less p h = cc
-then_equal Equal p h = (refl, h)
-then_equal Greater p h = cc
+then_equal o p h1 = grind arith
 
 pub then_less : (o p : Ordering) → ordering_then o p ≡ Less → (o ≡ Less) ⊎ ((o ≡ Equal) × (p ≡ Less))
-then_less Less p h = inl refl
-then_less Equal p h = inr (refl, h)
-then_less Greater p h = cc
+then_less o p h1 = grind arith
 
 pub nat_equal : (x y : ℕ) → nat_cmp x y ≡ Equal → x ≡ y
 nat_equal x y h = subst (λ (o : Ordering). MatchOrdering o (x < y) (x ≡ y) (y < x)) h (ranked x y (nat_cmp x y) refl)
@@ -79,63 +75,35 @@ pub nat_less : (x y : ℕ) → nat_cmp x y ≡ Less → x < y
 nat_less x y h = subst (λ (o : Ordering). MatchOrdering o (x < y) (x ≡ y) (y < x)) h (ranked x y (nat_cmp x y) refl)
 
 pub address_exact : (a b : Address) → address_order a b ≡ Equal → a ≡ b
-address_exact a b h =
-    let parts = then_equal (nat_cmp a.zone b.zone) (net_node_order (record { net = a.net; node = a.node }) (record { net = b.net; node = b.node })) h in
-    let later = then_equal (nat_cmp a.net b.net) (nat_cmp a.node b.node) parts.1 in
-    let zone = nat_equal a.zone b.zone parts.0 in
-    let net = nat_equal a.net b.net later.0 in
-    let node = nat_equal a.node b.node later.1 in
-    λ i. record { zone = zone i; net = net i; node = node i }
+address_exact a b h = grind (arith, then_equal, nat_equal)
 
 pub net_node_exact : (a b : NetNode) → net_node_order a b ≡ Equal → a ≡ b
-net_node_exact a b h =
-    let parts = then_equal (nat_cmp a.net b.net) (nat_cmp a.node b.node) h in
-    let net = nat_equal a.net b.net parts.0 in
-    let node = nat_equal a.node b.node parts.1 in
-    λ i. record { net = net i; node = node i }
+net_node_exact a b h = grind (arith, then_equal, nat_equal)
 
 lt_then : (o p : Ordering) (x y z : Bool) → x ≡ is_lt o → y ≡ is_eq o → z ≡ is_lt p → (x || (y && z)) ≡ is_lt (ordering_then o p)
-lt_then Less p x y z ex ey ez = ap (λ (v : Bool). v || (y && z)) ex
-lt_then Equal p x y z ex ey ez = ap (λ (v : Bool). v || (y && z)) ex ∙ (ap (λ (v : Bool). v && z) ey ∙ ez)
-lt_then Greater p x y z ex ey ez = ap (λ (v : Bool). v || (y && z)) ex ∙ ap (λ (v : Bool). v && z) ey
+lt_then o p x y z h1 h2 h3 = grind arith
 
 lt_choice : (p q : Bool) → p ≡ is_lt (cond p Less (cond q Equal Greater))
-lt_choice true q = refl
-lt_choice false true = refl
-lt_choice false false = refl
+lt_choice p q = grind arith
 
 lt_nat : (x y : ℕ) → nat_lt x y ≡ is_lt (nat_cmp x y)
 lt_nat x y = lt_choice (nat_lt x y) (x == y)
 
 -- the tests of the definitions agree with the orders
 pub before_is : (a b : Address) → address_before a b ≡ is_lt (address_order a b)
-before_is a b =
-    lt_then (nat_cmp a.zone b.zone) (ordering_then (nat_cmp a.net b.net) (nat_cmp a.node b.node))
-    (nat_lt a.zone b.zone) (a.zone == b.zone) (nat_lt a.net b.net || ((a.net == b.net) && nat_lt a.node b.node))
-    (lt_nat a.zone b.zone) (unsigned_ties a.zone b.zone)
-    (lt_then (nat_cmp a.net b.net) (nat_cmp a.node b.node) (nat_lt a.net b.net) (a.net == b.net) (nat_lt a.node b.node)
-    (lt_nat a.net b.net) (unsigned_ties a.net b.net) (lt_nat a.node b.node))
+before_is a b = grind (arith, lt_then, nat_lt, lt_nat)
 
 pub same_is : (a b : Address) → same_address a b ≡ is_eq (address_order a b)
-same_is a b =
-    both_tied (a.zone == b.zone) ((a.net == b.net) && (a.node == b.node)) (nat_cmp a.zone b.zone) (ordering_then (nat_cmp a.net b.net) (nat_cmp a.node b.node))
-    (unsigned_ties a.zone b.zone)
-    (both_tied (a.net == b.net) (a.node == b.node) (nat_cmp a.net b.net) (nat_cmp a.node b.node) (unsigned_ties a.net b.net) (unsigned_ties a.node b.node))
+same_is a b = grind arith
 
 pub pair_before_is : (l m : Link) → pair_before l.from l.to m.from m.to ≡ is_lt (link_order l m)
-pair_before_is l m =
-    lt_then (address_order l.from m.from) (address_order l.to m.to) (address_before l.from m.from) (same_address l.from m.from) (address_before l.to m.to)
-    (before_is l.from m.from) (same_is l.from m.from) (before_is l.to m.to)
+pair_before_is l m = grind (arith, lt_then, before_is, same_is)
 
 eq_equal : (o : Ordering) → is_eq o ≡ true → o ≡ Equal
-eq_equal Less h = cc
-eq_equal Equal h = refl
-eq_equal Greater h = cc
+eq_equal o h1 = grind arith
 
 lt_less : (o : Ordering) → is_lt o ≡ true → o ≡ Less
-lt_less Less h = refl
-lt_less Equal h = cc
-lt_less Greater h = cc
+lt_less o h1 = grind arith
 
 pub same_exact : (a b : Address) → same_address a b ≡ true → a ≡ b
 same_exact a b h = address_exact a b (eq_equal (address_order a b) (sym (same_is a b) ∙ h))
@@ -150,23 +118,14 @@ pub nat_cmp_less : (x y : ℕ) → x < y → nat_cmp x y ≡ Less
 nat_cmp_less x y h = cond-true (nat_lt x y) Less (cond (x == y) Equal Greater) (lt-ltb x y h)
 
 pub net_node_same : (a b : NetNode) → ((a.net == b.net) && (a.node == b.node)) ≡ true → a ≡ b
-net_node_same a b h =
-    let parts = and_parts (a.net == b.net) (a.node == b.node) h in
-    let net = eqb-true a.net b.net parts.0 in
-    let node = eqb-true a.node b.node parts.1 in
-    λ i. record { net = net i; node = node i }
+net_node_same a b h = grind (arith, and_parts, eqb-true)
 
 pub net_node_itself : (a b : NetNode) → a ≡ b → ((a.net == b.net) && (a.node == b.node)) ≡ true
 net_node_itself a b e =
     and_from (a.net == b.net) (a.node == b.node) (eq-eqb a.net b.net (ap (λ (n : NetNode). n.net) e)) (eq-eqb a.node b.node (ap (λ (n : NetNode). n.node) e))
 
 neither : (o p : Ordering) → o ≡ ordering_reverse p → is_lt o ≡ false → is_lt p ≡ false → o ≡ Equal
-neither o Less e h g = cc
-neither o Equal e h g = e
-neither o Greater e h g = absurd (no (sym (ap is_lt e) ∙ h))
-  where
-    no : true ≡ false → ⊥
-    no x = cc
+neither o p h1 h2 h3 = grind arith
 
 -- of two different addresses one comes first
 pub same_where_neither : (a b : Address) → address_before a b ≡ false → address_before b a ≡ false → a ≡ b
@@ -239,20 +198,10 @@ pub at_place : {X : Type 0} (xs : List X) (i : ℕ) (d : X) → i < length xs �
 at_place xs i d inside = (inside, get_or_default xs i (get_or xs i d) d inside)
 
 pub not_gt : {X : Type 0} {R : X → X → Ordering} → IsTotalOrder R → (x y : X) → is_lt (R y x) ≡ false → is_gt (R x y) ≡ false
-not_gt {X} {R} o x y h = turned (R x y) (R y x) (o.antisymm x y) h
-  where
-    turned : (p q : Ordering) → p ≡ ordering_reverse q → is_lt q ≡ false → is_gt p ≡ false
-    turned p Less e h = cc
-    turned p Equal e h = ap is_gt e
-    turned p Greater e h = ap is_gt e
+not_gt {X} {R} o x y h = grind arith
 
 pub not_lt : {X : Type 0} {R : X → X → Ordering} → IsTotalOrder R → (x y : X) → is_gt (R x y) ≡ false → is_lt (R y x) ≡ false
-not_lt {X} {R} o x y h = turned (R y x) (R x y) (o.antisymm y x) h
-  where
-    turned : (p q : Ordering) → p ≡ ordering_reverse q → is_gt q ≡ false → is_lt p ≡ false
-    turned p Less e h = ap is_lt e
-    turned p Equal e h = ap is_lt e
-    turned p Greater e h = cc
+not_lt {X} {R} o x y h = grind arith
 
 -- a value with an index is in the list
 pub there_where_placed : {X : Type 0} (xs : List X) (x : X) (found : Option ℕ) → MatchOption found (¬ Contains xs x) (λ i. (i < length xs) × (get_or xs i x ≡ x)) →
@@ -277,12 +226,7 @@ first_here ls up Holds i l at_l holds none = record {
 -- one more item
 pub one_more : {X : Type 0} (ls : List X) (Holds : X → Type 0) (i : ℕ) (e : X) → i < length ls → Holds (get_or ls i e) →
     ((k : ℕ) (d : X) → k < i → Holds (get_or ls k d)) → (k : ℕ) (d : X) → k < i + 1 → Holds (get_or ls k d)
-one_more ls Holds i e inside here below k d lt =
-    elim (cases_lt k i) [
-      | inl earlier ↦ below k d earlier
-      | inr later ↦ (let is : i ≡ k = omega arith in
-          subst Holds (get_or_default ls i e d inside ∙ ap (λ (n : ℕ). get_or ls n d) is) here)
-    ]
+one_more ls Holds i e inside here below k d lt = grind (arith, cases_lt, get_or_default, get_or)
 
 pub all_there : (ls : List Link) (Holds : Link → Type 0) → ((k : ℕ) (d : Link) → k < length ls → Holds (get_or ls k d)) →
     (l : Link) → Contains ls l → Holds l
@@ -297,14 +241,10 @@ pub record NextAlike {X K V : Type 0} (RK : K → K → Ordering) (RV : V → V 
   pub upto : is_gt (RV (value next) (value y)) ≡ false
 
 pub gt_first : (o p : Ordering) → is_gt (ordering_then o p) ≡ false → is_gt o ≡ false
-gt_first Less p h = refl
-gt_first Equal p h = refl
-gt_first Greater p h = h
+gt_first o p h1 = grind arith
 
 pub gt_second : (o p : Ordering) → o ≡ Equal → is_gt (ordering_then o p) ≡ false → is_gt p ≡ false
-gt_second Less p e h = cc
-gt_second Equal p e h = h
-gt_second Greater p e h = cc
+gt_second o p h1 h2 = grind arith
 
 -- an item between two with one key has it, too
 pub key_between : {X K V : Type 0} {RK : K → K → Ordering} (RV : V → V → Ordering) → IsTotalOrder RK → (key : X → K) (value : X → V) →

@@ -181,10 +181,7 @@ module _ (files : List LinkFile) (tag : List ℕ) (all : List Address) (order : 
   joined = numbered all (lists files tag)
 
   pub no_later : (i j : ℕ) → i ≤ j → j < length all → address_before (name j) (name i) ≡ false
-  no_later i j le inside = elim (cases_lt i j) [
-    | inl lt ↦ before_back (name i) (name j) (order.ascending i j lt inside)
-    | inr ge ↦ (let same : j ≡ i = omega arith in not_before_itself (name j) (name i) (ap name same))
-  ]
+  no_later i j le inside = grind (arith, cases_lt, before_back, not_before_itself)
 
   others : (i j : ℕ) → i < j → j < length all → name i ≢ name j
   others i j lt inside e = (let low = order.ascending i j lt inside in let up = not_before_itself (name i) (name j) e in cc)
@@ -213,39 +210,20 @@ module _ (files : List LinkFile) (tag : List ℕ) (all : List Address) (order : 
     pub linked : IsTrue (lists files tag (name i) (name j))
 
   pub parts : (i j : ℕ) → IsTrue (joined i j) → Parts i j
-  parts i j h =
-      let (sizes, linked) = and_parts (nat_lt i (length all) && nat_lt j (length all)) (lists files tag (name i) (name j)) h in
-      let (one, other) = and_parts (nat_lt i (length all)) (nat_lt j (length all)) sizes in
-      record { one = ltb-true i (length all) one; other = ltb-true j (length all) other; linked = linked }
+  parts i j h = grind (arith, and_parts, nat_lt, ltb-true)
 
   pub whole : (i j : ℕ) → i < length all → j < length all → IsTrue (lists files tag (name i) (name j)) → IsTrue (joined i j)
-  whole i j one other linked =
-      and_from (nat_lt i (length all) && nat_lt j (length all)) (lists files tag (name i) (name j))
-      (and_from (nat_lt i (length all)) (nat_lt j (length all)) (lt-ltb i (length all) one) (lt-ltb j (length all) other)) linked
+  whole i j one other linked = grind (arith, and_from, nat_lt, lt-ltb)
 
   module _ (none : NoneListsItself files tag) (known : AllAreKnown files tag) (both : AllAreAnswered files tag) where
     pub renaming : IsRenaming joined (lists files tag) name back
-    renaming = record {
-      links = λ i j h. (parts i j h).linked;
-      links_back = λ a b h.
-          let (i, in_i, is_i) = number a (lister_carries files tag a b h) in
-          let (j, in_j, is_j) = number b (known a b h) in
-          let linked = subst (λ (c : Address). IsTrue (lists files tag (name i) c)) (sym is_j) (subst (λ (c : Address). IsTrue (lists files tag c b)) (sym is_i) h) in
-          let back_i : i ≡ back a = sym (back_name i in_i) ∙ ap back is_i in
-          let back_j : j ≡ back b = sym (back_name j in_j) ∙ ap back is_j in
-          subst (λ (n : ℕ). IsTrue (joined (back a) n)) back_j (subst (λ (n : ℕ). IsTrue (joined n j)) back_i (whole i j in_i in_j linked));
-      back_name = λ i j h. back_name i (parts i j h).one;
-      name_back = λ a b h. name_back a (lister_carries files tag a b h);
-    }
+    renaming = grind (arith, parts, number, lister_carries, back_name, whole, name_back)
 
     pub simple : Simple (lists files tag)
     simple = record { both_ways = both; no_self = none }
 
     pub simple_numbers : Simple joined
-    simple_numbers = record {
-      both_ways = λ i j h. (let p = parts i j h in whole j i p.other p.one (both (name i) (name j) p.linked));
-      no_self = λ i h. none (name i) (parts i i h).linked;
-    }
+    simple_numbers = grind (arith, parts, whole)
 
     pub polygons : Polygons joined → Polygons (lists files tag)
     polygons h = Polygons-renamed joined (lists files tag) name back renaming simple h

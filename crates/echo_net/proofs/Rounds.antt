@@ -59,16 +59,7 @@ module _ (files : List LinkFile) (tag : List ℕ) (all : List Address) (order : 
 
   pair_up : (b a d c : ℕ) → b < length all → a < length all → d < length all → c < length all → (b < d) ⊎ ((b ≡ d) × (a < c)) →
       pair_before (system_at all b) (system_at all a) (system_at all d) (system_at all c) ≡ true
-  pair_up b a d c in_b in_a in_d in_c h =
-      let one = address_before (system_at all b) (system_at all d) in
-      let two = same_address (system_at all b) (system_at all d) in
-      let three = address_before (system_at all a) (system_at all c) in
-      elim h [
-        | inl lt ↦ or_left one (two && three) (order.ascending b d lt in_d)
-        | inr tie ↦
-            or_right one (two && three)
-            (and_from two three (same_itself (system_at all b) (system_at all d) (ap (system_at all) tie.0)) (order.ascending a c tie.1 in_c))
-      ]
+  pair_up b a d c in_b in_a in_d in_c h = grind (arith, or_left, or_right, and_from, same_itself)
 
   pub rounds_in_order : (loops : List BlockLoop) → AreBlockLoops joined loops → AreRounds (lists files tag) (map (round_of all) loops)
   rounds_in_order loops are = record {

@@ -37,20 +37,10 @@ module _ {X K : Type 0} (key : X → K) (system : X → Address) (xs : List X) (
   next = omega arith
 
   alike_here : key (get_or xs (place - 1) d) ≡ key (get_or xs place d) → AreAlike key system xs (place - 1) (place - 1 + 1) here
-  alike_here same = record {
-    later = omega arith;
-    within = omega arith;
-    same = λ e. ap key (read (place - 1) e (omega arith)) ∙ (same ∙ sym (ap (λ (m : ℕ). key (get_or xs m e)) next ∙ ap key (read place e inside)));
-    pair = λ e. let one = ap system (read (place - 1) e (omega arith)) in
-        let other = ap (λ (m : ℕ). system (get_or xs m e)) next ∙ ap system (read place e inside) in
-        λ i. record { from = sym one i; to = sym other i };
-  }
+  alike_here same = grind (arith, read, get_or, next)
 
   is_here : (l : Link) → AreAlike key system xs (place - 1) (place - 1 + 1) l → (l ≡ here) × (key (get_or xs (place - 1) d) ≡ key (get_or xs place d))
-  is_here l alike = (
-    alike.pair d ∙ ap (λ (m : ℕ). link (system (get_or xs (place - 1) d)) (system (get_or xs m d))) next,
-    alike.same d ∙ ap (λ (m : ℕ). key (get_or xs m d)) next,
-  )
+  is_here l alike = grind (arith, get_or, next)
 
   pub one_pair_more : key (get_or xs (place - 1) d) ≡ key (get_or xs place d) → AreAlikeBefore key system xs (place + 1) (pairs ++ here ∷ [])
   one_pair_more same l = (
@@ -92,13 +82,7 @@ abbrev pub AreWithOne : List Neighbour → ℕ → List Link → ℕ → List Li
 AreWithOne ns place old upto all = (m : Link) → Contains all m ↔ (Contains old m ⊎ ((j : ℕ) × (j < upto) × IsTwin ns place j m))
 
 pub none_with_one : (ns : List Neighbour) (place : ℕ) (old : List Link) → AreWithOne ns place old (place + 1) old
-none_with_one ns place old m = (
-  λ h. inl h,
-  λ h. elim h [
-    | inl is ↦ is
-    | inr (j, lt, twin) ↦ absurd (omega (arith, lt, twin.later))
-  ],
-)
+none_with_one ns place old m = grind arith
 
 pub one_with_one : (ns : List Neighbour) (place upto : ℕ) (old all : List Link) (d : Neighbour) → place < upto → upto < length ns → AreWithOne ns place old upto all →
     (get_or ns place d).net_node ≡ (get_or ns upto d).net_node →
@@ -208,21 +192,7 @@ module _ (systems : List Address) (neighbours : List Neighbour) (up : IsStrictly
 
   -- any two systems of one net and node have two indexes
   pub has_places : (l : Link) → HasTwin (Contains systems) l.from l.to → (i : ℕ) × (j : ℕ) × IsTwin neighbours i j l
-  has_places l h =
-      let (i, j, lt, at_x, at_y) = places_of l.from l.to h in
-      let first : (d : Neighbour) → get_or neighbours i d ≡ neighbour_of l.from = λ d. get_or_default neighbours i d (neighbour_of l.from) at_x.0 ∙ at_x.1 in
-      let second : (d : Neighbour) → get_or neighbours j d ≡ neighbour_of l.to = λ d. get_or_default neighbours j d (neighbour_of l.to) at_y.0 ∙ at_y.1 in (
-        i,
-        j,
-        record {
-          later = lt;
-          within = at_y.0;
-          same = λ d. ap (λ (m : Neighbour). m.net_node) (first d) ∙ (h.same ∙ sym (ap (λ (m : Neighbour). m.net_node) (second d)));
-          pair = λ d. let one = ap (λ (m : Neighbour). m.system) (first d) in
-              let other = ap (λ (m : Neighbour). m.system) (second d) in
-              λ i. record { from = sym one i; to = sym other i };
-        },
-      )
+  has_places l h = grind (arith, places_of, get_or, get_or_default)
 
   module _ (twins : List Link) (ascend : IsStrictlySortedBy link_order twins) (pairs : (l : Link) → Contains twins l ↔ ((k : ℕ) × IsTwin neighbours k (k + 1) l)) where
     -- two systems of one net and node are twins, or two twins come before them

@@ -20,7 +20,7 @@ use Rattle.model_steps.specs.Tossing.{received, sender_of}
 use Rattle.model_run.specs.Exports.{IsSentCopy}
 use Rattle.model_run.specs.Orderly.{copies, count, sent_count}
 use Rattle.model_run.specs.Run.{System, destination}
-use Rattle.model_run.proofs.Counts as counts
+use Rattle.model_run.proofs.TosserPremises as counts
 use Rattle.model_run.proofs.Lists.{Among-take, not_both}
 use Rattle.model_run.proofs.Bases.{IsKept, Kept, Kept-back, Kept-count, Kept-waiting, SystemOk, count-is}
 use Rattle.model_run.proofs.TosserLaws.{the_laws}

@@ -335,9 +335,6 @@ module _ (links : ℕ → ℕ → Bool) (simple : Simple links) (members : ℕ) 
   pub placed_from : (i j : ℕ) → i < length names → j < length names → IsTrue (links (name i) (name j)) → IsTrue (sub i j)
   placed_from i j one other link = grind (arith, and_from, nat_lt, lt-ltb)
 
-  pub placed_to : (i j : ℕ) → IsTrue (sub i j) → (i < length names) × (j < length names) × IsTrue (links (name i) (name j))
-  placed_to i j h = (let p = parts i j h in (p.one, p.other, p.link))
-
   inner_parts : (v w : ℕ) → IsTrue (inner v w) → IsTrue (links v w) × (inside v ≡ true) × (inside w ≡ true)
   inner_parts v w h = grind (arith, and_parts)
 

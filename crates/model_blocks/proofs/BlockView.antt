@@ -103,18 +103,6 @@ module _ (links : ℕ → ℕ → Bool) (simple : Simple links) (members : ℕ) 
   unfolding view
   view_of_top = grind (arith, t_within, seen, seen_inside, top_inside, before_seen)
 
-  seen_is_inside : (n v : ℕ) → inside (seen n v) ≡ true
-  seen_is_inside zero v = ap inside (seen_none v) ∙ top_inside
-  seen_is_inside (suc n) v =
-      elim (cases_Bool (inside v)) [
-        | inl h ↦ ap inside (seen_inside n v h) ∙ h
-        | inr out ↦ ap inside (seen_outside n v out) ∙ seen_is_inside n (top v)
-      ]
-
-  pub view_is_inside : (v : ℕ) → inside (view v) ≡ true
-  unfolding view
-  view_is_inside v = seen_is_inside (suc (rank v)) v
-
   -- members outside with one top, or with one as the other's top, are seen at one place
   with_top : (v w : ℕ) → v < members → w < members → top v ≡ w → (view v ≡ view w) ⊎ ((inside v ≡ true) × (inside w ≡ true))
   with_top v w lt_v lt_w is =
@@ -176,9 +164,6 @@ module _ (links : ℕ → ℕ → Bool) (simple : Simple links) (members : ℕ) 
 
   pub inner_ends : (v w : ℕ) → IsTrue (inner v w) → (inside v ≡ true) × (inside w ≡ true)
   inner_ends v w h = and_parts (inside v) (inside w) (and_parts (links v w) ((inside v) && (inside w)) h).1
-
-  pub inner_simple : Simple inner
-  inner_simple = grind (arith, inner_ends, inner_from, inner_link)
 
   pub inner_walk : (v : ℕ) (rest : List ℕ) (w : ℕ) → Walk inner v rest w → Walk links v rest w
   inner_walk v [] w same = same

@@ -1,5 +1,5 @@
 -- If links are parted, they keep to the family that a search by levels gives.
-use Rattle.std.proofs.Common.{◌≡◌, ◌≢◌, ◌⊎◌, inl, inr, refl, sym, subst, ap, ℕ, zero, suc, ◌<◌, ◌≤◌, arith, Bool, IsTrue, [], ◌∷◌, ◌∙◌, le_antisymm, Option, List, length, get_or, ◌+◌}
+use Rattle.std.proofs.Common.{◌≡◌, ◌≢◌, ◌⊎◌, inl, inr, refl, sym, subst, ap, ℕ, zero, suc, ◌<◌, ◌≤◌, arith, Bool, IsTrue, [], ◌∷◌, ◌∙◌, Option, List, length, get_or, ◌+◌}
 use Rattle.std.proofs.lemmas.Bool.{cases_Bool, cases_order, both_ways, cases_eq, cases_lt}
 use Rattle.model_graph.specs.Walk.{Simple, Reaches}
 use Rattle.model_graph.specs.Beyond.{Around, Parted}
@@ -106,43 +106,6 @@ module _ {A : Type 0} (can : CanTell A) (linked : A → A → Bool) (simple : Si
 
     pub KeepsToFamily-from_Parted : KeepsToFamily linked level parent
     KeepsToFamily-from_Parted = record { links = links_keep; siblings = siblings_keep }
-
--- Linked siblings: all are linked with each other exactly if each sees the same ones as the least that it sees.
-
--- x sees y: y is x, or a sibling that x is linked with
-abbrev pub Sees : {A : Type 0} → (A → A → Bool) → (A → ℕ) → (A → A) → A → A → Type 0
-Sees linked level parent x y = (x ≡ y) ⊎ (AreSiblings level parent x y × IsTrue (linked x y))
-
-pub Sees-sym : {A : Type 0} (linked : A → A → Bool) → Simple linked → (level : A → ℕ) (parent : A → A) (x y : A) →
-    Sees linked level parent x y → Sees linked level parent y x
-Sees-sym linked simple level parent x y h = grind arith
-
-module _ (linked : ℕ → ℕ → Bool) (simple : Simple linked) (level parent : ℕ → ℕ) where
-  -- if links keep to the family, Sees is transitive
-  pub Sees-trans : KeepsToFamily linked level parent → (x y z : ℕ) → Sees linked level parent x y → Sees linked level parent y z →
-      Sees linked level parent x z
-  Sees-trans keeps x y z first second = grind (arith, cases_eq)
-
-  -- if each sees exactly what its least sibling sees, linked siblings see the same
-  pub siblings-from_least : (least : ℕ → ℕ) →
-      ((x y : ℕ) → Sees linked level parent x y → least x ≤ y) →
-      ((x y : ℕ) → Sees linked level parent x y → Sees linked level parent (least x) y) →
-      ((x y : ℕ) → Sees linked level parent (least x) y → Sees linked level parent x y) →
-      (a b c : ℕ) → AreSiblings level parent a b → AreSiblings level parent b c →
-      IsTrue (linked a b) → IsTrue (linked b c) → a ≢ c → IsTrue (linked a c)
-  siblings-from_least least below to_least from_least a b c a_b b_c a_to_b b_to_c other =
-      let P : ℕ → Type 0 = λ m. Sees linked level parent m c in
-      let sees : Sees linked level parent a b = inr (a_b, a_to_b) in
-      let same : least b ≡ least a = le_antisymm (no_less b a (Sees-sym linked simple level parent a b sees)) (no_less a b sees) in
-      elim (from_least a c (subst P same (to_least b c (inr (b_c, b_to_c))))) [
-        | inl e ↦ absurd (other e)
-        | inr s ↦ s.1
-      ]
-    where
-      no_less : (x y : ℕ) → Sees linked level parent x y → least x ≤ least y
-      no_less x y h =
-          let back = to_least y x (Sees-sym linked simple level parent x y h) in
-          below x (least y) (Sees-sym linked simple level parent (least y) x back)
 
 -- Links of a row tested one by one against the family.
 

@@ -1,5 +1,5 @@
 -- Members of a list, and lists without repeats.
-use Rattle.std.proofs.Common.{◌≡◌, ◌≢◌, ◌⊎◌, inl, inr, refl, sym, subst, ℕ, zero, suc, ◌<◌, arith, length, get_or, Contains, List, [], ◌∷◌, ◌++◌, ◌∙◌, ◌≤◌, le_of_suc-le-suc, Bool, IsTrue}
+use Rattle.std.proofs.Common.{◌≡◌, ◌≢◌, ◌⊎◌, inl, inr, refl, sym, subst, ℕ, zero, suc, ◌<◌, arith, length, get_or, Contains, List, [], ◌∷◌, ◌++◌, ◌∙◌, ◌≤◌, Bool, IsTrue}
 use Rattle.std.proofs.lemmas.Bool.{cases_eq}
 use Rattle.model_graph.specs.Walk.{Among, Different, Simple, Walk, Reaches, Connected}
 use Rattle.model_graph.specs.Beyond.{Around, Beyond}
@@ -101,14 +101,6 @@ module _ {A : Type 0} (linked : A → A → Bool) where
 
   pub Reaches-trans : (a b c : A) → Reaches linked a b → Reaches linked b c → Reaches linked a c
   Reaches-trans a b c first second = (first.0 ++ second.0, walk_append a first.0 b second.0 c first.1 second.1)
-
-  -- a property that links keep, walks keep
-  pub Reaches-keeps : (P : A → Type 0) → ((x y : A) → P x → IsTrue (linked x y) → P y) → (a c : A) → Reaches linked a c → P a → P c
-  Reaches-keeps P next a c reaches = along a reaches.0 reaches.1
-    where
-      along : (a : A) (rest : List A) → Walk linked a rest c → P a → P c
-      along a [] w at_a = subst P w at_a
-      along a (d ∷ rest) w at_a = along d rest w.1 (next a d at_a w.0)
 
 module _ {A : Type 0} (linked : A → A → Bool) (simple : Simple linked) where
   -- linked members differ
@@ -218,21 +210,6 @@ module _ {A : Type 0} (can : CanTell A) (linked : A → A → Bool) where
           λ x h. elim h [ inl e ↦ inl e | inr t ↦ inr (within x t) ],
         )
       ]
-
-  -- the shortest walks from a to b around x have no repeats
-  pub fewest-different : (x a : A) (rest : List A) (b : A) → Walk linked a rest b → ¬ Among x (a ∷ rest) →
-      ((other : List A) → Walk linked a other b → ¬ Among x (a ∷ other) → length rest ≤ length other) → Different (a ∷ rest)
-  fewest-different x a [] b w avoids fewest = (λ h. h, tt)
-  fewest-different x a (c ∷ rest) b w avoids fewest =
-      let later = fewest-different x c rest b w.1 (λ h. avoids (inr h))
-      (λ other v avoids_other.
-      let all : ¬ Among x (a ∷ c ∷ other) = λ h. elim h [ inl e ↦ avoids (inl e) | inr t ↦ avoids_other t ] in
-      le_of_suc-le-suc (fewest (c ∷ other) (w.0, v) all)) in (
-        λ again. (let (part, p) = part_from a c rest b w.1 again in
-            let all : ¬ Among x (a ∷ part) = λ h. elim h [ inl e ↦ avoids (inl e) | inr t ↦ avoids (inr (inr (p.within x t))) ] in
-            omega (arith, p.shorter, fewest part p.walk all)),
-        later,
-      )
 
 -- Walks around a member.
 

@@ -6,7 +6,7 @@ use Rattle.echo_addr.specs.declared.address.Address.{Address}
 use Rattle.echo_addr.specs.declared.address.NetNode.{NetNode}
 use Rattle.echo_addr.specs.Address.{net_node_of}
 use Rattle.model_graph.specs.Walk.{Among, Different}
-use Rattle.model_graph.proofs.Members.{Among-at, Among-append_left, Among-append_right}
+use Rattle.model_graph.proofs.Members.{Among-at}
 use Rattle.echo_packet.specs.Message.{Message}
 use Rattle.echo_text.specs.Echo.{EchoText, IsEcho, msgid_of}
 use Rattle.echo_text.specs.Refusal.{text_refusal}
@@ -20,7 +20,7 @@ use Rattle.model_steps.specs.Scanning.{packet_to, header_to, copy_to, exported, 
 use Rattle.model_run.specs.Run.{destination}
 use Rattle.model_run.specs.Orderly.{copies}
 use Rattle.model_run.proofs.TosserPremises.{Laws}
-use Rattle.model_run.proofs.Lists.{not_both, yes_or_no, and-parts, and-from, any-to, any-from, filter-yes, Among-filter_from, Among-filter_to}
+use Rattle.model_run.proofs.Lists.{not_both, yes_or_no, and-parts, and-from, any-to, any-from, filter-yes, Among-filter_from, Among-filter_to, Among-flat_map_to}
 use Rattle.model_run.specs.Keeping.{content_of}
 
 -- the copy of a message, as its receiver files it
@@ -155,15 +155,11 @@ module _ (laws : Laws) (file : LinkFile) where
   pub goes-to : (m : Filed) (a : Address) → Targeted m a → goes_to file a m ≡ true
   goes-to m a t = any-to (same_address a) a (targets file m) (targets-to m a t) (laws.addresses.full a a refl)
 
-  among_flat : {X Y : Type 0} (g : X → List Y) (y : Y) (x : X) (xs : List X) → Among x xs → Among y (g x) → Among y (flat_map g xs)
-  among_flat g y x [] h i = absurd h
-  among_flat {X} {Y} g y x (z ∷ xs) h i = grind (arith, Among-append_left, Among-append_right, among_flat g y x xs)
-
   -- a target of a message gets a packet
   pub target-recipient : (waiting : List Filed) (m : Filed) (a : Address) → Among m waiting → Targeted m a → Among a (recipients file waiting)
   unfolding recipients
   target-recipient waiting m a h t =
-      laws.addresses_all a (flat_map (targets file) waiting) (among_flat (targets file) a m waiting h (targets-to m a t))
+      laws.addresses_all a (flat_map (targets file) waiting) (Among-flat_map_to (targets file) a m waiting h (targets-to m a t))
 
   pub recipients-differ : (waiting : List Filed) → Different (recipients file waiting)
   unfolding recipients

@@ -32,7 +32,7 @@ use Rattle.model_run.proofs.Resting.{export-of, file-there, system-there}
 use Rattle.model_run.proofs.Spreads.{Came, Spread}
 use Rattle.model_run.proofs.HarmSteps.{run-files, after_one_more}
 use Rattle.model_run.proofs.Targets.{some_same, none_some}
-use Rattle.model_run.proofs.Areas.{link-area, among-link, among-seen, exported-path, listed-from, listed-to, seen-among, target-link, target-to, target-unseen, link-among}
+use Rattle.model_run.proofs.Areas.{link-area, among-link, among-seen, exported-path, listed-from, listed-to, seen-among, target-link, target-to, target-unseen, link-among, key-tag}
 
 -- some item has the property, or all have the other one
 some-or_all : {X : Type 0} (P Q : X → Type 0) → ((x : X) → P x ⊎ Q x) → (xs : List X) → ((x : X) × Among x xs × P x) ⊎ ((x : X) → Among x xs → Q x)
@@ -55,10 +55,6 @@ more-or_few n = grind arith
 
 zero-or_one : (n : ℕ) → (n ≡ 0) ⊎ (1 ≤ n)
 zero-or_one n = grind arith
-
-pub key-tag : (m : Filed) → tag_of (key_of m) ≡ m.echo.tag
-unfolding key_of
-key-tag m = grind arith
 
 pub posting-own : (file : LinkFile) (tag : List ℕ) → (post_of file tag).sender ≡ None
 unfolding posted

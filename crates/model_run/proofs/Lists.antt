@@ -1,12 +1,12 @@
 -- Items of lists by their index, and members of mapped and filtered lists.
-use Rattle.std.proofs.Common.{◌≡◌, ◌≢◌, ◌⊎◌, inl, inr, refl, subst, ap, ◌∙◌, ℕ, zero, suc, ◌+◌, arith, List, [], ◌∷◌, ◌++◌, length, take, drop, map, Some, None}
+use Rattle.std.proofs.Common.{◌≡◌, ◌≢◌, ◌⊎◌, inl, inr, refl, subst, ap, ◌∙◌, ℕ, zero, suc, arith, List, [], ◌∷◌, ◌++◌, length, take, drop, map, Some, None}
 use Rattle.std.specs.Prelude.{Bool, true, false, filter, ◌&&◌, ◌||◌}
-use Rattle.std.specs.List.{list_any, position_or_len}
+use Rattle.std.specs.List.{flat_map, list_any, position_or_len}
 use Rattle.std.proofs.lemmas.Bool.{cond-true, cond-false, eq-eqb}
 use Rattle.model_graph.specs.Walk.{Among, Different}
 use Rattle.model_run.specs.Run.{nth, change, with_index}
 use Rattle.model_run.proofs.Targets.{none_some}
-use Rattle.model_graph.proofs.Members.{Among-append_cases}
+use Rattle.model_graph.proofs.Members.{Among-append_cases, Among-append_left, Among-append_right}
 
 -- a test says yes or no
 pub yes_or_no : (b : Bool) → (b ≡ true) ⊎ (b ≡ false)
@@ -174,6 +174,18 @@ change-all P i f keeps xs all z h = grind (arith, Among-change)
 pub Among-map_to : {X Y : Type 0} (g : X → Y) (x : X) (xs : List X) → Among x xs → Among (g x) (map g xs)
 Among-map_to g x [] h = h
 Among-map_to g x (y ∷ xs) h = elim h [ inl e ↦ inl (ap g e) | inr t ↦ inr (Among-map_to g x xs t) ]
+
+pub Among-flat_map_from : {X Y : Type 0} (f : X → List Y) (y : Y) (xs : List X) → Among y (flat_map f xs) → (x : X) × Among x xs × Among y (f x)
+Among-flat_map_from f y [] h = absurd h
+Among-flat_map_from f y (x ∷ xs) h =
+    elim (Among-append_cases y (f x) (flat_map f xs) h) [
+      | inl here ↦ (x, inl refl, here)
+      | inr later ↦ (let (z, i, there) = Among-flat_map_from f y xs later in (z, inr i, there))
+    ]
+
+pub Among-flat_map_to : {X Y : Type 0} (f : X → List Y) (y : Y) (x : X) (xs : List X) → Among x xs → Among y (f x) → Among y (flat_map f xs)
+Among-flat_map_to f y x [] h i = absurd h
+Among-flat_map_to f y x (z ∷ xs) h i = grind (arith, Among-append_left, Among-append_right, Among-flat_map_to f y x xs)
 
 pub Among-map_from : {X Y : Type 0} (g : X → Y) (y : Y) (xs : List X) → Among y (map g xs) → (x : X) × Among x xs × (y ≡ g x)
 Among-map_from g y [] h = absurd h

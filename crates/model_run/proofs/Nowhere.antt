@@ -19,14 +19,14 @@ use Rattle.model_run.specs.Grave.{ListsNobody}
 use Rattle.model_run.specs.Harms.{NeverSettles}
 use Rattle.model_run.specs.LawsOfRuns.{LawsOfRuns}
 use Rattle.model_run.specs.Postings.{post_and_scan, trial_moment, trial_posting}
-use Rattle.model_run.proofs.Holders.{key-tag, sent-to_link}
+use Rattle.model_run.proofs.Holders.{sent-to_link}
 use Rattle.model_run.proofs.OneMessage.{post_of, post_of-tag, sent-packet}
 use Rattle.model_run.proofs.Places.{lists-file}
 use Rattle.model_run.proofs.HarmLists.{among-nth, nth-middle}
 use Rattle.model_run.proofs.Resting.{file-there}
 use Rattle.model_run.proofs.HarmSteps.{after_one_more, along, run-files}
 use Rattle.model_run.proofs.Targets.{some_same}
-use Rattle.model_run.proofs.Areas.{link-area, link-among}
+use Rattle.model_run.proofs.Areas.{link-area, link-among, key-tag}
 
 -- an area that no file has is orderly
 pub nobody-orderly : (files : List LinkFile) (tag : List ℕ) → ¬ IsTrue (list_any (λ (file : LinkFile). has_area file tag) files) →

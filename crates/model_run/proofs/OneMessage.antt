@@ -232,9 +232,6 @@ module _ (files : List LinkFile) (known : LawsOfRuns files) (tag : List ℕ) (i 
 
 -- The number of times a key is filed, and sent by one system and by all.
 
-abbrev weight : Bool → ℕ
-weight b = if b then 1 else 0
-
 pub one-or_zero : (n : ℕ) → (1 ≤ n) ⊎ (n ≡ 0)
 one-or_zero n = grind arith
 

@@ -20,35 +20,26 @@ use Rattle.model_run.specs.Run.{Run, System, change, coming, delivery, destinati
 use Rattle.model_run.specs.Orderly.{tag_of}
 use Rattle.model_run.specs.World.{is_settled, missing, undelivered}
 use Rattle.model_run.proofs.Copies.{packet-destination}
-use Rattle.model_run.proofs.Lists.{Among-drop, Among-take, any-to, not_both, nth-among}
+use Rattle.model_run.proofs.Lists.{Among-drop, Among-take, any-to, not_both, nth-among, Among-flat_map_from}
 use Rattle.model_run.proofs.TosserLaws.{the_laws}
 use Rattle.model_run.specs.Grave.{AllAreCarriers}
 use Rattle.model_run.specs.LawsOfRuns.{LawsOfRuns}
 use Rattle.model_run.specs.Postings.{trial_moment, trial_posting}
 use Rattle.model_run.specs.Rounds.{deliveries, round_after, scans}
-use Rattle.model_run.proofs.Holders.{key-tag}
 use Rattle.model_run.proofs.HarmLists.{among-nth, none_passes, nth-below, nth-index}
 use Rattle.model_run.proofs.OneMessage.{only-posted, post_of, post_of-tag}
 use Rattle.model_run.proofs.Places.{carrier-file, file-lists}
-use Rattle.model_run.proofs.Resting.{Scanned, Within, file-there, new-key, packed-within, scanned-more, system-there, taken-within, with_index-new, with_index-old, all_lacking, change-fewer, lacking, tossing-fewer, weight}
+use Rattle.model_run.proofs.Resting.{Scanned, Within, file-there, new-key, packed-within, scanned-more, system-there, taken-within, with_index-new, with_index-old, all_lacking, change-fewer, lacking, tossing-fewer}
 use Rattle.model_run.proofs.HarmSteps.{after_one_more, run-files}
 use Rattle.model_run.proofs.Targets.{none_some}
-use Rattle.model_run.proofs.Areas.{among-link, target-link}
+use Rattle.model_run.proofs.Areas.{among-link, target-link, key-tag}
 use Rattle.model_run.proofs.Bases.{scanned-from}
-
-among-flat : {X Y : Type 0} (g : X → List Y) (y : Y) (xs : List X) → Among y (flat_map g xs) → (x : X) × Among x xs × Among y (g x)
-among-flat g y [] h = absurd h
-among-flat g y (x ∷ xs) h =
-    elim (Among-append_cases y (g x) (flat_map g xs) h) [
-      | inl here ↦ (x, inl refl, here)
-      | inr later ↦ (let (z, i, there) = among-flat g y xs later in (z, inr i, there))
-    ]
 
 -- a packet of a scan goes to a target of a waiting message
 recipient-target : (file : LinkFile) (waiting : List Filed) (a : Address) → Among a (recipients file waiting) →
     (m : Filed) × Among m waiting × Among a (targets file m)
 unfolding recipients
-recipient-target file waiting a h = among-flat (targets file) a waiting (the_laws.addresses_only a (flat_map (targets file) waiting) h)
+recipient-target file waiting a h = Among-flat_map_from (targets file) a waiting (the_laws.addresses_only a (flat_map (targets file) waiting) h)
 
 -- nothing is missing if all indexes are delivered
 none-missing : (delivered : List ℕ) (k : ℕ) (ps : List Packet) → ((j : ℕ) → j < length ps → Among (k + j) delivered) → missing delivered k ps ≡ 0

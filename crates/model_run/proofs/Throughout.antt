@@ -328,10 +328,6 @@ module _ (laws : Laws) (names : List Address) where
         ok = epoch-ok laws nothing_yet first fit nothing-ok;
       })
 
-  between-some : (earlier : List Epoch) (epoch : Epoch) → Named names (earlier ++ epoch ∷ []) → Between (run_of_epochs (earlier ++ epoch ∷ []))
-  between-some [] epoch named = between-first epoch [] named
-  between-some (first ∷ earlier) epoch named = between-first first (earlier ++ epoch ∷ []) named
-
   -- filed messages stay
   pub epochs-keep : (earlier later : List Epoch) → Named names (earlier ++ later) → Outlives (run_of_epochs earlier) (run_of_epochs (earlier ++ later))
   epochs-keep [] later named = record { later = λ s h. absurd h }

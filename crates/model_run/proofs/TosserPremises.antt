@@ -69,11 +69,6 @@ module _ {K M : Type 0} (key : M → K) (same : K → K → Bool) (tells : Tells
   count-none k [] h = refl
   count-none k (x ∷ ms) h = omega (arith, none k x (h x (inl refl)), count-none k ms (λ m i. h m (inr i)))
 
-  -- no message has the key, or some message has it
-  pub count-cases : (k : K) (ms : List M) → (count key same k ms ≡ 0) ⊎ ((m : M) × Among m ms × (key m ≡ k))
-  count-cases k [] = inl refl
-  count-cases k (x ∷ ms) = grind (arith, Tells-can, none, count-cases k ms)
-
   -- a key that occurs at most once names one message
   pub count-names_one : (k : K) (ms : List M) → count key same k ms ≤ 1 → (a b : M) → Among a ms → Among b ms →
       key a ≡ k → key b ≡ k → a ≡ b

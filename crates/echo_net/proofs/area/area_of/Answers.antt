@@ -1,4 +1,4 @@
-use Rattle.std.proofs.Common.{◌≡◌, sym, subst, ap, ◌∙◌, List, length, vec_len}
+use Rattle.std.proofs.Common.{◌≡◌, sym, subst, ap, ◌∙◌, List, length, vec_len, arith}
 use Rattle.std.specs.Prelude.{Contains}
 use Rattle.std.specs.List.{count_by}
 use Rattle.echo_addr.specs.declared.address.Address.{Address}
@@ -26,13 +26,7 @@ returns-clause-listed c = λ l.
     )
 
 pub returns-clause-systems : goal.returns-clause-systems
-returns-clause-systems c =
-    let v = c.in_ok-carriers.carriers in
-    let as_many : vec_len v ≡ length v.items = v.ok.0 in
-    c.len-systems.ensures ∙ (as_many ∙ (ap (λ (all : List Address). length all) c.in_ok-carriers.ensures.carriers ∙ systems_counted c.args.tag.now c.args.files.now))
+returns-clause-systems c = grind (arith, vec_len, systems_counted)
 
 pub returns-clause-pairs : goal.returns-clause-pairs
-returns-clause-pairs c =
-    c.count_upward-pairs.ensures
-    ∙ (ap (λ (all : List Link). count_by (λ (l : Link). address_before l.from l.to) all) (c.deref.ensures.value ∙ c.in_ok-carriers.ensures.links)
-    ∙ pairs_counted c.args.tag.now c.args.files.now)
+returns-clause-pairs c = grind (arith, pairs_counted)
