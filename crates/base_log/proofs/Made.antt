@@ -1,5 +1,5 @@
 -- A file of a base folder is made.
-use Rattle.std.proofs.Common.{◌≡◌, ◌≢◌, ℕ, List, sym, ◌∙◌}
+use Rattle.std.proofs.Common.{◌≢◌, ℕ, List}
 use Rattle.disk_io.specs.Disk.{DiskState}
 use Rattle.disk_io.specs.Runs.{LeavesOnly}
 use Rattle.disk_io.specs.Steps.{TornMaking}
@@ -12,7 +12,7 @@ use Rattle.base_log.specs.declared.log.End.{End}
 use Rattle.base_log.proofs.Calls.{Made, but_one_call}
 use Rattle.base_log.proofs.Empty.{LogAlone, log_alone_first, log_alone_made}
 use Rattle.base_log.proofs.Gates.{outside_twice}
-use Rattle.base_log.proofs.Paths.{keys_beside, keys_in, keys_not_messages, keys_of-injective, log_not_keys, log_not_messages, messages_beside, messages_in, messages_not_keys, messages_of-injective}
+use Rattle.base_log.proofs.Paths.{keys_beside, keys_in, keys_not_messages, log_not_keys, log_not_messages, messages_beside, messages_in}
 use Rattle.base_log.proofs.Removed.{outside_but_one}
 use Rattle.base_log.proofs.Renewed.{FilesAlone, alone_changed, alone_first}
 

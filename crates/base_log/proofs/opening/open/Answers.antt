@@ -8,7 +8,6 @@ use Rattle.base_log.specs.Names.{AreNames, folder_of, log_of, messages_of, keys_
 use Rattle.base_log.specs.Opening.{HasFiles, StandsOrWasLeft}
 use Rattle.base_log.specs.Standing.{BaseBytes, base_at}
 use Rattle.base_log.specs.declared.log.CommitRecord.{CommitRecord}
-use Rattle.base_log.proofs.Calls.{cause_since}
 use Rattle.base_log.proofs.Empty.{chained_alone, no_record}
 use Rattle.base_log.proofs.Gates.{outside_quiet, outside_twice}
 use Rattle.base_log.proofs.Opened.{end_shut, end_tells, files_beside, files_settled, first_files, has_files, log_moved, none_at, none_log, nothing_read}

@@ -1,4 +1,4 @@
-use Rattle.std.proofs.Common.{List, arith, ℕ, ◌≢◌, rules, sym, ◌∙◌, subst}
+use Rattle.std.proofs.Common.{List, arith, ℕ, rules, ◌∙◌}
 use Rattle.std.proofs.lemmas.Result.{on_ok_weaker}
 use Rattle.disk_io.specs.Disk.{IsIn}
 use Rattle.disk_io.specs.Steps.{TornRemoval}
