@@ -1,20 +1,25 @@
 -- Filling a base folder with messages.
-use Rattle.std.specs.Prelude.{◌≡◌, ◌≤◌, ◌⊎◌, ℕ, Bool, List, [], false, length, take, Some, slice_get}
-use Rattle.base_file.specs.Base.{Base, is_known}
+use Rattle.std.specs.Prelude.{◌≡◌, ◌≤◌, ◌⊎◌, ℕ, Bool, List, [], false, take, Some, slice_get, Result, IfErr, IsErrOf, OnOk}
+use Rattle.base_file.specs.Base.{Base, IsBase, is_known}
 use Rattle.echo_filed.specs.Filed.{Filed, key_of}
 use Rattle.base_log.specs.Standing.{BaseBytes}
-use Rattle.disk_io.specs.Disk.{DiskState, Files}
+use Rattle.disk_io.specs.Device.{Failed}
+use Rattle.disk_io.specs.Disk.{DiskState, Files, Honestly}
 use Rattle.base_folder_store.specs.Added.{HasRoomFor, IsFull}
+use Rattle.base_folder_store.specs.Calls.{StagesOnly}
 use Rattle.base_folder_store.specs.Held.{HoldsBase, StandsForBase, StandsForBaseAlone}
-use Rattle.base_folder_store.specs.Opened.{held_by, path_of}
+use Rattle.base_folder_store.specs.Opened.{IsNamed, IsOpen, committed_by, held_by, path_of}
 use Rattle.base_folder_store.specs.declared.folder.Folder.{Folder}
 use Rattle.base_file.specs.declared.fault.BaseFault.TheVariants as fault
 use Rattle.base_store.specs.Store.{with_message}
 use Rattle.base_store.specs.declared.store_error.StoreError.{StoreError}
 use Rattle.base_store.specs.declared.store_error.StoreError.TheVariants as error
 use Rattle.base_folder.specs.OpenError.{IsWrong}
+use Rattle.base_folder.specs.Source.{LooksAt, SourceState}
 use Rattle.base_folder.specs.declared.open_error.OpenError.{OpenError}
 use Rattle.base_folder.specs.declared.open_error.OpenError.TheVariants as unread
+use Rattle.base_folder.specs.declared.unfilled.UnfilledFolder.{UnfilledFolder}
+use Rattle.base_folder.specs.declared.unfilled.UnfilledFolder.TheVariants as unfilled
 
 -- If the old bytes hold a base without the message's key, the new bytes hold it with the message at its end.
 abbrev pub HoldsMore : (ℕ → ℕ → List ℕ → ℕ) → BaseBytes → BaseBytes → Filed → Type 0
@@ -24,10 +29,38 @@ HoldsMore keyed old new m = (base : Base) → HoldsBase keyed old base → is_kn
 abbrev pub HoldsFront : (ℕ → ℕ → List ℕ → ℕ) → BaseBytes → List Filed → ℕ → ℕ → Type 0
 HoldsFront keyed bytes messages n cursor = HoldsBase keyed bytes (record { messages = take n messages; cursor = cursor })
 
--- A range of these messages: its start is not after its end, and its end not after the last message.
-pub record IsRangeOf (messages : List Filed) (from to : ℕ) : Type 0 where
-  pub order : from ≤ to
-  pub within : to ≤ length messages
+-- A call that adds messages to an open folder commits nothing and keeps its path. If it is no error, the folder is open, and its last commit is the same.
+pub record AddsOnly {T E : Type 0} (old new : Folder) (before after : DiskState) (result : Result T E) : Type 0 where
+  pub named : IsNamed new
+  pub opened : Honestly after (OnOk result (IsOpen after new))
+  pub path : path_of new ≡ path_of old
+  pub same : Honestly after (OnOk result (committed_by after new ≡ committed_by before old))
+  pub run : StagesOnly (path_of old) (committed_by before old) before after
+
+-- The source of messages was honest, and its messages are those of this base.
+pub record ShowsBase (old new : SourceState) (base : Base) : Type 0 where
+  pub honest : new.is_honest
+  pub holds : old.holds base
+  pub is : IsBase base.messages base.cursor
+
+-- It is no damage of the messages.
+abbrev pub IsUndamaged : UnfilledFolder → Type 0
+IsUndamaged (unfilled.Messages fault.Memory) = Unit {0}
+IsUndamaged (unfilled.Messages fault.Read) = Unit {0}
+IsUndamaged (unfilled.Messages _) = ⊥
+IsUndamaged (unfilled.Folder _) = Unit {0}
+
+-- The messages are only read. The error is a failed read only if the source counts one more failure. If the source was honest and has a base, no message is damaged.
+pub record ReadsFor {T : Type 0} (old new : SourceState) (result : Result T UnfilledFolder) : Type 0 where
+  pub looks : LooksAt old new
+  pub later : old.failures ≤ new.failures
+  pub failed : IsErrOf result (unfilled.Messages fault.Read) → Failed old.failures new.failures
+  pub whole : new.is_honest → (base : Base) → old.holds base → IfErr result IsUndamaged
+
+-- The error is a failure of the folder's device only if that device counts one more failure.
+pub record HasUnfilledCause {T : Type 0} (before now : ℕ) (result : Result T UnfilledFolder) : Type 0 where
+  pub later : before ≤ now
+  pub failed : IsErrOf result (unfilled.Folder unread.Device) → Failed before now
 
 -- The files represent the base before or the other one, and everything outside the folder is unchanged.
 abbrev pub StandsForOneOf : (ℕ → ℕ → List ℕ → ℕ) → List ℕ → DiskState → Base → Base → Files → Type 0
@@ -69,7 +102,12 @@ unfilled_cause error.Device = unread.Device
 unfilled_cause error.Damaged = unread.Memory
 unfilled_cause error.TooMany = unread.Wrong fault.TooMany
 
--- The base is too large to count, or the folder has a fault.
-abbrev pub IsUnfilled : Bool → List ℕ → Files → OpenError → Type 0
-IsUnfilled strange path files (unread.Wrong fault.TooMany) = Unit {0}
-IsUnfilled strange path files why = IsWrong strange path files why
+-- Something is wrong with the messages or the folder, or four bytes do not count what the folder is to be filled with.
+abbrev pub IsUnfilled : Bool → List ℕ → Files → UnfilledFolder → Type 0
+IsUnfilled strange path files (unfilled.Messages why) = Unit {0}
+IsUnfilled strange path files (unfilled.Folder why) = (why ≡ unread.Wrong fault.TooMany) ⊎ IsWrong strange path files why
+
+-- An error of a call on the open folder. The files of the folder are not wrong.
+pub record HasFillCause {T : Type 0} (before now : ℕ) (result : Result T UnfilledFolder) : Type 0 where
+  pub cause : HasUnfilledCause before now result
+  pub sound : (strange : Bool) (path : List ℕ) (files : Files) → IfErr result (IsUnfilled strange path files)

@@ -17,6 +17,8 @@ pub record SourceState : Type 1 where
   pub holds : Base → Type 0
   pub at_hand : Option Filed
   pub failures : ℕ
+  -- A base has as many messages.
+  pub counted : (base : Base) → holds base → count ≡ length base.messages
 
 -- A look at the source changes only the current message.
 pub record LooksAt (old new : SourceState) : Type 0 where
@@ -39,4 +41,5 @@ folder_source disk failures keyed folder message = record {
   holds = λ base. SeesBase keyed disk folder base;
   at_hand = message;
   failures = failures;
+  counted = λ base sees. sees.count;
 }

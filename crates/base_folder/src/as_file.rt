@@ -61,7 +61,7 @@ fn bytes_at(
 }
 
 // The fault of a message that was not read.
-fn fault_of(error: StoreError, i: usize) -> BaseFault
+pub(crate) fn fault_of(error: StoreError, i: usize) -> BaseFault
     ensures { result ≡ file_cause error i }
 {
     match error {

@@ -1,34 +1,32 @@
-//! A base folder filled with the messages of a base.
-ghost use Rattle.std.specs.Prelude.{◌≡◌, ◌≢◌, ◌<◌, ◌+◌, ℕ, IfErr, IsErrOf, OnOk, Some, length, slice_get};
-ghost use Rattle.base_file.specs.Base as model;
-ghost use Rattle.base_file.specs.Base.{IsBase};
+//! A base folder filled with messages that are read one by one.
+ghost use Rattle.std.specs.Prelude.{◌≡◌, ◌≢◌, ◌≤◌, ◌<◌, ◌+◌, ℕ, IfErr, IsErrOf, OnOk, Some, slice_get};
+ghost use Rattle.base_file.specs.Base.{Base};
 ghost use Rattle.disk_io.specs.Disk.{Honestly};
 ghost use Rattle.disk_io.specs.Runs.{LeavesOnly};
-ghost use Rattle.base_log.specs.AtRest.{IsAtRest};
 ghost use Rattle.base_log.specs.Moments.{KeepsOutside};
 ghost use Rattle.base_log.specs.Opening.{AreAlone};
 ghost use Rattle.echo_filed.specs.Filed.{Filed as TheMessage};
 ghost use Rattle.base_folder_store.specs.Added.{HasRoomFor};
 ghost use Rattle.base_folder_store.specs.Answers.{HasReadCause};
 ghost use Rattle.base_folder_store.specs.Held.{HoldsBase, StandsForBase};
-ghost use Rattle.base_folder_store.specs.Calls.{StagesOnly, StaysOpen};
-ghost use Rattle.base_folder_store.specs.Opened.{IsOpen, committed_by, held_by, path_of};
+ghost use Rattle.base_folder_store.specs.Opened.{committed_by, held_by, path_of};
 ghost use Rattle.base_folder_store.specs.Owned.{with_mark};
 ghost use Rattle.base_folder_store.specs.State.{IsUsable};
-ghost use Rattle.base_folder.specs.Filled.{HoldsFront, HoldsMore, IsFilledFull, IsKept, IsRangeOf, IsUnfilled, StandsForOneOf, StandsForOneOfOrWasLeft, no_messages, unfilled_cause};
+ghost use Rattle.base_folder.specs.Filled.{AddsOnly, HasFillCause, HasUnfilledCause, HoldsFront, HoldsMore, IsFilledFull, IsKept, IsUnfilled, ReadsFor, ShowsBase, StandsForOneOf, StandsForOneOfOrWasLeft, no_messages};
 ghost use Rattle.base_folder.specs.Ours.{SameKey};
-ghost use Rattle.base_folder.specs.OpenError.{HasUnreadCause};
 
+use crate::as_file::fault_of;
 use crate::open_error::OpenError;
 use crate::opening::open_base;
-use base_file::{Base, BaseFault};
+use crate::source::MessageSource;
+use crate::unfilled::UnfilledFolder;
+use base_file::BaseFault;
 use base_folder_store::{Folder, bytes_alone};
 use base_log::FolderIdentity;
 use base_store::{Digest, StoreError, bytes_of_key};
 use disk_io::Disk;
 use echo_filed::{Filed, Key};
 use std::alloc::Global;
-use std::hash::BuildHasher;
 
 // Adds the message to the folder, with its digest by the folder's key.
 fn add<D: Disk, H: Digest>(
@@ -38,10 +36,8 @@ fn add<D: Disk, H: Digest>(
     message: &Filed,
 ) -> Result<(), StoreError>
     requires { IsUsable (D.state disk.old) folder.old }
-    ensures stays { StaysOpen folder.old folder.new (D.state disk.new) result }
+    ensures kept { AddsOnly folder.old folder.new (D.state disk.old) (D.state disk.new) result }
     ensures added { Honestly (D.state disk.new) (OnOk result (HoldsMore H.keyed (held_by (D.state disk.old) folder.old) (held_by (D.state disk.new) folder.new) message.now)) }
-    ensures same { Honestly (D.state disk.new) (OnOk result (committed_by (D.state disk.new) folder.new ≡ committed_by (D.state disk.old) folder.old)) }
-    ensures run { StagesOnly (path_of folder.old) (committed_by (D.state disk.old) folder.old) (D.state disk.old) (D.state disk.new) }
     ensures cause { HasReadCause (D.failures disk.old) (D.failures disk.new) result }
     ensures many { IsErrOf result StoreError.TooMany → HasRoomFor folder.old message.now → ⊥ }
 {
@@ -52,126 +48,121 @@ fn add<D: Disk, H: Digest>(
     folder.stage(disk, &bytes, number)
 }
 
-// Adds the message of this number.
-fn add_next<D: Disk, H: Digest, S: BuildHasher>(
+// Reads the message of this number, and adds it.
+fn add_next<D: Disk, H: Digest, M: MessageSource>(
     alloc: Global,
     disk: &mut D,
     folder: &mut Folder,
-    base: &Base<S>,
+    messages: &mut M,
     place: usize,
-) -> Result<(), StoreError>
+) -> Result<(), UnfilledFolder>
     requires usable { IsUsable (D.state disk.old) folder.old }
-    requires base { IsBase base.now.messages base.now.cursor }
-    requires within { place < length base.now.messages }
-    ensures stays { StaysOpen folder.old folder.new (D.state disk.new) result }
-    ensures added { Honestly (D.state disk.new) ((cursor : ℕ) → HoldsFront H.keyed (held_by (D.state disk.old) folder.old) base.now.messages place cursor
-        → OnOk result (HoldsFront H.keyed (held_by (D.state disk.new) folder.new) base.now.messages (place + 1) cursor)) }
-    ensures same { Honestly (D.state disk.new) (OnOk result (committed_by (D.state disk.new) folder.new ≡ committed_by (D.state disk.old) folder.old)) }
-    ensures run { StagesOnly (path_of folder.old) (committed_by (D.state disk.old) folder.old) (D.state disk.old) (D.state disk.new) }
-    ensures cause { HasReadCause (D.failures disk.old) (D.failures disk.new) result }
-    ensures many { IsErrOf result StoreError.TooMany → (m : TheMessage) × (slice_get base.now.messages place ≡ Some m) × (HasRoomFor folder.old m → ⊥) }
+    requires ready { (M.state messages.old).is_ready }
+    requires within { place < (M.state messages.old).count }
+    ensures kept { AddsOnly folder.old folder.new (D.state disk.old) (D.state disk.new) result }
+    ensures added { Honestly (D.state disk.new) ((base : Base) (cursor : ℕ) → ShowsBase (M.state messages.old) (M.state messages.new) base
+        → HoldsFront H.keyed (held_by (D.state disk.old) folder.old) base.messages place cursor
+        → OnOk result (HoldsFront H.keyed (held_by (D.state disk.new) folder.new) base.messages (place + 1) cursor)) }
+    ensures reads { ReadsFor (M.state messages.old) (M.state messages.new) result }
+    ensures cause { HasFillCause (D.failures disk.old) (D.failures disk.new) result }
+    ensures many { (base : Base) → ShowsBase (M.state messages.old) (M.state messages.new) base → IsErrOf result (UnfilledFolder.Folder (OpenError.Wrong BaseFault.TooMany))
+        → (m : TheMessage) × (slice_get base.messages place ≡ Some m) × (HasRoomFor folder.old m → ⊥) }
 {
-    match base.message(place) {
-        Some(message) => add::<D, H>(alloc, disk, folder, message),
-        None => Ok(()),
+    if let Err(error) = messages.fetch(place) {
+        return Err(UnfilledFolder::Messages(fault_of(error, place)));
+    }
+    match messages.at_hand() {
+        Some(message) => Ok(add::<D, H>(alloc, disk, folder, message)?),
+        None => {
+            let message = place as u64;
+            Err(UnfilledFolder::Messages(BaseFault::Damaged { message }))
+        }
     }
 }
 
 // Adds the messages from one number up to another.
-fn add_from<D: Disk, H: Digest, S: BuildHasher>(
+fn add_from<D: Disk, H: Digest, M: MessageSource>(
     alloc: Global,
     disk: &mut D,
     folder: &mut Folder,
-    base: &Base<S>,
+    messages: &mut M,
     from: usize,
     to: usize,
-) -> Result<(), StoreError>
+) -> Result<(), UnfilledFolder>
     requires usable { IsUsable (D.state disk.old) folder.old }
-    requires base { IsBase base.now.messages base.now.cursor }
-    requires range { IsRangeOf base.now.messages from to }
-    ensures stays { StaysOpen folder.old folder.new (D.state disk.new) result }
-    ensures added { Honestly (D.state disk.new) ((cursor : ℕ) → HoldsFront H.keyed (held_by (D.state disk.old) folder.old) base.now.messages from cursor
-        → OnOk result (HoldsFront H.keyed (held_by (D.state disk.new) folder.new) base.now.messages to cursor)) }
-    ensures same { Honestly (D.state disk.new) (OnOk result (committed_by (D.state disk.new) folder.new ≡ committed_by (D.state disk.old) folder.old)) }
-    ensures run { StagesOnly (path_of folder.old) (committed_by (D.state disk.old) folder.old) (D.state disk.old) (D.state disk.new) }
-    ensures cause { HasReadCause (D.failures disk.old) (D.failures disk.new) result }
-    ensures many { Honestly (D.state disk.new) ((cursor : ℕ) → HoldsFront H.keyed (held_by (D.state disk.old) folder.old) base.now.messages from cursor
-        → IsErrOf result StoreError.TooMany → IsFilledFull D.state H.keyed (path_of folder.old) base.now) }
+    requires ready { (M.state messages.old).is_ready }
+    requires order { from ≤ to }
+    requires within { to ≤ (M.state messages.old).count }
+    ensures kept { AddsOnly folder.old folder.new (D.state disk.old) (D.state disk.new) result }
+    ensures added { Honestly (D.state disk.new) ((base : Base) (cursor : ℕ) → ShowsBase (M.state messages.old) (M.state messages.new) base
+        → HoldsFront H.keyed (held_by (D.state disk.old) folder.old) base.messages from cursor
+        → OnOk result (HoldsFront H.keyed (held_by (D.state disk.new) folder.new) base.messages to cursor)) }
+    ensures reads { ReadsFor (M.state messages.old) (M.state messages.new) result }
+    ensures cause { HasFillCause (D.failures disk.old) (D.failures disk.new) result }
+    ensures many { Honestly (D.state disk.new) ((base : Base) (cursor : ℕ) → ShowsBase (M.state messages.old) (M.state messages.new) base
+        → HoldsFront H.keyed (held_by (D.state disk.old) folder.old) base.messages from cursor
+        → IsErrOf result (UnfilledFolder.Folder (OpenError.Wrong BaseFault.TooMany)) → IsFilledFull D.state H.keyed (path_of folder.old) base) }
 {
     'messages: for i in from..to {
-        add_next::<D, H, S>(alloc, disk, folder, base, i)?;
+        add_next::<D, H, M>(alloc, disk, folder, messages, i)?;
     }
     Ok(())
 }
 
-// Adds the scanned messages to a folder without messages, and moves the cursor to their end.
-fn add_scanned<D: Disk, H: Digest, S: BuildHasher>(
-    alloc: Global,
-    disk: &mut D,
-    folder: &mut Folder,
-    base: &Base<S>,
-) -> Result<(), StoreError>
-    requires { IsUsable (D.state disk.old) folder.old }
-    ensures stays { StaysOpen folder.old folder.new (D.state disk.new) result }
-    ensures added { Honestly (D.state disk.new) (HoldsFront H.keyed (held_by (D.state disk.old) folder.old) base.now.messages 0 0
-        → OnOk result (HoldsFront H.keyed (held_by (D.state disk.new) folder.new) base.now.messages base.now.cursor base.now.cursor)) }
-    ensures same { Honestly (D.state disk.new) (OnOk result (committed_by (D.state disk.new) folder.new ≡ committed_by (D.state disk.old) folder.old)) }
-    ensures run { StagesOnly (path_of folder.old) (committed_by (D.state disk.old) folder.old) (D.state disk.old) (D.state disk.new) }
-    ensures cause { HasReadCause (D.failures disk.old) (D.failures disk.new) result }
-    ensures many { Honestly (D.state disk.new) (HoldsFront H.keyed (held_by (D.state disk.old) folder.old) base.now.messages 0 0
-        → IsErrOf result StoreError.TooMany → IsFilledFull D.state H.keyed (path_of folder.old) base.now) }
-{
-    add_from::<D, H, S>(alloc, disk, folder, base, 0, base.cursor())?;
-    folder.move_to_end();
-    Ok(())
-}
-
 // Adds all messages to a folder without messages; so many of them count as scanned.
-fn add_all<D: Disk, H: Digest, S: BuildHasher>(
+fn add_all<D: Disk, H: Digest, M: MessageSource>(
     alloc: Global,
     disk: &mut D,
     folder: &mut Folder,
-    base: &Base<S>,
-) -> Result<(), StoreError>
-    requires { IsUsable (D.state disk.old) folder.old }
-    ensures stays { StaysOpen folder.old folder.new (D.state disk.new) result }
-    ensures added { Honestly (D.state disk.new) (HoldsFront H.keyed (held_by (D.state disk.old) folder.old) base.now.messages 0 0
-        → OnOk result (HoldsBase H.keyed (held_by (D.state disk.new) folder.new) base.now)) }
-    ensures same { Honestly (D.state disk.new) (OnOk result (committed_by (D.state disk.new) folder.new ≡ committed_by (D.state disk.old) folder.old)) }
-    ensures run { StagesOnly (path_of folder.old) (committed_by (D.state disk.old) folder.old) (D.state disk.old) (D.state disk.new) }
-    ensures cause { HasReadCause (D.failures disk.old) (D.failures disk.new) result }
-    ensures many { Honestly (D.state disk.new) (HoldsFront H.keyed (held_by (D.state disk.old) folder.old) base.now.messages 0 0
-        → IsErrOf result StoreError.TooMany → IsFilledFull D.state H.keyed (path_of folder.old) base.now) }
+    messages: &mut M,
+) -> Result<(), UnfilledFolder>
+    requires usable { IsUsable (D.state disk.old) folder.old }
+    requires ready { (M.state messages.old).is_ready }
+    ensures kept { AddsOnly folder.old folder.new (D.state disk.old) (D.state disk.new) result }
+    ensures added { Honestly (D.state disk.new) ((M.state messages.new).is_honest → (base : Base) → (M.state messages.old).holds base
+        → HoldsFront H.keyed (held_by (D.state disk.old) folder.old) base.messages 0 0
+        → OnOk result (HoldsBase H.keyed (held_by (D.state disk.new) folder.new) base)) }
+    ensures reads { ReadsFor (M.state messages.old) (M.state messages.new) result }
+    ensures cause { HasFillCause (D.failures disk.old) (D.failures disk.new) result }
+    ensures many { Honestly (D.state disk.new) ((M.state messages.new).is_honest → (base : Base) → (M.state messages.old).holds base
+        → HoldsFront H.keyed (held_by (D.state disk.old) folder.old) base.messages 0 0
+        → IsErrOf result (UnfilledFolder.Folder (OpenError.Wrong BaseFault.TooMany)) → IsFilledFull D.state H.keyed (path_of folder.old) base) }
 {
-    add_scanned::<D, H, S>(alloc, disk, folder, base)?;
-    add_from::<D, H, S>(alloc, disk, folder, base, base.cursor(), base.len())
+    let count = messages.count();
+    let scanned = messages.cursor().min(count);
+    add_from::<D, H, M>(alloc, disk, folder, messages, 0, scanned)?;
+    folder.move_to_end();
+    add_from::<D, H, M>(alloc, disk, folder, messages, scanned, count)
 }
 
-// Adds the messages of the base to a folder without messages, and commits them; so many of them count as scanned.
-fn fill_opened<D: Disk, H: Digest, S: BuildHasher>(
+// Adds the messages to a folder without messages, and commits them; so many of them count as scanned.
+fn fill_opened<D: Disk, H: Digest, M: MessageSource>(
     alloc: Global,
     disk: &mut D,
     folder: &mut Folder,
-    base: &Base<S>,
-) -> Result<(), StoreError>
-    requires { IsUsable (D.state disk.old) folder.old }
-    ensures opened { Honestly (D.state disk.new) (OnOk result (IsOpen (D.state disk.new) folder.new)) }
-    ensures path { path_of folder.new ≡ path_of folder.old }
-    ensures settled { Honestly (D.state disk.new) (OnOk result (IsAtRest (D.state disk.new) (path_of folder.new) folder.new.end)) }
-    ensures committed { Honestly (D.state disk.new) (HoldsFront H.keyed (held_by (D.state disk.old) folder.old) base.now.messages 0 0
-        → OnOk result (HoldsBase H.keyed (committed_by (D.state disk.new) folder.new) base.now)) }
+    messages: &mut M,
+) -> Result<(), UnfilledFolder>
+    requires usable { IsUsable (D.state disk.old) folder.old }
+    requires ready { (M.state messages.old).is_ready }
+    ensures filled { Honestly (D.state disk.new) ((M.state messages.new).is_honest → (base : Base) → (M.state messages.old).holds base
+        → HoldsFront H.keyed (held_by (D.state disk.old) folder.old) base.messages 0 0
+        → OnOk result (IsKept H.keyed (path_of folder.old) (D.state disk.new) base)) }
 
     // A crash at any time leaves the base that was committed before, or all of the new one.
-    ensures any_moment { Honestly (D.state disk.new) ((first : model.Base) → HoldsBase H.keyed (committed_by (D.state disk.old) folder.old) first
-        → HoldsFront H.keyed (held_by (D.state disk.old) folder.old) base.now.messages 0 0
-        → LeavesOnly (D.state disk.old) (D.state disk.new) (StandsForOneOf H.keyed (path_of folder.old) (D.state disk.old) first base.now)) }
+    ensures any_moment { Honestly (D.state disk.new) ((M.state messages.new).is_honest → (first base : Base) → (M.state messages.old).holds base
+        → HoldsBase H.keyed (committed_by (D.state disk.old) folder.old) first
+        → HoldsFront H.keyed (held_by (D.state disk.old) folder.old) base.messages 0 0
+        → LeavesOnly (D.state disk.old) (D.state disk.new) (StandsForOneOf H.keyed (path_of folder.old) (D.state disk.old) first base)) }
     ensures outside { KeepsOutside (path_of folder.old) (D.state disk.old) (D.state disk.new) }
-    ensures cause { HasReadCause (D.failures disk.old) (D.failures disk.new) result }
-    ensures many { Honestly (D.state disk.new) (HoldsFront H.keyed (held_by (D.state disk.old) folder.old) base.now.messages 0 0
-        → IsErrOf result StoreError.TooMany → IsFilledFull D.state H.keyed (path_of folder.old) base.now) }
+    ensures reads { ReadsFor (M.state messages.old) (M.state messages.new) result }
+    ensures cause { HasFillCause (D.failures disk.old) (D.failures disk.new) result }
+    ensures many { Honestly (D.state disk.new) ((M.state messages.new).is_honest → (base : Base) → (M.state messages.old).holds base
+        → HoldsFront H.keyed (held_by (D.state disk.old) folder.old) base.messages 0 0
+        → IsErrOf result (UnfilledFolder.Folder (OpenError.Wrong BaseFault.TooMany)) → IsFilledFull D.state H.keyed (path_of folder.old) base) }
 {
-    add_all::<D, H, S>(alloc, disk, folder, base)?;
-    folder.commit(disk)
+    add_all::<D, H, M>(alloc, disk, folder, messages)?;
+    folder.commit(disk)?;
+    Ok(())
 }
 
 // Gives the key of these two halves to a folder that has none and no message.
@@ -188,48 +179,42 @@ fn give_key(folder: &mut Folder, first: u64, second: u64)
     });
 }
 
-// Why it is not filled. No message is read, so none can be damaged.
-fn unfilled_by(error: StoreError) -> OpenError
-    ensures { result ≡ unfilled_cause error }
-{
-    match error {
-        StoreError::Memory | StoreError::Damaged => OpenError::Memory,
-        StoreError::Device => OpenError::Device,
-        StoreError::TooMany => OpenError::Wrong(BaseFault::TooMany),
-    }
-}
-
-/// Fills the base folder of this path, which ends in a slash and has no message, with the messages of the base. So
-/// many of them count as scanned. The folder gets the key of these two halves, and has no owner. `strange` says that
-/// it has foreign files.
+/// Fills the base folder of this path, which ends in a slash and has no message, with the messages. So many of them
+/// count as scanned. The folder gets the key of these two halves, and has no owner. `strange` says that it has foreign
+/// files. One message at a time is in memory, with a buffer.
 ///
-/// In addition to the errors of `open_base`, it is `Wrong` if a message is too large to be counted in four bytes
-/// (F7).
-pub fn fill<D: Disk, H: Digest, S: BuildHasher>(
+/// An error of the folder is one of `open_base`, or `Wrong` if a message is too large to be counted in four bytes (F7).
+pub fn fill<D: Disk, H: Digest, M: MessageSource>(
     alloc: Global,
     disk: &mut D,
     path: &[u8],
     strange: bool,
     key: (u64, u64),
-    base: &Base<S>,
-) -> Result<(), OpenError>
-    requires { Honestly (D.state disk.old) (AreAlone path.now (D.state disk.old)) }
-    ensures filled { Honestly (D.state disk.new) (StandsForBase H.keyed path.now no_messages (D.state disk.old).seen
-        → OnOk result (IsKept H.keyed path.now (D.state disk.new) base.now)) }
+    messages: &mut M,
+) -> Result<(), UnfilledFolder>
+    requires alone { Honestly (D.state disk.old) (AreAlone path.now (D.state disk.old)) }
+    requires ready { (M.state messages.old).is_ready }
+
+    // The folder's disk was honest, and so was the source of the messages, which may be another disk.
+    ensures filled { Honestly (D.state disk.new) ((M.state messages.new).is_honest → (base : Base) → (M.state messages.old).holds base
+        → StandsForBase H.keyed path.now no_messages (D.state disk.old).seen
+        → OnOk result (IsKept H.keyed path.now (D.state disk.new) base)) }
 
     // A crash at any time leaves no message or all of the base, or what a crash might have left before.
-    ensures any_moment { Honestly (D.state disk.new) (StandsForBase H.keyed path.now no_messages (D.state disk.old).seen
-        → LeavesOnly (D.state disk.old) (D.state disk.new) (StandsForOneOfOrWasLeft H.keyed path.now (D.state disk.old) no_messages base.now)) }
+    ensures any_moment { Honestly (D.state disk.new) ((M.state messages.new).is_honest → (base : Base) → (M.state messages.old).holds base
+        → StandsForBase H.keyed path.now no_messages (D.state disk.old).seen
+        → LeavesOnly (D.state disk.old) (D.state disk.new) (StandsForOneOfOrWasLeft H.keyed path.now (D.state disk.old) no_messages base)) }
     ensures outside { KeepsOutside path.now (D.state disk.old) (D.state disk.new) }
     ensures wrong { Honestly (D.state disk.new) (IfErr result (IsUnfilled strange path.now (D.state disk.old).seen)) }
-    ensures cause { HasUnreadCause (D.failures disk.old) (D.failures disk.new) result }
-    ensures many { Honestly (D.state disk.new) (StandsForBase H.keyed path.now no_messages (D.state disk.old).seen
-        → IsErrOf result (OpenError.Wrong BaseFault.TooMany) → IsFilledFull D.state H.keyed path.now base.now) }
+
+    // The faults of the source, and of the folder's disk.
+    ensures reads { ReadsFor (M.state messages.old) (M.state messages.new) result }
+    ensures cause { HasUnfilledCause (D.failures disk.old) (D.failures disk.new) result }
+    ensures many { Honestly (D.state disk.new) ((M.state messages.new).is_honest → (base : Base) → (M.state messages.old).holds base
+        → StandsForBase H.keyed path.now no_messages (D.state disk.old).seen
+        → IsErrOf result (UnfilledFolder.Folder (OpenError.Wrong BaseFault.TooMany)) → IsFilledFull D.state H.keyed path.now base) }
 {
     let mut folder = open_base(alloc, disk, path, strange)?;
     give_key(&mut folder, key.0, key.1);
-    match fill_opened::<D, H, S>(alloc, disk, &mut folder, base) {
-        Ok(()) => Ok(()),
-        Err(error) => Err(unfilled_by(error)),
-    }
+    fill_opened::<D, H, M>(alloc, disk, &mut folder, messages)
 }

@@ -25,6 +25,7 @@ mod owning;
 mod readers;
 mod reading;
 mod source;
+mod unfilled;
 mod unsent;
 
 pub use as_file::{file_of, send_file};
@@ -40,4 +41,5 @@ pub use owning::{address_of, judge_owner, number_of};
 pub use readers::{BaseReader, FolderReader, read_folder};
 pub use reading::{ReadingProgress, begin_at};
 pub use source::MessageSource;
+pub use unfilled::UnfilledFolder;
 pub use unsent::UnsentFile;

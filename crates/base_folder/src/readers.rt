@@ -44,6 +44,7 @@ impl<S: BuildHasher> BaseReader<S> {
 
 impl<S: BuildHasher> MessageSource for BaseReader<S> {
     ghost use Rattle.std.specs.Prelude.{◌≡◌, length, slice_get};
+    ghost use Rattle.std.proofs.Common.{ap};
     ghost use Rattle.base_file.specs.Base as model;
 
     ghost state = { λ r. record {
@@ -53,6 +54,7 @@ impl<S: BuildHasher> MessageSource for BaseReader<S> {
       holds = λ (base : model.Base). (r.base.messages ≡ base.messages) × (r.base.cursor ≡ base.cursor);
       at_hand = slice_get r.base.messages r.place;
       failures = 0;
+      counted = λ (base : model.Base) same. ap length same.0;
     } };
 
     fn count(&self) -> usize {

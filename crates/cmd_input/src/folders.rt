@@ -3,9 +3,7 @@ ghost use Rattle.std.specs.Prelude.{IfOk};
 
 use crate::{Messages, Progress, folder_fault, folder_path, output_fault, read_file};
 use base_file::BaseFault;
-use base_folder::{
-    BaseReader, FolderReader, MessageSource, OpenError, file_of, log_end, read_folder,
-};
+use base_folder::{BaseReader, FolderReader, MessageSource, OpenError, log_end, read_folder};
 use base_store::SipDigest;
 use cmd_status::Fault;
 use disk_system::{RealDisk, Unknown, flush_path};
@@ -94,15 +92,6 @@ pub fn check_base<'a>(rt: &HostRuntime, base: &'a str) -> Result<(), Fault<'a>> 
         read_file(rt, base, usize::MAX)?;
     }
     Ok(())
-}
-
-/// The bytes of a base file, or for a base folder those of a base file with the same messages.
-pub fn base_bytes<'a>(rt: &HostRuntime, base: &'a str) -> Result<Vec<u8>, Fault<'a>> {
-    if !is_folder(rt, base) {
-        return read_file(rt, base, usize::MAX);
-    }
-    let mut messages = look_into(rt, base, 0, None)?;
-    file_of(rt.alloc(), &mut messages).map_err(|fault| messages_fault(fault, base))
 }
 
 /// Why the messages of the base with this path were not read as a base file.

@@ -20,8 +20,8 @@ mod progress;
 
 pub use clock::{created_now, moment_of, serial_from};
 pub use folders::{
-    FolderMessages, base_bytes, check_base, drawn_key, flush_name, is_folder, is_strange,
-    is_unused, load_base, look_into, messages_fault,
+    FolderMessages, check_base, drawn_key, flush_name, is_folder, is_strange, is_unused, load_base,
+    look_into, messages_fault,
 };
 pub use inputs::{
     BASE_START, MAX_INPUT, MAX_TEXT_FILE, input_fault, output_fault, read_file, read_given,

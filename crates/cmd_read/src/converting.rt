@@ -1,12 +1,14 @@
 //! `convert` makes a base file or a base folder with the messages of another base.
 ghost use Rattle.base_folder.specs.Source.{LooksAt};
 
-use base_file::{Base, BaseFault};
-use base_folder::{BaseReader, Distinct, MessageSource, UnsentFile, fill, send_file};
+use base_file::BaseFault;
+use base_folder::{
+    BaseReader, Distinct, MessageSource, UnfilledFolder, UnsentFile, fill, send_file,
+};
 use base_store::SipDigest;
 use cmd_input::{
-    BASE_START, base_bytes, drawn_key, flush_name, folder_of, folder_path, is_folder, is_strange,
-    is_unused, locked_folder, look_into, messages_fault, output_fault, read_file,
+    BASE_START, drawn_key, flush_name, folder_of, folder_path, is_folder, is_strange, is_unused,
+    locked_folder, look_into, messages_fault, output_fault, read_file,
 };
 use cmd_status::{Fault, Status, print_rest};
 use disk_io::{Sink, Watched};
@@ -17,8 +19,8 @@ use std::io;
 /// The word in the staging path of a new base file where other files have the address of a system.
 const OWN: &str = "base";
 
-/// `convert FROM TO`: FROM is read first. TO is an empty folder, or a path that nothing has. If FROM is a folder and TO
-/// none, one message at a time is in memory.
+/// `convert FROM TO`: FROM is read first. TO is an empty folder, or a path that nothing has. If FROM is a folder, one
+/// message at a time is in memory. Before a folder TO is filled, FROM is read to its end, so a fault leaves TO empty.
 pub fn run_convert<'a, W: Sink>(
     rt: &HostRuntime,
     from: &'a str,
@@ -26,34 +28,20 @@ pub fn run_convert<'a, W: Sink>(
     out: &mut W,
 ) -> Result<Status, Fault<'a>> {
     let hasher = RandomState::new(rt).map_err(|_| Fault::Base(BaseFault::Read))?;
-    if is_folder(rt, to) {
-        return convert_into_folder(rt, from, hasher, to, out);
-    }
     if is_folder(rt, from) {
         let messages = look_into(rt, from, 0, None)?;
         let mut messages = Distinct::new(rt.alloc(), messages, hasher);
-        return convert_into_file(rt, from, &mut messages, to, out);
+        if is_folder(rt, to) {
+            judge_messages(rt, from, &mut messages)?;
+        }
+        return convert_messages(rt, from, &mut messages, to, out);
     }
     let mut messages = BaseReader::read(rt.alloc(), &read_file(rt, from, usize::MAX)?, hasher)?;
-    convert_into_file(rt, from, &mut messages, to, out)
+    convert_messages(rt, from, &mut messages, to, out)
 }
 
-// Makes a base folder of a base in memory.
-fn convert_into_folder<'a, W: Sink>(
-    rt: &HostRuntime,
-    from: &'a str,
-    hasher: RandomState,
-    to: &'a str,
-    out: &mut W,
-) -> Result<Status, Fault<'a>> {
-    let bytes = base_bytes(rt, from)?;
-    let base = Base::load(rt.alloc(), &mut bytes.as_slice(), hasher)?;
-    fill_empty(rt, &base, to)?;
-    print_converted(rt, base.len(), base.cursor(), out)
-}
-
-// Makes a base file of these messages.
-fn convert_into_file<'a, M: MessageSource, W: Sink>(
+// Makes a base of these messages.
+fn convert_messages<'a, M: MessageSource, W: Sink>(
     rt: &HostRuntime,
     from: &'a str,
     messages: &mut M,
@@ -62,8 +50,27 @@ fn convert_into_file<'a, M: MessageSource, W: Sink>(
 ) -> Result<Status, Fault<'a>>
     requires { (M.state messages.old).is_ready }
 {
-    save_file(rt, from, messages, to)?;
+    if is_folder(rt, to) {
+        fill_empty(rt, from, messages, to)?;
+    } else {
+        save_file(rt, from, messages, to)?;
+    }
     print_converted(rt, messages.count(), messages.cursor(), out)
+}
+
+// Reads the messages to the end, and reports the first fault.
+fn judge_messages<'a, M: MessageSource>(
+    rt: &HostRuntime,
+    from: &'a str,
+    messages: &mut M,
+) -> Result<(), Fault<'a>>
+    requires { (M.state messages.old).is_ready }
+    ensures { LooksAt (M.state messages.old) (M.state messages.new) }
+{
+    match send_file(rt.alloc(), messages, &mut Watched::new(io::sink())) {
+        Err(UnsentFile::Messages(fault)) => Err(messages_fault(fault, from)),
+        _ => Ok(()),
+    }
 }
 
 fn print_converted<'a, W: Sink>(
@@ -79,55 +86,53 @@ fn print_converted<'a, W: Sink>(
 }
 
 // Fills an empty folder under its lock, so that no other run fills or changes it.
-fn fill_empty<'a>(
+fn fill_empty<'a, M: MessageSource>(
     rt: &HostRuntime,
-    base: &Base<RandomState>,
+    from: &'a str,
+    messages: &mut M,
     to: &'a str,
-) -> Result<(), Fault<'a>> {
+) -> Result<(), Fault<'a>>
+    requires { (M.state messages.old).is_ready }
+{
     let locked = locked_folder(rt, to)?;
-    let filled = fill_if_empty(rt, base, to);
+    let filled = fill_if_empty(rt, from, messages, to);
     let _ = locked.unlock();
     filled
 }
 
-fn fill_if_empty<'a>(
+fn fill_if_empty<'a, M: MessageSource>(
     rt: &HostRuntime,
-    base: &Base<RandomState>,
+    from: &'a str,
+    messages: &mut M,
     to: &'a str,
-) -> Result<(), Fault<'a>> {
-    if is_unused(rt, to)? {
-        fill_folder(rt, to, base)
-    } else {
-        Err(Fault::CannotUse(to))
+) -> Result<(), Fault<'a>>
+    requires { (M.state messages.old).is_ready }
+{
+    if !is_unused(rt, to)? {
+        return Err(Fault::CannotUse(to));
+    }
+    flush_name(rt, to, 0)?;
+    match fill_folder(rt, messages, to)? {
+        Ok(()) => Ok(()),
+        Err(UnfilledFolder::Messages(fault)) => Err(messages_fault(fault, from)),
+        Err(UnfilledFolder::Folder(why)) => Err(why.fault(to)),
     }
 }
 
-// Fills the empty base folder with this path with the messages of a base.
-fn fill_folder<'a>(
+// Fills the empty base folder with this path. The inner error is one of the messages or of the folder's files.
+fn fill_folder<'a, M: MessageSource>(
     rt: &HostRuntime,
+    messages: &mut M,
     to: &'a str,
-    base: &Base<RandomState>,
-) -> Result<(), Fault<'a>> {
-    flush_name(rt, to, 0)?;
+) -> Result<Result<(), UnfilledFolder>, Fault<'a>>
+    requires { (M.state messages.old).is_ready }
+{
     let strange = is_strange(rt, to)?;
     let path = folder_path(rt, to)?;
-    fill_at(rt, to, path.as_str(), strange, base)
-}
-
-// Fills it. Its files have `path` before their names.
-fn fill_at<'a>(
-    rt: &HostRuntime,
-    to: &'a str,
-    path: &str,
-    strange: bool,
-    base: &Base<RandomState>,
-) -> Result<(), Fault<'a>> {
+    let path = path.as_str().as_bytes();
     let key = drawn_key(rt)?;
     let mut disk = RealDisk::new(rt, Unknown);
-    match fill::<_, SipDigest, _>(rt.alloc(), &mut disk, path.as_bytes(), strange, key, base) {
-        Ok(()) => Ok(()),
-        Err(why) => Err(why.fault(to)),
-    }
+    Ok(fill::<_, SipDigest, _>(rt.alloc(), &mut disk, path, strange, key, messages))
 }
 
 // Makes a base file at a path that nothing has. A fault of the messages counts before one of the file: if the file
@@ -143,10 +148,8 @@ fn save_file<'a, M: MessageSource>(
     let Err(failed) = write_file(rt, from, messages, to)? else {
         return flush_folder(rt, folder_of(to)).map_err(|fault| output_fault(fault, to));
     };
-    match send_file(rt.alloc(), messages, &mut Watched::new(io::sink())) {
-        Err(UnsentFile::Messages(fault)) => Err(messages_fault(fault, from)),
-        _ => Err(output_fault(failed, to)),
-    }
+    judge_messages(rt, from, messages)?;
+    Err(output_fault(failed, to))
 }
 
 // Writes it, message by message. The inner error is one of the file.

@@ -6,7 +6,22 @@ use Rattle.base_folder_store.specs.Added.{LacksRoom}
 use Rattle.base_folder_store.specs.Opened.{held_by}
 use Rattle.base_folder_store.proofs.Causes.{done_both, handed_on}
 use Rattle.base_folder_store.proofs.Seen.{filed_more}
+use Rattle.base_folder.proofs.Fillings.{adds_none}
 use Rattle.base_folder.proofs.filling.add.Goals as goal
+
+pub returns-in_err-bytes-clause-kept : goal.returns-in_err-bytes-clause-kept
+returns-in_err-bytes-clause-kept g c = adds_none c.args.folder.now (g.D.Disk.state c.args.disk.now) c.from_residual.result c.requires
+
+pub returns-in_err-key-clause-kept : goal.returns-in_err-key-clause-kept
+returns-in_err-key-clause-kept g c = adds_none c.args.folder.now (g.D.Disk.state c.args.disk.now) c.from_residual-in_err-key.result c.requires
+
+pub returns-in_err-digested-clause-kept : goal.returns-in_err-digested-clause-kept
+returns-in_err-digested-clause-kept g c = adds_none c.args.folder.now (g.D.Disk.state c.args.disk.now) c.from_residual-in_err-digested.result c.requires
+
+pub returns-clause-kept : goal.returns-clause-kept
+returns-clause-kept g c =
+    let says = c.stage.ensures in
+    record { named = says.stays.named; opened = says.stays.opened; path = says.stays.path; same = says.same; run = says.run }
 
 pub returns-clause-added : goal.returns-clause-added
 returns-clause-added g c = λ honest.

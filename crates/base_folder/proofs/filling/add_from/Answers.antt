@@ -1,55 +1,89 @@
-use Rattle.std.proofs.Common.{◌≡◌, ℕ, ◌∙◌, inl, subst, arith}
-use Rattle.base_folder_store.specs.Calls.{StagesOnly}
-use Rattle.base_folder_store.specs.Opened.{committed_by, held_by, path_of}
-use Rattle.base_folder_store.proofs.Causes.{handed_on, on_ok_none}
-use Rattle.base_folder_store.proofs.Runs.{run_twice, stays_twice}
-use Rattle.base_folder.specs.Filled.{HoldsFront}
-use Rattle.base_folder.proofs.filling.add_from.Given as given
-use Rattle.base_folder.proofs.filling.add_from.Goals.{After-add_next}
+use Rattle.std.proofs.Common.{◌≡◌, ℕ, Result, Ok, Err, inl, subst, arith}
+use Rattle.base_folder_store.specs.Opened.{held_by}
+use Rattle.base_folder_store.proofs.Causes.{handed_on}
+use Rattle.base_folder.specs.Filled.{AddsOnly, HasFillCause, HoldsFront, ReadsFor}
+use Rattle.base_folder.specs.declared.unfilled.UnfilledFolder.{UnfilledFolder}
+use Rattle.base_folder.proofs.Fillings.{adds_none, adds_twice, by_error, cause_since, reads_none, reads_twice, shows_before, shows_later}
 use Rattle.base_folder.proofs.filling.add_from.Goals as goal
 
--- the run up to the call for one more message
-run : (g : given.Over) (c : After-add_next g)
-    → StagesOnly (path_of c.args.folder.now) (committed_by (g.D.Disk.state c.args.disk.now) c.args.folder.now) (g.D.Disk.state c.args.disk.now) (g.D.Disk.state c.add_next.new.disk)
-run g c =
-    let d = g.D.Disk.state c.args.disk.now in
-    let e = g.D.Disk.state c.messages.disk in
+pub add_next-requires : goal.add_next-requires
+add_next-requires g c =
     let was = c.messages.invariant in
-    run_twice (path_of c.args.folder.now) (path_of c.messages.folder) d e (g.D.Disk.state c.add_next.new.disk) (committed_by d c.args.folder.now) (committed_by e c.messages.folder) was.stays.path was.run c.add_next.ensures.run was.same
+    record {
+      usable = record { named = was.kept.named; opened = was.kept.opened };
+      ready = was.reads.looks.ready c.requires.ready;
+      within = omega (arith, c.messages-test.true, c.requires.within, was.reads.looks.count);
+    }
 
-pub returns-in_err-add_next-clause-run : goal.returns-in_err-add_next-clause-run
-returns-in_err-add_next-clause-run g c = run g (goal.at.returns-in_err-add_next-clause-run g c).After-add_next
-
-pub returns-in_err-add_next-clause-stays : goal.returns-in_err-add_next-clause-stays
-returns-in_err-add_next-clause-stays g c =
-    let stays = c.add_next.ensures.stays in
-    let was = c.messages.invariant.stays in
-    record { named = stays.named; opened = λ honest. on_ok_none _ _ c.from_residual.result c.from_residual.ensures.1; path = stays.path ∙ was.path; mark = stays.mark ∙ was.mark }
+pub messages-init : goal.messages-init
+messages-init g c = record {
+  kept = adds_none c.args.folder.now (g.D.Disk.state c.args.disk.now) (Ok tt) c.requires.usable;
+  held = λ honest base cursor shows front. front;
+  reads = reads_none (g.M.MessageSource.state c.args.messages.now);
+  cause = omega arith;
+}
 
 pub messages-preserved : goal.messages-preserved
 messages-preserved g c =
+    let d = g.D.Disk.state c.args.disk.now in
+    let e = g.D.Disk.state c.messages.disk in
+    let k = g.D.Disk.state c.add_next.new.disk in
+    let a = g.M.MessageSource.state c.args.messages.now in
+    let b = g.M.MessageSource.state c.messages.messages in
+    let z = g.M.MessageSource.state c.add_next.new.messages in
     let was = c.messages.invariant in
     let says = c.in_ok-add_next.ensures in
     record {
-      stays = stays_twice _ was.stays says.stays;
-      held = λ honest cursor front. says.added honest cursor (was.held (says.run.outside.honest honest) cursor front);
-      same = λ honest. says.same honest ∙ was.same (says.run.outside.honest honest);
-      run = run g (goal.at.messages-preserved g c).After-add_next;
-      cause = let one = was.cause in let two = says.cause.later in omega (arith, one, two);
+      kept = adds_twice c.args.folder.now c.messages.folder c.add_next.new.folder d e k (Ok tt) was.kept says.kept;
+      held = λ honest base cursor shows front. says.added honest base cursor (shows_later a b z base was.reads.looks shows)
+          (was.held (says.kept.run.outside.honest honest) base cursor (shows_before a b z base says.reads.looks shows) front);
+      reads = reads_twice a b z (Ok tt) was.reads says.reads;
+      cause = omega (arith, was.cause, says.cause.cause.later);
     }
 
-pub returns-clause-added : goal.returns-clause-added
-returns-clause-added g c = λ honest cursor front.
-    let end : c.messages.i ≡ c.args.to = omega (arith, c.requires.range.order) in
-    subst (λ (n : ℕ). HoldsFront g.H.Digest.keyed (held_by (g.D.Disk.state c.messages.disk) c.messages.folder) c.args.base.now.messages n cursor) end (c.messages.invariant.held honest cursor front)
+pub returns-in_err-add_next-clause-kept : goal.returns-in_err-add_next-clause-kept
+returns-in_err-add_next-clause-kept g c =
+    let d = g.D.Disk.state c.args.disk.now in
+    let k = g.D.Disk.state c.add_next.new.disk in
+    by_error (λ (r : Result (Unit {0}) UnfilledFolder). AddsOnly c.args.folder.now c.add_next.new.folder d k r) c.in_err-add_next.field-0.0 c.from_residual.result c.from_residual.ensures.1
+    (adds_twice c.args.folder.now c.messages.folder c.add_next.new.folder d (g.D.Disk.state c.messages.disk) k (Err c.in_err-add_next.field-0.0) c.messages.invariant.kept c.in_err-add_next.ensures.kept)
+
+pub returns-in_err-add_next-clause-reads : goal.returns-in_err-add_next-clause-reads
+returns-in_err-add_next-clause-reads g c =
+    let a = g.M.MessageSource.state c.args.messages.now in
+    let z = g.M.MessageSource.state c.add_next.new.messages in
+    by_error (λ (r : Result (Unit {0}) UnfilledFolder). ReadsFor a z r) c.in_err-add_next.field-0.0 c.from_residual.result c.from_residual.ensures.1
+    (reads_twice a (g.M.MessageSource.state c.messages.messages) z (Err c.in_err-add_next.field-0.0) c.messages.invariant.reads c.in_err-add_next.ensures.reads)
+
+pub returns-in_err-add_next-clause-cause : goal.returns-in_err-add_next-clause-cause
+returns-in_err-add_next-clause-cause g c =
+    let a = g.D.Disk.failures c.args.disk.now in
+    let z = g.D.Disk.failures c.add_next.new.disk in
+    by_error (λ (r : Result (Unit {0}) UnfilledFolder). HasFillCause a z r) c.in_err-add_next.field-0.0 c.from_residual.result c.from_residual.ensures.1
+    (cause_since a (g.D.Disk.failures c.messages.disk) z (Err c.in_err-add_next.field-0.0) c.messages.invariant.cause c.in_err-add_next.ensures.cause)
 
 pub returns-in_err-add_next-clause-many : goal.returns-in_err-add_next-clause-many
-returns-in_err-add_next-clause-many g c = λ honest cursor front is.
+returns-in_err-add_next-clause-many g c = λ honest base cursor shows front is.
+    let a = g.M.MessageSource.state c.args.messages.now in
+    let b = g.M.MessageSource.state c.messages.messages in
+    let z = g.M.MessageSource.state c.add_next.new.messages in
     let was = c.messages.invariant in
-    let next = c.in_err-add_next.ensures.many (handed_on _ _ c.from_residual.result c.from_residual.ensures.1 is) in
+    let next = c.in_err-add_next.ensures.many base (shows_later a b z base was.reads.looks shows) (handed_on _ _ c.from_residual.result c.from_residual.ensures.1 is) in
     record {
       disk = c.messages.disk;
       folder = c.messages.folder;
-      at = was.stays.path;
-      full = inl (record { place = c.messages.i; cursor = cursor; message = next.0; holds = was.held (c.add_next.ensures.run.outside.honest honest) cursor front; is = next.1; lacks = next.2 });
+      at = was.kept.path;
+      full = inl (record {
+        place = c.messages.i;
+        cursor = cursor;
+        message = next.0;
+        holds = was.held (c.add_next.ensures.kept.run.outside.honest honest) base cursor (shows_before a b z base c.add_next.ensures.reads.looks shows) front;
+        is = next.1;
+        lacks = next.2;
+      });
     }
+
+pub returns-clause-added : goal.returns-clause-added
+returns-clause-added g c = λ honest base cursor shows front.
+    let end : c.messages.i ≡ c.args.to = omega (arith, c.requires.order) in
+    subst (λ (n : ℕ). HoldsFront g.H.Digest.keyed (held_by (g.D.Disk.state c.messages.disk) c.messages.folder) base.messages n cursor) end (c.messages.invariant.held honest base cursor shows front)

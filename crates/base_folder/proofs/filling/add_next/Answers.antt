@@ -1,20 +1,56 @@
-use Rattle.std.proofs.Common.{◌≡◌, Some, sym}
+use Rattle.std.proofs.Common.{◌≡◌, ◌∙◌, Some, sym}
 use Rattle.std.specs.Prelude.{slice_get}
-use Rattle.std.proofs.lemmas.Result.{on_ok_weaker}
 use Rattle.base_folder_store.specs.Opened.{held_by}
-use Rattle.base_folder.specs.Filled.{HoldsMore}
-use Rattle.base_folder.proofs.Fillings.{front_one}
+use Rattle.base_folder.specs.Filled.{unfilled_cause}
+use Rattle.base_folder.proofs.Fillings.{adds_failed, adds_none, cause_stored, front_one, many_stored, none_missing, reads_fault, reads_folder}
 use Rattle.base_folder.proofs.filling.add_next.Goals as goal
 
-pub returns-in-Some-clause-added : goal.returns-in-Some-clause-added
-returns-in-Some-clause-added g c = λ honest cursor was.
+pub returns-in-Err-clause-kept : goal.returns-in-Err-clause-kept
+returns-in-Err-clause-kept g c = adds_none c.args.folder.now (g.D.Disk.state c.args.disk.now) _ c.requires.usable
+
+pub returns-in-Err-clause-reads : goal.returns-in-Err-clause-reads
+returns-in-Err-clause-reads g c =
+    let old = g.M.MessageSource.state c.args.messages.now in
+    let new = g.M.MessageSource.state c.fetch.new.self in
+    reads_fault old new c.args.place c.in-Err.error c.fault_of.result (λ base. new.at_hand ≡ slice_get base.messages c.args.place) c.fault_of.ensures c.fetch.ensures.looks c.in-Err.ensures.cause c.in-Err.ensures.fetched
+
+pub returns-in_err-add-in-Some-clause-kept : goal.returns-in_err-add-in-Some-clause-kept
+returns-in_err-add-in-Some-clause-kept g c =
+    adds_failed c.args.folder.now c.add.new.folder (g.D.Disk.state c.args.disk.now) (g.D.Disk.state c.add.new.disk) _ _ c.from_residual.result c.from_residual.ensures.1 c.in_err-add-in-Some.ensures.kept
+
+pub returns-in_err-add-in-Some-clause-reads : goal.returns-in_err-add-in-Some-clause-reads
+returns-in_err-add-in-Some-clause-reads g c =
+    reads_folder (g.M.MessageSource.state c.args.messages.now) (g.M.MessageSource.state c.fetch.new.self) (unfilled_cause c.in_err-add-in-Some.field-0.0) c.from_residual.result c.from_residual.ensures.1 c.fetch.ensures.looks c.fetch.ensures.cause.later
+
+pub returns-in_err-add-in-Some-clause-cause : goal.returns-in_err-add-in-Some-clause-cause
+returns-in_err-add-in-Some-clause-cause g c =
+    cause_stored (g.D.Disk.failures c.args.disk.now) (g.D.Disk.failures c.add.new.disk) c.in_err-add-in-Some.field-0.0 c.from_residual.result c.from_residual.ensures.1 c.in_err-add-in-Some.ensures.cause
+
+pub returns-in_err-add-in-Some-clause-many : goal.returns-in_err-add-in-Some-clause-many
+returns-in_err-add-in-Some-clause-many g c = λ base shows is.
+    let m = c.in-Some.message.now in
+    let at : slice_get base.messages c.args.place ≡ Some m = sym (c.in-Some.ensures ∙ c.in_default.ensures.fetched shows.honest base shows.holds) in
+    (m, at, c.in_err-add-in-Some.ensures.many (many_stored c.in_err-add-in-Some.field-0.0 c.from_residual.result c.from_residual.ensures.1 is))
+
+pub returns-in_ok-add-in-Some-clause-added : goal.returns-in_ok-add-in-Some-clause-added
+returns-in_ok-add-in-Some-clause-added g c = λ honest base cursor shows was.
     let keyed = g.H.Digest.keyed in
     let m = c.in-Some.message.now in
-    let base = c.args.base.now in
     let old = held_by (g.D.Disk.state c.args.disk.now) c.args.folder.now in
     let now = held_by (g.D.Disk.state c.add.new.disk) c.add.new.folder in
-    let at : slice_get base.messages c.args.place ≡ Some m = sym c.in-Some.ensures in
-    on_ok_weaker {P = HoldsMore keyed old now m} c.add.result (λ more. front_one keyed old now base c.args.place cursor m c.requires.base at more was) (c.add.ensures.added honest)
+    let at : slice_get base.messages c.args.place ≡ Some m = sym (c.in-Some.ensures ∙ c.in_default.ensures.fetched shows.honest base shows.holds) in
+    front_one keyed old now base c.args.place cursor m shows.is at (c.in_ok-add-in-Some.ensures.added honest) was
 
-pub returns-in-Some-clause-many : goal.returns-in-Some-clause-many
-returns-in-Some-clause-many g c is = (c.in-Some.message.now, sym c.in-Some.ensures, c.add.ensures.many is)
+pub returns-in-None-clause-kept : goal.returns-in-None-clause-kept
+returns-in-None-clause-kept g c = adds_none c.args.folder.now (g.D.Disk.state c.args.disk.now) _ c.requires.usable
+
+pub returns-in-None-clause-reads : goal.returns-in-None-clause-reads
+returns-in-None-clause-reads g c =
+    let old = g.M.MessageSource.state c.args.messages.now in
+    let new = g.M.MessageSource.state c.fetch.new.self in
+    record {
+      looks = c.fetch.ensures.looks;
+      later = c.fetch.ensures.cause.later;
+      failed = λ is. absurd (cc (is));
+      whole = λ honest base holds. absurd (none_missing old new base c.args.place c.in-None.ensures (c.in_default.ensures.fetched honest base holds) c.requires.within holds);
+    }
