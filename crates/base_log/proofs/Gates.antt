@@ -7,7 +7,7 @@ use Rattle.disk_io.specs.Disk.{DiskState, Files, bytes_in, IsIn}
 use Rattle.disk_io.specs.Steps.{IsWrittenAt, TornWrite, ChangesFile}
 use Rattle.disk_io.specs.Runs.{OneStepOn, LeavesOnly, ChangesNothing}
 use Rattle.disk_io.specs.Synced.{IsOnDisk, KeepsOthers}
-use Rattle.disk_io.proofs.Moments.{no_call, then_run, then_nothing, left_now}
+use Rattle.disk_io.proofs.Moments.{no_call, nothing_twice, then_run, then_nothing, left_now}
 use Rattle.base_log.specs.Names.{log_of, messages_of, keys_of}
 use Rattle.base_log.specs.Log.{opened, told_by, body_of, FitsRecord, last_told}
 use Rattle.base_log.specs.Standing.{BaseBytes, StandsFor, TellsBase, base_at}
@@ -15,6 +15,7 @@ use Rattle.base_log.specs.AtRest.{IsAtRest, IsStaged}
 use Rattle.base_log.specs.Moments.{SameOutside, KeepsOutside, IsBeforeOrAfter}
 use Rattle.base_log.specs.declared.log.CommitRecord.{CommitRecord}
 use Rattle.base_log.specs.declared.log.End.{End}
+use Rattle.base_log.proofs.Keeping.{on_disk_kept, on_disk_quiet, outside_kept, outside_quiet, outside_twice, settled_on}
 use Rattle.base_log.proofs.Logs.{opened-snoc, AreBodies-snoc, last_told-snoc, shut_log, shut_at, torn_record, whole_record, torn_gate, whole_gate}
 use Rattle.base_log.proofs.Paths.{log_in, messages_in, keys_in, messages_not_log, keys_not_log}
 use Rattle.base_log.proofs.Same.{AreThere-both, TellsBase-seen, log_changed}
@@ -35,52 +36,6 @@ told_by-body_of told fits = λ i. record {
 -- a path outside the folder is not the path of its log
 pub outside_log : (path m : List ℕ) → (IsIn path m → ⊥) → m ≢ log_of path
 outside_log path m out is = out (subst (λ (l : List ℕ). IsIn path l) (sym is) (log_in path))
-
--- a change of one file of the folder leaves everything outside unchanged
-pub outside_kept : (path file : List ℕ) (d e : DiskState) → IsIn path file → KeepsOthers d e file → KeepsOutside path d e
-outside_kept path file d e inside kept =
-    let other : (m : List ℕ) → (IsIn path m → ⊥) → m ≢ file = λ m out is. out (subst (λ (l : List ℕ). IsIn path l) (sym is) inside) in
-    record {
-      seen = λ m out. kept.seen m (other m out);
-      named = λ m out. kept.named m;
-      flushed = λ m out. kept.flushed m (other m out);
-      alone = λ m out. kept.alone m;
-      honest = kept.honest;
-    }
-
-pub outside_quiet : (path : List ℕ) (d e : DiskState) → ChangesNothing d e → KeepsOutside path d e
-outside_quiet path d e quiet = record {
-  seen = λ m out. quiet.seen m;
-  named = λ m out. quiet.named m (λ h. h);
-  flushed = λ m out. quiet.flushed m (λ h. h);
-  alone = λ m out. quiet.alone m (λ h. h);
-  honest = quiet.honest;
-}
-
-pub outside_twice : (path : List ℕ) (d e f : DiskState) → KeepsOutside path d e → KeepsOutside path e f → KeepsOutside path d f
-outside_twice path d e f one two = record {
-  seen = λ m out. two.seen m out ∙ one.seen m out;
-  named = λ m out is. two.named m out (one.named m out is);
-  flushed = λ m out is. two.flushed m out (one.flushed m out is);
-  alone = λ m out is. two.alone m out (one.alone m out is);
-  honest = λ is. one.honest (two.honest is);
-}
-
-pub on_disk_quiet : (d e : DiskState) (file : List ℕ) → ChangesNothing d e → IsOnDisk d file → IsOnDisk e file
-on_disk_quiet d e file quiet on = record {
-  there = subst (λ f. IsSome f) (sym (quiet.seen file)) on.there;
-  named = quiet.named file (λ h. h) on.named;
-  flushed = quiet.flushed file (λ h. h) on.flushed;
-  alone = quiet.alone file (λ h. h) on.alone;
-}
-
-pub on_disk_kept : (d e : DiskState) (file other : List ℕ) → KeepsOthers d e other → file ≢ other → IsOnDisk d file → IsOnDisk e file
-on_disk_kept d e file other kept ne on = record {
-  there = subst (λ f. IsSome f) (sym (kept.seen file ne)) on.there;
-  named = kept.named file on.named;
-  flushed = kept.flushed file ne on.flushed;
-  alone = kept.alone file on.alone;
-}
 
 -- an open record with a closed gate behind it is one record more
 record_behind : (bodies : List (List ℕ)) (body left : List ℕ) → opened bodies ++ 1 ∷ ((body ++ 0 ∷ []) ++ left) ≡ opened (bodies ++ body ∷ []) ++ 0 ∷ left
@@ -130,29 +85,23 @@ module _ (d0 : DiskState) (path : List ℕ) (end : End) (told : CommitRecord) (s
 
   -- after the two syncs
   pub ready : (d1 d2 : DiskState) → ChangesNothing d0 d1 → ChangesNothing d1 d2 → d1.is_flushed (messages_of path told.number) → d2.is_flushed (keys_of path told.number) → Ready d2 staged.log.rest
-  ready d1 d2 quiet1 quiet2 m_flushed k_flushed = record {
-    run = then_nothing d0 d1 d2 P (then_nothing d0 d0 d1 P run_at_first quiet1) quiet2;
-    stands = λ c left. staged.stands c (quiet1.no_more c (quiet2.no_more c left));
-    outside = λ c left m out named flushed. d0.on_disk m named flushed c (quiet1.no_more c (quiet2.no_more c left));
-    kept = outside_twice path d0 d1 d2 (outside_quiet path d0 d1 quiet1) (outside_quiet path d1 d2 quiet2);
-    log = ap bytes_in (quiet2.seen (log_of path) ∙ quiet1.seen (log_of path)) ∙ staged.log.log;
-    log_on = on_disk_quiet d1 d2 (log_of path) quiet2 (on_disk_quiet d0 d1 (log_of path) quiet1 staged.log.on_disk);
-    named = λ m inside. quiet2.named m (λ h. h) (quiet1.named m (λ h. h) (staged.log.named m inside));
-    messages_on = record {
-      there = subst (λ f. IsSome f) (sym (quiet2.seen (messages_of path told.number) ∙ quiet1.seen (messages_of path told.number))) staged.messages_there;
-      named = quiet2.named (messages_of path told.number) (λ h. h) (quiet1.named (messages_of path told.number) (λ h. h) (staged.log.named (messages_of path told.number) (messages_in path told.number)));
-      flushed = quiet2.flushed (messages_of path told.number) (λ h. h) m_flushed;
-      alone = quiet2.alone (messages_of path told.number) (λ h. h) (quiet1.alone (messages_of path told.number) (λ h. h) staged.messages_alone);
-    };
-    keys_on = record {
-      there = subst (λ f. IsSome f) (sym (quiet2.seen (keys_of path told.number) ∙ quiet1.seen (keys_of path told.number))) staged.keys_there;
-      named = quiet2.named (keys_of path told.number) (λ h. h) (quiet1.named (keys_of path told.number) (λ h. h) (staged.log.named (keys_of path told.number) (keys_in path told.number)));
-      flushed = k_flushed;
-      alone = quiet2.alone (keys_of path told.number) (λ h. h) (quiet1.alone (keys_of path told.number) (λ h. h) staged.keys_alone);
-    };
-    messages_same = quiet2.seen (messages_of path told.number) ∙ quiet1.seen (messages_of path told.number);
-    keys_same = quiet2.seen (keys_of path told.number) ∙ quiet1.seen (keys_of path told.number);
-  }
+  ready d1 d2 quiet1 quiet2 m_flushed k_flushed =
+      let quiet = nothing_twice d0 d1 d2 quiet1 quiet2 in
+      let m = messages_of path told.number in
+      let k = keys_of path told.number in
+      record {
+        run = then_nothing d0 d0 d2 P run_at_first quiet;
+        stands = λ c left. staged.stands c (quiet.no_more c left);
+        outside = λ c left m out named flushed. d0.on_disk m named flushed c (quiet.no_more c left);
+        kept = outside_quiet path d0 d2 quiet;
+        log = ap bytes_in (quiet.seen (log_of path)) ∙ staged.log.log;
+        log_on = on_disk_quiet d0 d2 (log_of path) quiet staged.log.on_disk;
+        named = λ m inside. quiet.named m (λ h. h) (staged.log.named m inside);
+        messages_on = settled_on d0 d2 m quiet staged.messages_there (staged.log.named m (messages_in path told.number)) staged.messages_alone (quiet2.flushed m (λ h. h) m_flushed);
+        keys_on = settled_on d0 d2 k quiet staged.keys_there (staged.log.named k (keys_in path told.number)) staged.keys_alone k_flushed;
+        messages_same = quiet.seen m;
+        keys_same = quiet.seen k;
+      }
 
   module _ (d e : DiskState) where
     -- while the record is written behind the closed gate

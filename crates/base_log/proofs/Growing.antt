@@ -20,11 +20,11 @@ use Rattle.base_log.specs.declared.log.End.{End}
 use Rattle.base_log.specs.declared.names.Names.{Names}
 use Rattle.base_log.specs.declared.staging.GrowingFile.{GrowingFile}
 use Rattle.base_log.specs.declared.staging.GrowingFile.TheVariants as file
+use Rattle.base_log.proofs.Keeping.{log_moved, on_disk_kept}
 use Rattle.base_log.proofs.Calls.{Wrote, others_kept}
 use Rattle.base_log.proofs.Logs.{shut_log, shut_at}
 use Rattle.base_log.proofs.Paths.{log_not_messages, log_not_keys, messages_not_keys, keys_not_messages, messages_of-injective, keys_of-injective, messages_in, keys_in}
 use Rattle.base_log.proofs.Same.{front_long, tells_by}
-use Rattle.base_log.proofs.Gates.{on_disk_kept}
 
 -- ---- bytes
 
@@ -136,18 +136,8 @@ more_bytes d0 d path told file.Keys bytes same grown =
 
 -- a change of another file of the folder keeps the log
 log_kept : (d e : DiskState) (path file : List ℕ) (end : End) → log_of path ≢ file → KeepsOthers d e file → IsLogAt d path end → IsLogAt e path end
-log_kept d e path file end ne kept was = record {
-  bodies = was.bodies;
-  sizes = was.sizes;
-  closed = was.closed;
-  rest = was.rest;
-  log = ap bytes_in (kept.seen (log_of path) ne) ∙ was.log;
-  shut = was.shut;
-  gate = was.gate;
-  told = was.told;
-  on_disk = on_disk_kept d e (log_of path) file kept ne was.on_disk;
-  named = λ m inside. kept.named m (was.named m inside);
-}
+log_kept d e path file end ne kept was =
+    log_moved d e path end was (kept.seen (log_of path) ne) (on_disk_kept d e (log_of path) file kept ne was.on_disk) (λ m inside. kept.named m (was.named m inside))
 
 -- ---- more bytes in one of them
 

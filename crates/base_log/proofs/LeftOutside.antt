@@ -6,7 +6,7 @@ use Rattle.disk_io.specs.Steps.{ChangesFile}
 use Rattle.disk_io.proofs.Moments.{left_now, no_call, one_call, then_run, weaker_run}
 use Rattle.disk_io.specs.Synced.{KeepsOthers}
 use Rattle.base_log.specs.Moments.{KeepsOutside, LeavesOutside, SameNamedOutside}
-use Rattle.base_log.proofs.Gates.{outside_kept, outside_quiet, outside_twice}
+use Rattle.base_log.proofs.Keeping.{outside_kept, outside_quiet, outside_twice}
 
 pub left_start : (path : List ℕ) (d : DiskState) → LeavesOutside path d d
 left_start path d = no_call d (OneStepOn (SameNamedOutside path d) d) (λ c left. (c, left, λ m out named. refl))

@@ -2,6 +2,7 @@ pub mod Calls
 pub mod Empty
 pub mod Gates
 pub mod Growing
+pub mod Keeping
 pub mod LeftOutside
 pub mod Logs
 pub mod Made

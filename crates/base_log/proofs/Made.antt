@@ -9,11 +9,10 @@ use Rattle.base_log.specs.AtRest.{IsAtRest}
 use Rattle.base_log.specs.Moments.{KeepsOutside}
 use Rattle.base_log.specs.Opening.{AreNamed}
 use Rattle.base_log.specs.declared.log.End.{End}
+use Rattle.base_log.proofs.Keeping.{outside_but_one, outside_twice}
 use Rattle.base_log.proofs.Calls.{Made, but_one_call}
 use Rattle.base_log.proofs.Empty.{LogAlone, log_alone_first, log_alone_made}
-use Rattle.base_log.proofs.Gates.{outside_twice}
 use Rattle.base_log.proofs.Paths.{keys_beside, keys_in, keys_not_messages, log_not_keys, log_not_messages, messages_beside, messages_in}
-use Rattle.base_log.proofs.Removed.{outside_but_one}
 use Rattle.base_log.proofs.Renewed.{FilesAlone, alone_changed, alone_first}
 
 -- the two files of a number are made

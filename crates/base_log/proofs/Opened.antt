@@ -13,6 +13,7 @@ use Rattle.base_log.specs.Standing.{BaseBytes, AreThere, IsBroken, IsLost, IsNew
 use Rattle.base_log.specs.Reading.{ReadsAll}
 use Rattle.base_log.specs.declared.log.CommitRecord.{CommitRecord}
 use Rattle.base_log.specs.declared.log.End.{End}
+use Rattle.base_log.proofs.Keeping.{settled_on}
 use Rattle.base_log.proofs.Empty.{new_log}
 use Rattle.base_log.proofs.Logs.{shut_log, shut_at}
 use Rattle.base_log.proofs.Paths.{messages_in, keys_in, messages_not_log, keys_not_log}
@@ -53,21 +54,6 @@ none_at d path end at none =
     let is : bytes ≡ at.closed ∷ at.rest = at.log ∙ ap (λ b. opened b ++ at.closed ∷ at.rest) empty in
     (shut_log [] at.closed at.rest bytes tt at.shut is, shut_at [] at.closed at.rest bytes at.shut is)
 
--- the log is as it was, after other files were made
-pub log_moved : (d e : DiskState) (path : List ℕ) (end : End) → IsLogAt d path end → e.seen (log_of path) ≡ d.seen (log_of path) → IsOnDisk e (log_of path) → AreNamed path e → IsLogAt e path end
-log_moved d e path end was same on named = record {
-  bodies = was.bodies;
-  sizes = was.sizes;
-  closed = was.closed;
-  rest = was.rest;
-  log = ap bytes_in same ∙ was.log;
-  shut = was.shut;
-  gate = was.gate;
-  told = was.told;
-  on_disk = on;
-  named = named;
-}
-
 -- the two files of a folder without a record
 pub first_files : (path : List ℕ) (files : Files) (told : CommitRecord) → told ≡ nothing_told → IsSome (files (messages_of path 0)) → IsSome (files (keys_of path 0)) → HasFiles path files told
 first_files path files told none m k =
@@ -85,18 +71,8 @@ files_settled d e path end log quiet digit has m_alone k_alone m_flushed k_flush
       digit = digit;
       messages_long = subst (λ f. end.told.messages ≤ length (bytes_in f)) (sym (quiet.seen m)) has.messages_long;
       keys_long = subst (λ f. end.told.keys ≤ length (bytes_in f)) (sym (quiet.seen k)) has.keys_long;
-      messages_on = record {
-        there = subst (λ f. IsSome f) (sym (quiet.seen m)) has.messages;
-        named = quiet.named m (λ h. h) (log.named m (messages_in path end.told.number));
-        flushed = m_flushed;
-        alone = quiet.alone m (λ h. h) m_alone;
-      };
-      keys_on = record {
-        there = subst (λ f. IsSome f) (sym (quiet.seen k)) has.keys;
-        named = quiet.named k (λ h. h) (log.named k (keys_in path end.told.number));
-        flushed = k_flushed;
-        alone = quiet.alone k (λ h. h) k_alone;
-      };
+      messages_on = settled_on d e m quiet has.messages (log.named m (messages_in path end.told.number)) m_alone m_flushed;
+      keys_on = settled_on d e k quiet has.keys (log.named k (keys_in path end.told.number)) k_alone k_flushed;
     }
 
 -- files that differ only in the log

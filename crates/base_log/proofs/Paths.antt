@@ -1,6 +1,10 @@
 -- The files of a folder are in it, and their paths differ.
-use Rattle.std.proofs.Common.{◌≡◌, ◌≢◌, ℕ, zero, suc, ◌+◌, List, [], ◌∷◌, ◌++◌, get_or, refl, sym, ap, arith, All}
+use Rattle.std.proofs.Common.{◌==◌, ◌&&◌, not, true, ◌≡◌, ◌≢◌, ℕ, ◌+◌, List, [], ◌∷◌, ◌++◌, get_or, refl, sym, ap, arith, All}
 use Rattle.std.proofs.lemmas.List.{append_cancel_left}
+use Rattle.std.proofs.lemmas.List.Elements.{All-weaker}
+use Rattle.std.proofs.lemmas.List.Sums.{AllPass-from_list_all}
+use Rattle.std.proofs.lemmas.Bool.{eqb-false, ne_eqb, not-true}
+use Rattle.std.specs.List.{list_all}
 use Rattle.disk_io.specs.Disk.{IsIn}
 use Rattle.base_log.specs.Names.{IsBeside, log_of, messages_of, keys_of}
 use Rattle.base_log.specs.declared.names.TheConstants.{LOG, MESSAGES, KEYS}
@@ -31,42 +35,20 @@ pub keys_of-injective : (path : List ℕ) (n m : ℕ) → keys_of path n ≡ key
 keys_of-injective path n m is = omega (arith, ap (λ (l : List ℕ). get_or l 5 0) (append_cancel_left path (KEYS.now ++ (48 + n) ∷ []) (KEYS.now ++ (48 + m) ∷ []) is))
 
 -- names without a slash
-plain_log : All (λ b. b ≢ 47) LOG.now
-plain_log zero d lt is = omega (arith, is)
-plain_log (suc zero) d lt is = omega (arith, is)
-plain_log (suc (suc zero)) d lt is = omega (arith, is)
-plain_log (suc (suc (suc k))) d lt is = omega (arith, lt)
+no_slash : (xs : List ℕ) → list_all (λ b. not (b == 47)) xs ≡ true → All (λ b. b ≢ 47) xs
+no_slash xs h = All-weaker (λ b. not (b == 47) ≡ true) (λ b. b ≢ 47) (λ b is. eqb-false b 47 (not-true (b == 47) is)) xs (AllPass-from_list_all (λ b. not (b == 47)) xs h)
 
-plain_messages : (n : ℕ) → All (λ b. b ≢ 47) (MESSAGES.now ++ (48 + n) ∷ [])
-plain_messages n zero d lt is = omega (arith, is)
-plain_messages n (suc zero) d lt is = omega (arith, is)
-plain_messages n (suc (suc zero)) d lt is = omega (arith, is)
-plain_messages n (suc (suc (suc zero))) d lt is = omega (arith, is)
-plain_messages n (suc (suc (suc (suc zero)))) d lt is = omega (arith, is)
-plain_messages n (suc (suc (suc (suc (suc zero))))) d lt is = omega (arith, is)
-plain_messages n (suc (suc (suc (suc (suc (suc zero)))))) d lt is = omega (arith, is)
-plain_messages n (suc (suc (suc (suc (suc (suc (suc zero))))))) d lt is = omega (arith, is)
-plain_messages n (suc (suc (suc (suc (suc (suc (suc (suc zero)))))))) d lt is = omega (arith, is)
-plain_messages n (suc (suc (suc (suc (suc (suc (suc (suc (suc zero))))))))) d lt is = omega (arith, is)
-plain_messages n (suc (suc (suc (suc (suc (suc (suc (suc (suc (suc k)))))))))) d lt is = omega (arith, lt)
-
-plain_keys : (n : ℕ) → All (λ b. b ≢ 47) (KEYS.now ++ (48 + n) ∷ [])
-plain_keys n zero d lt is = omega (arith, is)
-plain_keys n (suc zero) d lt is = omega (arith, is)
-plain_keys n (suc (suc zero)) d lt is = omega (arith, is)
-plain_keys n (suc (suc (suc zero))) d lt is = omega (arith, is)
-plain_keys n (suc (suc (suc (suc zero)))) d lt is = omega (arith, is)
-plain_keys n (suc (suc (suc (suc (suc zero))))) d lt is = omega (arith, is)
-plain_keys n (suc (suc (suc (suc (suc (suc k)))))) d lt is = omega (arith, lt)
+digit : (n : ℕ) → (not ((48 + n) == 47) && true) ≡ true
+digit n = ap (λ b. not b && true) (ne_eqb (48 + n) 47 (λ is. omega (arith, is)))
 
 pub log_in : (path : List ℕ) → IsIn path (log_of path)
-log_in path = record { name = LOG.now; parts = refl; plain = plain_log }
+log_in path = record { name = LOG.now; parts = refl; plain = no_slash LOG.now refl }
 
 pub messages_in : (path : List ℕ) (n : ℕ) → IsIn path (messages_of path n)
-messages_in path n = record { name = MESSAGES.now ++ (48 + n) ∷ []; parts = refl; plain = plain_messages n }
+messages_in path n = record { name = MESSAGES.now ++ (48 + n) ∷ []; parts = refl; plain = no_slash (MESSAGES.now ++ (48 + n) ∷ []) (digit n) }
 
 pub keys_in : (path : List ℕ) (n : ℕ) → IsIn path (keys_of path n)
-keys_in path n = record { name = KEYS.now ++ (48 + n) ∷ []; parts = refl; plain = plain_keys n }
+keys_in path n = record { name = KEYS.now ++ (48 + n) ∷ []; parts = refl; plain = no_slash (KEYS.now ++ (48 + n) ∷ []) (digit n) }
 
 -- the files of another number do not count
 pub messages_beside : (path : List ℕ) (n number : ℕ) → number ≢ n → IsBeside path n (messages_of path number)

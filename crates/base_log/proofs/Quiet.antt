@@ -1,5 +1,5 @@
 -- A base folder on a disk that has not changed.
-use Rattle.std.proofs.Common.{◌≡◌, ◌≤◌, ℕ, List, length, take, sym, ◌∙◌, ap, subst}
+use Rattle.std.proofs.Common.{◌≡◌, ◌≤◌, ℕ, List, length, take, sym, ◌∙◌, subst}
 use Rattle.std.specs.Prelude.{IsSome}
 use Rattle.disk_io.specs.Disk.{DiskState, Files, bytes_in}
 use Rattle.disk_io.specs.Runs.{ChangesNothing}
@@ -9,7 +9,7 @@ use Rattle.base_log.specs.AtRest.{IsLogAt, IsStaged}
 use Rattle.base_log.specs.Opening.{StayGone}
 use Rattle.base_log.specs.declared.log.CommitRecord.{CommitRecord}
 use Rattle.base_log.specs.declared.log.End.{End}
-use Rattle.base_log.proofs.Gates.{on_disk_quiet}
+use Rattle.base_log.proofs.Keeping.{log_moved, on_disk_quiet}
 
 -- the same bytes are seen
 pub base_quiet : (d e : DiskState) (path : List ℕ) (told : CommitRecord) → ChangesNothing d e → base_at e path told ≡ base_at d path told
@@ -26,18 +26,8 @@ seen_quiet d e quiet = λ i m. quiet.seen m i
 
 -- the log is unchanged
 pub log_quiet : (d e : DiskState) (path : List ℕ) (end : End) → ChangesNothing d e → IsLogAt d path end → IsLogAt e path end
-log_quiet d e path end quiet was = record {
-  bodies = was.bodies;
-  sizes = was.sizes;
-  closed = was.closed;
-  rest = was.rest;
-  log = ap bytes_in (quiet.seen (log_of path)) ∙ was.log;
-  shut = was.shut;
-  gate = was.gate;
-  told = was.told;
-  on_disk = on_disk_quiet d e (log_of path) quiet was.on_disk;
-  named = λ m inside. quiet.named m (λ h. h) (was.named m inside);
-}
+log_quiet d e path end quiet was =
+    log_moved d e path end was (quiet.seen (log_of path)) (on_disk_quiet d e (log_of path) quiet was.on_disk) (λ m inside. quiet.named m (λ h. h) (was.named m inside))
 
 -- a staged record remains staged
 pub staged_quiet : (d e : DiskState) (path : List ℕ) (end : End) (told : CommitRecord) → ChangesNothing d e → IsStaged d path end told → IsStaged e path end told

@@ -1,7 +1,7 @@
 -- Entries cut into lines one after the other are short lines.
-use Rattle.std.proofs.Common.{◌≡◌, ℕ, ◌<◌, ◌≤◌, Bool, nat_le, List, [], ◌∷◌, ◌++◌, length, decimal, codes, refl, sym, ap, subst, None, arith, lit≤, lit<, inl, inr}
+use Rattle.std.proofs.Common.{◌≡◌, ℕ, ◌<◌, ◌≤◌, Bool, nat_le, List, [], ◌∷◌, ◌++◌, length, decimal, codes, refl, sym, ap, subst, None, arith, lit≤, lit<}
 use Rattle.std.specs.List.{AllByRecursion, flat_map}
-use Rattle.std.proofs.lemmas.Bool.{cases_Bool, cond-false, cond-true, leb-true, leb-false}
+use Rattle.std.proofs.lemmas.Bool.{cond_both, leb-false, leb-true}
 use Rattle.std.proofs.lemmas.List.{append_assoc, length-append}
 use Rattle.std.proofs.lemmas.Fmt.{length-decimal-le}
 use Rattle.echo_addr.specs.declared.address.NetNode.{NetNode}
@@ -28,24 +28,18 @@ cut_after prefix run (next ∷ more) some room all =
     let longer : List (List NetNode) = runs_after prefix (run ++ next ∷ []) more in
     let begun : List (List NetNode) = run ∷ runs_after prefix (next ∷ []) more in
     let fits : Bool = nat_le (length (line_front prefix (run ++ next ∷ []))) line_room in
-    elim (cases_Bool fits) [
-      | inl within ↦
-          let rec : AreCut prefix ((run ++ next ∷ []) ++ more) longer =
-          cut_after prefix (run ++ next ∷ []) more (omega (arith, length-append run (next ∷ [])))
-          (leb-true (length (line_front prefix (run ++ next ∷ []))) line_room within) all.1 in
-          let P : List NetNode → Type 0 = λ l. AreCut prefix l longer in
-          subst Cut (sym (cond-true fits longer begun within)) (subst P (append_assoc run (next ∷ []) more) rec)
-      | inr past ↦
-          let rec : AreCut prefix (next ∷ more) (runs_after prefix (next ∷ []) more) =
-          cut_after prefix (next ∷ []) more (lit< tt) all.0 all.1 in
-          let F : List NetNode → Type 0 = IsFull prefix run in
-          let full : IsFull prefix run (next ∷ more) = leb-false (length (line_front prefix (run ++ next ∷ []))) line_room past in
-          let cut : AreCut prefix (run ++ next ∷ more) begun = record {
-            joined = ap (λ l. run ++ l) rec.joined;
-            each = (record { some = some; room = room; full = subst F (sym rec.joined) full }, rec.each);
-          } in
-          subst Cut (sym (cond-false fits longer begun past)) cut
-    ]
+    cond_both fits longer begun Cut
+    (λ within.
+    let rec : AreCut prefix ((run ++ next ∷ []) ++ more) longer =
+    cut_after prefix (run ++ next ∷ []) more (omega (arith, length-append run (next ∷ []))) (leb-true (length (line_front prefix (run ++ next ∷ []))) line_room within) all.1 in
+    subst (λ (l : List NetNode). AreCut prefix l longer) (append_assoc run (next ∷ []) more) rec)
+    (λ past.
+    let rec : AreCut prefix (next ∷ more) (runs_after prefix (next ∷ []) more) = cut_after prefix (next ∷ []) more (lit< tt) all.0 all.1 in
+    let full : IsFull prefix run (next ∷ more) = leb-false (length (line_front prefix (run ++ next ∷ []))) line_room past in
+    record {
+      joined = ap (λ l. run ++ l) rec.joined;
+      each = (record { some = some; room = room; full = subst (λ (l : List NetNode). IsFull prefix run l) (sym rec.joined) full }, rec.each);
+    })
 
 cut_of : (prefix : List ℕ) (list : List NetNode) → AllByRecursion (HasRoom prefix) list → AreCut prefix list (runs_of prefix list)
 cut_of prefix [] all = record { joined = refl; each = tt }

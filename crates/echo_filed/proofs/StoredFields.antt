@@ -106,25 +106,9 @@ last_room true p h = h.1
 last_room false p h = h.1
 
 to_fit : (version : Version) (s : Stored) → IsStored version s → FieldsFit version (to_fields s)
-to_fit version s h = (
-  h.kind,
-  (
-    record { zone = h.zone; net = h.net; node = h.node },
-    (
-      h.date_len,
-      (
-        h.to_name,
-        (
-          h.from_name,
-          (
-            h.subject,
-            last_fits (has_tag version s.kind) (s.tag, s.last) h.tag h.no_tag h.last,
-          ),
-        ),
-      ),
-    ),
-  ),
-)
+to_fit version s h =
+    let last = last_fits (has_tag version s.kind) (s.tag, s.last) h.tag h.no_tag h.last in
+    (h.kind, (record { zone = h.zone; net = h.net; node = h.node }, (h.date_len, (h.to_name, (h.from_name, (h.subject, last))))))
 
 pub of_fit : (version : Version) (p : Fields) → FieldsFit version p → IsStored version (of_fields p)
 of_fit version p h =

@@ -2,7 +2,7 @@
 use Rattle.std.proofs.Common.{◌≡◌, ℕ, ◌+◌, ◌-◌, ◌*◌, ◌/◌, ◌%◌, ◌<◌, ◌≤◌, List, [], ◌∷◌, ◌++◌, length, get_or, take, drop, replicate, refl, sym, ap, subst, ◌∙◌, Option, Result, Ok, Err, arith}
 use Rattle.std.specs.Io.KnownBytes.{Consumes}
 use Rattle.std.proofs.KnownBytes.{Consumes-trans}
-use Rattle.std.proofs.lemmas.List.{append-nil, length-append, length-drop, length-replicate, take-append-drop}
+use Rattle.std.proofs.lemmas.List.{append-nil, length-append, length-drop, length-replicate, nil_from_length, take-append-drop}
 use Rattle.echo_addr.specs.declared.address.Address.{Address}
 use Rattle.echo_packet.specs.Header.{AreBytes, number_at}
 use Rattle.disk_io.specs.declared.fixed.Broken.{Broken}
@@ -46,28 +46,17 @@ breaks_behind a b c front broken.Memory took within h = tt
 
 -- numbers are their bytes
 pub byte_whole : (s : List ℕ) → length s ≡ 1 → AreBytes s → IsByte (get_or s 0 0) × (one_byte (get_or s 0 0) ≡ s)
-byte_whole [] size are = absurd (omega arith)
 byte_whole (a ∷ []) size are = (are 0, refl)
-byte_whole (a ∷ (b ∷ s)) size are = absurd (omega arith)
+byte_whole _ size are = absurd (omega arith)
 
 pub long_whole : (s : List ℕ) → length s ≡ 4 → AreBytes s → IsLong (long_at 0 s) × (long (long_at 0 s) ≡ s)
 long_whole s size are =
     let front = long_front s are (omega arith) in
-    (front.1, sym (front.0 ∙ ap (λ r. long (long_at 0 s) ++ r) (none (drop 4 s) (omega (arith, length-drop 4 s))) ∙ append-nil (long (long_at 0 s))))
-  where
-    none : (r : List ℕ) → length r ≡ 0 → r ≡ []
-    none [] e = refl
-    none (x ∷ r) e = absurd (omega arith)
+    (front.1, sym (front.0 ∙ ap (λ r. long (long_at 0 s) ++ r) (nil_from_length (drop 4 s) (omega (arith, length-drop 4 s))) ∙ append-nil (long (long_at 0 s))))
 
 -- a sender is its six bytes
 pub address_whole : (s : List ℕ) → length s ≡ 6 → AreBytes s
     → let a : Address = record { zone = number_at 0 s; net = number_at 2 s; node = number_at 4 s } in IsSmall a × (address_bytes a ≡ s)
-address_whole [] size are = absurd (omega arith)
-address_whole (a ∷ []) size are = absurd (omega arith)
-address_whole (a ∷ (b ∷ [])) size are = absurd (omega arith)
-address_whole (a ∷ (b ∷ (c ∷ []))) size are = absurd (omega arith)
-address_whole (a ∷ (b ∷ (c ∷ (d ∷ [])))) size are = absurd (omega arith)
-address_whole (a ∷ (b ∷ (c ∷ (d ∷ (e ∷ []))))) size are = absurd (omega arith)
 address_whole (a ∷ (b ∷ (c ∷ (d ∷ (e ∷ (f ∷ s)))))) size are =
     let ha : a < 256 = are 0 in
     let hb : b < 256 = are 1 in
@@ -81,14 +70,11 @@ address_whole (a ∷ (b ∷ (c ∷ (d ∷ (e ∷ (f ∷ s)))))) size are =
     let d' : (c + 256 * d) / 256 ≡ d = omega arith in
     let e' : (e + 256 * f) % 256 ≡ e = omega arith in
     let f' : (e + 256 * f) / 256 ≡ f = omega arith in
-    let s' : [] ≡ s = none s (omega arith) in (
+    let s' : [] ≡ s = sym (nil_from_length s (omega arith)) in (
       record { zone = omega arith; net = omega arith; node = omega arith },
       λ i. a' i ∷ (b' i ∷ (c' i ∷ (d' i ∷ (e' i ∷ (f' i ∷ s' i))))),
     )
-  where
-    none : (r : List ℕ) → length r ≡ 0 → [] ≡ r
-    none [] e = refl
-    none (x ∷ r) e = absurd (omega arith)
+address_whole _ size are = absurd (omega arith)
 
 -- a string that lacks some bytes
 pub string_ends : (size : ℕ) (bytes : List ℕ) → length bytes < size → EndsIn (List ℕ) (HasLength size) itself bytes

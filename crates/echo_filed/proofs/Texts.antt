@@ -1,10 +1,9 @@
 -- The parse of a text is its echo, and the written text of an echo parses to it.
-use Rattle.std.proofs.Common.{◌≡◌, ℕ, true, cond, not, List, refl, sym, subst, ◌∙◌, Option, Some, None, inl, inr}
-use Rattle.std.proofs.lemmas.Bool.{cases_Bool, cond-false, cond-true, not_from_true, not_from_false}
+use Rattle.std.proofs.Common.{◌≡◌, ℕ, true, cond, not, List, refl, sym, subst, ◌∙◌, Some, None}
+use Rattle.std.proofs.lemmas.Bool.{cond-false, cond_both, not-false, not_from_true}
 use Rattle.std.proofs.lemmas.List.Elements.{recursion_from_All}
 use Rattle.echo_addr.specs.declared.address.NetNode.{NetNode}
 use Rattle.echo_addr.specs.ShortLines.{IsNetNode, path_prefix, seen_prefix}
-use Rattle.echo_text.specs.declared.fault.TextFault.{TextFault}
 use Rattle.echo_text.specs.declared.fault.TextFault.TheVariants as text
 use Rattle.echo_text.specs.Lines.{area_tag, first_line, is_area, is_tag, later_lines, lines}
 use Rattle.echo_text.specs.Tail.{all_entries, seen_lists}
@@ -48,23 +47,11 @@ accepted line h =
     cond-false (not (is_area line)) (Some text.NotEcho) (cond (not (is_tag (area_tag line))) (Some text.BadTag) None) (not_from_true (is_area line) h.area)
     ∙ cond-false (not (is_tag (area_tag line))) (Some text.BadTag) None (not_from_true (is_tag (area_tag line)) h.tag)
 
-some_is_not_none : {A : Type 0} (x : A) → Some x ≡ None → ⊥
-some_is_not_none x e = cc
-
 area_line : (line : List ℕ) → refusal_of line ≡ None → IsAreaLine line
 area_line line none =
-    let other : Option TextFault = cond (not (is_tag (area_tag line))) (Some text.BadTag) None in
-    elim (cases_Bool (is_area line)) [
-      | inl area ↦
-          let left : other ≡ None = sym (cond-false (not (is_area line)) (Some text.NotEcho) other (not_from_true (is_area line) area)) ∙ none in
-          elim (cases_Bool (is_tag (area_tag line))) [
-            | inl tag ↦ record { area = area; tag = tag }
-            | inr no_tag ↦
-                absurd (some_is_not_none text.BadTag (sym (cond-true (not (is_tag (area_tag line))) (Some text.BadTag) None (not_from_false (is_tag (area_tag line)) no_tag)) ∙ left))
-          ]
-      | inr no_area ↦
-          absurd (some_is_not_none text.NotEcho (sym (cond-true (not (is_area line)) (Some text.NotEcho) other (not_from_false (is_area line) no_area)) ∙ none))
-    ]
+    let tag = is_tag (area_tag line) in
+    cond_both (not (is_area line)) (Some text.NotEcho) (cond (not tag) (Some text.BadTag) None) (λ o. o ≡ None → IsAreaLine line) (λ no is. absurd (cc))
+    (λ area. cond_both (not tag) (Some text.BadTag) None (λ o. o ≡ None → IsAreaLine line) (λ no is. absurd (cc)) (λ tagged is. record { area = not-false (is_area line) area; tag = not-false tag tagged })) none
 
 -- an accepted text has the parts that a reader returns
 pub says_read : (bytes : List ℕ) → text_refusal bytes ≡ None → (dropped : ℕ) × EchoOf bytes (echo_of bytes) dropped

@@ -7,12 +7,10 @@ use Rattle.base_log.specs.declared.log.End.{End}
 use Rattle.base_log.specs.Names.{folder_of, log_of, messages_of, keys_of}
 use Rattle.base_log.specs.Moments.{StagesOnly, StandsAlone}
 use Rattle.base_log.specs.Standing.{BaseBytes, StandsFor, base_at}
+use Rattle.base_log.proofs.Keeping.{log_moved, on_disk_but_one, on_disk_quiet, outside_but_one, outside_quiet, outside_twice}
 use Rattle.base_log.proofs.Calls.{Made, but_one_call}
-use Rattle.base_log.proofs.Gates.{on_disk_quiet, outside_quiet, outside_twice}
 use Rattle.base_log.proofs.Made.{keys_run, messages_run, outside_both}
-use Rattle.base_log.proofs.Opened.{log_moved}
 use Rattle.base_log.proofs.Paths.{keys_not_messages, keys_of-injective, log_not_keys, log_not_messages, messages_in, messages_not_keys, messages_of-injective}
-use Rattle.base_log.proofs.Removed.{on_disk_but_one, outside_but_one}
 use Rattle.base_log.proofs.Renewed.{alone_run, same_base}
 use Rattle.base_log.proofs.Rested.{rest_same}
 use Rattle.base_log.proofs.anew.stage_anew.Given as given

@@ -6,7 +6,8 @@ use Rattle.disk_io.specs.Synced.{IsOnDisk, KeepsOthers}
 use Rattle.base_log.specs.Names.{folder_of, log_of}
 use Rattle.base_log.specs.Log.{body_of}
 use Rattle.disk_io.proofs.Moments.{then_nothing}
-use Rattle.base_log.proofs.Gates.{told_by-body_of, P, Ready, run_at_first, ready, run_record, done_record, run_gate, done_gate, same_gate, outside_quiet}
+use Rattle.base_log.proofs.Keeping.{outside_quiet}
+use Rattle.base_log.proofs.Gates.{told_by-body_of, P, Ready, run_at_first, ready, run_record, done_record, run_gate, done_gate, same_gate}
 use Rattle.base_log.proofs.LeftOutside.{KeepsAround, around_changed, around_quiet, around_twice, left_quiet}
 use Rattle.base_log.proofs.Paths.{log_in}
 use Rattle.base_log.proofs.committing.commit.Given as given

@@ -8,12 +8,11 @@ use Rattle.disk_io.proofs.Moments.{then_nothing}
 use Rattle.base_log.specs.Names.{folder_of, log_of, messages_of, keys_of}
 use Rattle.base_log.specs.Moments.{KeepsOutside, StandsAlone}
 use Rattle.base_log.specs.Standing.{BaseBytes, StandsFor}
+use Rattle.base_log.proofs.Keeping.{on_disk_but_one, on_disk_quiet, outside_but_one, outside_quiet, outside_twice}
 use Rattle.base_log.proofs.Calls.{Made, but_one_call}
 use Rattle.base_log.proofs.Empty.{log_alone_stands}
-use Rattle.base_log.proofs.Gates.{on_disk_quiet, outside_quiet, outside_twice}
 use Rattle.base_log.proofs.Made.{log_both, log_first, outside_both}
 use Rattle.base_log.proofs.Paths.{log_not_messages, log_not_keys, messages_in, messages_not_keys}
-use Rattle.base_log.proofs.Removed.{on_disk_but_one, outside_but_one}
 use Rattle.base_log.proofs.making.make_files.Given as given
 use Rattle.base_log.proofs.making.make_files.Goals.{After-create, After-create-2}
 use Rattle.base_log.proofs.making.make_files.Goals as goal

@@ -8,11 +8,10 @@ use Rattle.base_log.specs.Names.{AreNames, folder_of, log_of, messages_of, keys_
 use Rattle.base_log.specs.Opening.{HasFiles, StandsOrWasLeft}
 use Rattle.base_log.specs.Standing.{BaseBytes, base_at}
 use Rattle.base_log.specs.declared.log.CommitRecord.{CommitRecord}
+use Rattle.base_log.proofs.Keeping.{log_moved, outside_but_one, outside_quiet, outside_twice}
 use Rattle.base_log.proofs.Empty.{chained_alone, no_record}
-use Rattle.base_log.proofs.Gates.{outside_quiet, outside_twice}
-use Rattle.base_log.proofs.Opened.{end_shut, end_tells, files_beside, files_settled, first_files, has_files, log_moved, none_at, none_log, nothing_read}
+use Rattle.base_log.proofs.Opened.{end_shut, end_tells, files_beside, files_settled, first_files, has_files, none_at, none_log, nothing_read}
 use Rattle.base_log.proofs.Paths.{log_in, messages_in, keys_in, messages_not_log, keys_not_log}
-use Rattle.base_log.proofs.Removed.{outside_but_one}
 use Rattle.base_log.proofs.Renewed.{same_base}
 use Rattle.base_log.proofs.opening.open.Given as given
 use Rattle.base_log.proofs.opening.open.Goals.{After-make_files, After-settle_log}

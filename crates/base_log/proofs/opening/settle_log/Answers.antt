@@ -6,12 +6,11 @@ use Rattle.base_log.specs.Log.{IsShutAt}
 use Rattle.base_log.specs.Names.{folder_of, log_of}
 use Rattle.base_log.specs.Opening.{AreNamed, KeepsButOne, StandsOrWasLeft, StayGone}
 use Rattle.base_log.specs.Standing.{BaseBytes, IsNew, StandsFor}
+use Rattle.base_log.proofs.Keeping.{but_one_quiet, but_one_twice, outside_quiet}
 use Rattle.base_log.proofs.Empty.{chained_quiet, stands_quiet, was_left}
-use Rattle.base_log.proofs.Gates.{outside_quiet}
 use Rattle.base_log.proofs.Opened.{made_read, new_few, shut_read, some_there}
 use Rattle.base_log.proofs.Paths.{log_in}
 use Rattle.base_log.proofs.Quiet.{new_quiet}
-use Rattle.base_log.proofs.Removed.{but_one_quiet, but_one_twice}
 use Rattle.base_log.proofs.opening.settle_log.Given as given
 use Rattle.base_log.proofs.opening.settle_log.Goals.{After-make_log, After-sync}
 use Rattle.base_log.proofs.opening.settle_log.Goals as goal

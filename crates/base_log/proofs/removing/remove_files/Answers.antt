@@ -5,9 +5,9 @@ use Rattle.base_log.specs.AtRest.{IsAtRest}
 use Rattle.base_log.specs.Moments.{LeavesOutside, StagesOnly, StandsAlone}
 use Rattle.base_log.specs.Names.{IsBeside, folder_of, keys_of, messages_of}
 use Rattle.base_log.specs.Standing.{BaseBytes, base_at}
+use Rattle.base_log.proofs.Keeping.{outside_twice}
 use Rattle.base_log.proofs.Calls.{cause_since}
 use Rattle.base_log.proofs.Empty.{alone_since}
-use Rattle.base_log.proofs.Gates.{outside_twice}
 use Rattle.base_log.proofs.LeftOutside.{left_twice}
 use Rattle.base_log.proofs.Paths.{keys_beside, messages_beside, messages_not_keys}
 use Rattle.base_log.proofs.Removed.{base_beside}

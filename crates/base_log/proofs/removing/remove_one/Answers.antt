@@ -5,9 +5,10 @@ use Rattle.disk_io.specs.Steps.{TornRemoval}
 use Rattle.disk_io.proofs.Moments.{then_nothing}
 use Rattle.base_log.specs.Moments.{StandsAlone}
 use Rattle.base_log.specs.Standing.{base_at}
+use Rattle.base_log.proofs.Keeping.{but_one_quiet, but_one_twice, outside_but_one}
 use Rattle.base_log.proofs.Calls.{but_one_call, cause_since}
 use Rattle.base_log.proofs.LeftOutside.{left_call, left_quiet, left_twice}
-use Rattle.base_log.proofs.Removed.{but_one_quiet, but_one_twice, looked_run, not_there, outside_but_one, removed_run, rest_beside}
+use Rattle.base_log.proofs.Removed.{looked_run, not_there, removed_run, rest_beside}
 use Rattle.base_log.proofs.removing.remove_one.Goals as goal
 
 pub returns-in_err-exists : goal.returns-in_err-exists

@@ -8,8 +8,8 @@ use Rattle.base_log.specs.Moments.{LeavesOutside, StagesOnly}
 use Rattle.base_log.specs.Names.{folder_of}
 use Rattle.base_log.specs.Standing.{base_at}
 use Rattle.base_log.specs.declared.log.CommitRecord.{CommitRecord}
+use Rattle.base_log.proofs.Keeping.{outside_kept}
 use Rattle.base_log.proofs.Calls.{Wrote, others_kept}
-use Rattle.base_log.proofs.Gates.{outside_kept}
 use Rattle.base_log.proofs.Growing.{file_alone, file_inside, file_long, file_named, file_there, grown_next, grown_run, grown_staged}
 use Rattle.base_log.proofs.LeftOutside.{left_call}
 use Rattle.base_log.proofs.staging.stage_bytes.Given as given
