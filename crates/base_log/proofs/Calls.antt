@@ -1,9 +1,11 @@
 -- Calls that change one file, and the facts that they keep.
-use Rattle.std.proofs.Common.{ℕ, List}
+use Rattle.std.proofs.Common.{◌≤◌, ◌<◌, ℕ, List, Result, inl, inr, ⊎_elim, arith}
+use Rattle.std.proofs.lemmas.Bool.{cases_lt}
 use Rattle.disk_io.specs.Disk.{DiskState, Files}
-use Rattle.disk_io.specs.Runs.{ChangesAt, NoPath, ThisPath}
+use Rattle.disk_io.specs.Runs.{ChangesAt, HasCause, NoPath, ThisPath}
 use Rattle.disk_io.specs.Steps.{ChangesFile, TornMaking, TornWrite}
 use Rattle.disk_io.specs.Synced.{KeepsOthers}
+use Rattle.disk_io.specs.declared.disk_error.DiskError.{DiskError}
 use Rattle.base_log.specs.Opening.{KeepsButOne}
 
 -- this many bytes are written to the file at a place
@@ -26,3 +28,12 @@ Made d e file = ChangesAt (ThisPath file) (ThisPath file) (ThisPath file) (Chang
 -- it is made, or removed
 pub but_one_call : {step : Files → Files → Type 0} (d e : DiskState) (file : List ℕ) → ChangesAt (ThisPath file) (ThisPath file) (ThisPath file) step d e → KeepsButOne d e file
 but_one_call d e file call = record { seen = call.beside; named = call.named; flushed = call.flushed; alone = call.alone; honest = call.time.honest }
+
+-- a failure since an earlier call
+pub cause_since : {T : Type 0} (first before now : ℕ) (result : Result T DiskError) → first ≤ before → HasCause before now result → HasCause first now result
+cause_since first before now result le cause =
+    let later = cause.later in
+    record {
+      later = omega arith;
+      failed = λ is. ⊎_elim (λ (rose : first < now). inl rose) (λ (same : now ≤ first). ⊎_elim (λ (rose : before < now). inl (omega arith)) (λ most. inr (omega (arith, most.0), omega arith)) (cause.failed is)) (cases_lt first now);
+    }

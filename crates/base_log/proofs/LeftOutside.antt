@@ -4,7 +4,9 @@ use Rattle.disk_io.specs.Disk.{DiskState, IsIn}
 use Rattle.disk_io.specs.Runs.{ChangesAt, ChangesNothing, LeavesOnly, OneStepOn}
 use Rattle.disk_io.specs.Steps.{ChangesFile}
 use Rattle.disk_io.proofs.Moments.{left_now, no_call, one_call, then_run, weaker_run}
-use Rattle.base_log.specs.Moments.{LeavesOutside, SameNamedOutside}
+use Rattle.disk_io.specs.Synced.{KeepsOthers}
+use Rattle.base_log.specs.Moments.{KeepsOutside, LeavesOutside, SameNamedOutside}
+use Rattle.base_log.proofs.Gates.{outside_kept, outside_quiet, outside_twice}
 
 pub left_start : (path : List ℕ) (d : DiskState) → LeavesOutside path d d
 left_start path d = no_call d (OneStepOn (SameNamedOutside path d) d) (λ c left. (c, left, λ m out named. refl))
@@ -30,3 +32,17 @@ pub left_twice : (path : List ℕ) (d e f : DiskState) → ((m : List ℕ) → (
 left_twice path d e f named one two =
     then_run d e f (OneStepOn (SameNamedOutside path d) d) (OneStepOn (SameNamedOutside path e) e) one two
     (λ c from. let at = left_now d e (OneStepOn (SameNamedOutside path d) d) one from.0 from.1 in (at.0, at.1, λ m out is. from.2 m out (named m out is) ∙ at.2 m out is))
+
+-- everything outside the folder is unchanged, also after a crash
+pub record KeepsAround (path : List ℕ) (old new : DiskState) : Type 0 where
+  pub outside : KeepsOutside path old new
+  pub leaves : LeavesOutside path old new
+
+pub around_quiet : {path : List ℕ} {d e : DiskState} → ChangesNothing d e → KeepsAround path d e
+around_quiet {path} {d} {e} quiet = record { outside = outside_quiet path d e quiet; leaves = left_quiet path d e quiet }
+
+pub around_changed : {path file : List ℕ} {d e : DiskState} (step : Option (List ℕ) → Option (List ℕ) → Type 0) → IsIn path file → KeepsOthers d e file → LeavesOnly d e (OneStepOn (ChangesFile d file step) d) → KeepsAround path d e
+around_changed {path} {file} {d} {e} step inside kept run = record { outside = outside_kept path file d e inside kept; leaves = left_changed path file d e step inside run }
+
+pub around_twice : {path : List ℕ} {d e f : DiskState} → KeepsAround path d e → KeepsAround path e f → KeepsAround path d f
+around_twice {path} {d} {e} {f} one two = record { outside = outside_twice path d e f one.outside two.outside; leaves = left_twice path d e f one.outside.named one.leaves two.leaves }

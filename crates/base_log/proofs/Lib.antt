@@ -1,4 +1,3 @@
-pub mod Behind
 pub mod Calls
 pub mod Empty
 pub mod Gates

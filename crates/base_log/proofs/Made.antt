@@ -1,5 +1,5 @@
 -- A file of a base folder is made.
-use Rattle.std.proofs.Common.{◌≡◌, ◌≢◌, ℕ, List, sym, ◌∙◌}
+use Rattle.std.proofs.Common.{◌≢◌, ℕ, List}
 use Rattle.disk_io.specs.Disk.{DiskState}
 use Rattle.disk_io.specs.Runs.{LeavesOnly}
 use Rattle.disk_io.specs.Steps.{TornMaking}
@@ -12,7 +12,7 @@ use Rattle.base_log.specs.declared.log.End.{End}
 use Rattle.base_log.proofs.Calls.{Made, but_one_call}
 use Rattle.base_log.proofs.Empty.{LogAlone, log_alone_first, log_alone_made}
 use Rattle.base_log.proofs.Gates.{outside_twice}
-use Rattle.base_log.proofs.Paths.{keys_beside, keys_in, keys_not_messages, keys_of-injective, log_not_keys, log_not_messages, messages_beside, messages_in, messages_not_keys, messages_of-injective}
+use Rattle.base_log.proofs.Paths.{keys_beside, keys_in, keys_not_messages, log_not_keys, log_not_messages, messages_beside, messages_in}
 use Rattle.base_log.proofs.Removed.{outside_but_one}
 use Rattle.base_log.proofs.Renewed.{FilesAlone, alone_changed, alone_first}
 
@@ -21,14 +21,6 @@ pub outside_both : (path : List ℕ) (number : ℕ) (d0 d1 d2 : DiskState) → M
 outside_both path number d0 d1 d2 one two =
     outside_twice path d0 d1 d2 (outside_but_one path d0 d1 (messages_of path number) (messages_in path number) (but_one_call d0 d1 (messages_of path number) one))
     (outside_but_one path d1 d2 (keys_of path number) (keys_in path number) (but_one_call d1 d2 (keys_of path number) two))
-
--- those of another number are as they were
-module _ (path : List ℕ) (n number : ℕ) (other : number ≢ n) (d0 d1 d2 : DiskState) (one : Made d0 d1 (messages_of path number)) (two : Made d1 d2 (keys_of path number)) where
-  pub messages_seen : d2.seen (messages_of path n) ≡ d0.seen (messages_of path n)
-  messages_seen = two.beside (messages_of path n) (messages_not_keys path n number) ∙ one.beside (messages_of path n) (λ is. other (sym (messages_of-injective path n number is)))
-
-  pub keys_seen : d2.seen (keys_of path n) ≡ d0.seen (keys_of path n)
-  keys_seen = two.beside (keys_of path n) (λ is. other (sym (keys_of-injective path n number is))) ∙ one.beside (keys_of path n) (keys_not_messages path n number)
 
 -- a crash during the calls leaves the files that count
 module _ (d0 : DiskState) (path : List ℕ) (end : End) (rest : IsAtRest d0 path end) (number : ℕ) (other : number ≢ end.told.number) (d1 : DiskState) (one : Made d0 d1 (messages_of path number)) where

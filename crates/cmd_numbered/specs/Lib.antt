@@ -1,5 +1,6 @@
 pub mod Reading
 pub mod Names
+pub mod Folders
 pub mod Numbered
 pub mod Told
 pub mod JamAdded

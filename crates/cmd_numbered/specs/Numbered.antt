@@ -1,14 +1,19 @@
 -- Messages of a base as numbered files of a folder: their choice, their bytes and their numbers.
-use Rattle.std.specs.Prelude.{◌≡◌, ℕ, zero, suc, ◌+◌, ◌&&◌, ◌||◌, not, nat_le, nat_lt, max, Bool, false, List, [], ◌∷◌, ◌++◌, length, take, drop, if◌then◌else◌, slice_get, bytes_eq, Option, Some, None, is_some, Result}
+use Rattle.std.specs.Prelude.{◌≡◌, ◌<◌, ⊤, ℕ, zero, suc, ◌+◌, ◌&&◌, ◌||◌, not, nat_le, nat_lt, max, Bool, false, List, [], ◌∷◌, ◌++◌, length, take, drop, if◌then◌else◌, slice_get, bytes_eq, Option, Some, None, is_some, Result}
 use Rattle.echo_filed.specs.Filed.{Filed}
 use Rattle.echo_filed.specs.Stubs.{is_stub}
 use Rattle.echo_links.specs.Links.{upper}
 use Rattle.echo_text.specs.Echo.{msgid_of}
 use Rattle.cmd_status.specs.declared.fault.Fault.{Fault}
+use Rattle.cmd_status.specs.Ended.{IsOutOfMemory}
 use Rattle.base_file.specs.Base.{Base}
+use Rattle.base_folder.specs.Fetching.{IsUnread}
 use Rattle.echo_stored.specs.StoredMessage.{stored_bytes}
 use Rattle.cmd_numbered.specs.declared.numbering.Exported.{Exported}
-use Rattle.cmd_numbered.specs.declared.numbering.MessageFile.{MessageFile}
+use Rattle.cmd_numbered.specs.declared.numbering.Unexported.{Unexported}
+use Rattle.cmd_numbered.specs.declared.numbering.Unexported.TheVariants.{File, Message}
+use Rattle.cmd_numbered.specs.declared.folder.MessageFile.{MessageFile}
+use Rattle.cmd_numbered.specs.Folders.{Gets}
 use Rattle.cmd_numbered.specs.Names.{name_of}
 use Rattle.cmd_numbered.specs.Reading.{AnswersFile}
 
@@ -62,14 +67,42 @@ files_of area first cursor number base (suc n) =
 abbrev pub first_number : ℕ → ℕ
 first_number greatest = max greatest 1 + 1
 
--- These are the files for a base: its messages of the area from `first` on, or after the one in the folder's last file.
--- The requested area may have letters of either case.
-pub record IsExport (area : List ℕ) (first greatest : ℕ) (last : Option (List ℕ)) (base : Base) (exported : Exported) : Type 0 where
+-- These files were made, so many of them.
+pub record IsMade (files : List MessageFile) (old new : Option (List MessageFile)) (count : ℕ) : Type 0 where
+  pub many : count ≡ length files
+  pub got : Gets old new files
+
+-- Why the file of a message was not made: no memory, or the folder did not get it.
+abbrev pub IsUnmade : Unexported → Type 0
+IsUnmade (Message fault) = IsOutOfMemory fault
+IsUnmade (File status) = ⊤
+
+-- Why these files of a message, one or none, were not made: the message was not read or there was no memory, or the folder did not get the one file.
+abbrev pub IsUnexported : List MessageFile → List ℕ → ℕ → ℕ → Unexported → Type 0
+IsUnexported files path before now (Message fault) = IsUnread path before now fault
+IsUnexported files path before now (File status) = (file : MessageFile) × (files ≡ file ∷ [])
+
+-- All messages were looked at, and the next one is behind them; or the next one is the first that has no file, for this reason.
+abbrev pub EndsAt : List ℕ → ℕ → ℕ → Base → List ℕ → ℕ → ℕ → ℕ → ℕ → Option Unexported → Type 0
+EndsAt area from number base path before now seen next None = (seen ≡ length base.messages) × (next ≡ max from (length base.messages))
+EndsAt area from number base path before now seen next (Some why) =
+    (next ≡ seen) × (seen < length base.messages)
+    × IsUnexported (file_at area from base.cursor (number + length (files_of area from base.cursor number base.messages seen)) seen (slice_get base.messages seen)) path before now why
+
+-- The files of the first messages of a base were made: of those of the area from the number `from` on.
+pub record IsMadeFrom (area : List ℕ) (from number : ℕ) (base : Base) (path : List ℕ) (before now : ℕ) (old new : Option (List MessageFile)) (exported : Exported) : Type 0 where
+  pub seen : ℕ
+  pub made_is : exported.made ≡ length (files_of area from base.cursor number base.messages seen)
+  pub files_are : Gets old new (files_of area from base.cursor number base.messages seen)
+  pub end_is : EndsAt area from number base path before now seen exported.next exported.stop
+
+-- The files of the messages of a base were made: of those of the area from the number `first` on, or from behind the one that
+-- is the last file of the folder. The area is asked for in letters of either case.
+pub record IsExport (area : List ℕ) (first greatest : ℕ) (last : Option (List ℕ)) (base : Base) (path : List ℕ) (before now : ℕ) (old new : Option (List MessageFile)) (exported : Exported) : Type 0 where
   pub from : ℕ
   pub from_is : from ≡ resumed (upper area) first base.cursor last base.messages (length base.messages)
-  pub files_are : exported.files ≡ files_of (upper area) from base.cursor (first_number greatest) base.messages (length base.messages)
-  pub end_is : exported.end ≡ max from (length base.messages)
+  pub made : IsMadeFrom (upper area) from (first_number greatest) base path before now old new exported
 
 -- The right answer if the messages of a base file are to become files.
-abbrev pub ExportAnswers : List ℕ → ℕ → ℕ → Option (List ℕ) → List ℕ → Result Exported Fault → Type 0
-ExportAnswers area first greatest last file answer = AnswersFile (IsExport area first greatest last) file answer
+abbrev pub ExportAnswers : List ℕ → ℕ → ℕ → Option (List ℕ) → List ℕ → Option (List MessageFile) → Option (List MessageFile) → Result Exported Fault → Type 0
+ExportAnswers area first greatest last file old new answer = AnswersFile (λ base. IsExport area first greatest last base [] 0 0 old new) file answer

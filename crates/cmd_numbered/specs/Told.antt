@@ -2,20 +2,14 @@
 use Rattle.std.specs.Prelude.{ℕ, ◌==◌, List, [], ◌++◌, codes, decimal, if◌then◌else◌, slice_get, Option, Some, None, unwrap_or}
 use Rattle.cmd_numbered.specs.declared.adding.JamExport.{JamExport}
 use Rattle.cmd_numbered.specs.declared.numbering.Exported.{Exported}
-use Rattle.cmd_numbered.specs.declared.numbering.MessageFile.{MessageFile}
-
--- The number of the first message without a file, or the end.
-abbrev pub next_at : Option MessageFile → ℕ → ℕ
-next_at None end = end
-next_at (Some file) end = file.message
 
 -- The line with the number of exported messages and the next number.
 abbrev pub told_line : ℕ → ℕ → List ℕ
 told_line made next = codes "exported " ++ (decimal made ++ (codes " messages, next " ++ (decimal next ++ codes "\n")))
 
--- The line of an export that made this many of the files.
-abbrev pub exported_line : Exported → ℕ → List ℕ
-exported_line exported made = told_line made (next_at (slice_get exported.files made) exported.end)
+-- That line, for files of a folder.
+abbrev pub exported_line : Exported → List ℕ
+exported_line exported = told_line exported.made exported.next
 
 -- The line of an export that added this many messages to a JAM base. Next is the first message left, or the end.
 abbrev pub added_line : JamExport → ℕ → List ℕ

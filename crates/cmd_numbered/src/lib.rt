@@ -5,13 +5,14 @@
 //! their names. Just those messages are added to a JAM base, too. The line printed at the end counts the messages made,
 //! and names the message from which the next export begins.
 //!
-//! Begin with `numbering` (which files are made), `adding` (additions to a JAM base) and `resending`. `finding` looks
+//! Begin with `numbering` (which files are made in a `folder`), `adding` (additions to a JAM base) and `resending`. `finding` looks
 //! for a message by its id: one that a mail answers, or one that an editor wrote and that was posted before. `names` reads
 //! the number in a file's name, and `telling` has the lines at the end.
 #![tactic(auto)]
 
 mod adding;
 mod finding;
+mod folder;
 mod names;
 mod numbering;
 mod resending;
@@ -21,7 +22,8 @@ pub use adding::{Adding, JamBase, JamEnd, JamExport, export_jam, export_jam_of};
 pub use finding::{
     Answered, PostedWords, find_answered, find_answered_of, is_posted, is_posted_of, own_serial,
 };
+pub use folder::{LastFile, MessageFile, MessageFolder};
 pub use names::{is_left, number_in};
-pub use numbering::{Exported, MessageFile, export_files, export_files_of};
+pub use numbering::{Exported, Unexported, export_files, export_files_of};
 pub use resending::{resend, resend_of};
 pub use telling::{refuse_message, tell_added, tell_cuts, tell_exported, tell_refused};

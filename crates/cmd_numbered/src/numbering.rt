@@ -1,77 +1,82 @@
 //! Which messages become files, and under which numbers.
-ghost use Rattle.std.specs.Prelude.{◌≡◌, ◌≤◌, ◌+◌, ◌++◌, ◌&&◌, IfErr, IfOk, OnOk, length, option_copied};
+ghost use Rattle.std.specs.Prelude.{◌≡◌, ◌≤◌, ◌<◌, ◌∷◌, ◌+◌, ◌++◌, ◌&&◌, [], IfErr, IfOk, OnErr, drop, length, option_copied, slice_get};
 ghost use Rattle.base_file.specs.Base.{Base};
 ghost use Rattle.base_folder.specs.Fetching.{IsUnread};
 ghost use Rattle.base_folder.specs.Source.{LooksAt};
 ghost use Rattle.echo_stored.specs.StoredMessage.{stored_bytes};
-ghost use Rattle.cmd_numbered.specs.Numbered.{ExportAnswers, IsExport, before_numbers, behind_numbers, file_at, file_of, files_of, first_number, is_exported, is_last, is_purged, is_same_stored, resumed};
+ghost use Rattle.cmd_numbered.specs.Folders.{Gets};
+ghost use Rattle.cmd_numbered.specs.Numbered.{ExportAnswers, IsExport, IsMade, IsMadeFrom, IsUnexported, IsUnmade, before_numbers, behind_numbers, file_at, file_of, first_number, is_exported, is_last, is_purged, is_same_stored, resumed};
 ghost use Rattle.cmd_numbered.specs.Reading.{AnswersReading};
 
+use crate::folder::{LastFile, MessageFile, MessageFolder};
 use crate::names::file_name;
 use base_folder::{BaseReader, MessageSource, fetch_message};
-use cmd_status::Fault;
+use cmd_status::{Fault, Status};
 use echo_addr::Items;
 use echo_filed::{Filed, is_stub};
 use echo_stored::push_stored;
 use std::alloc::{AllocError, Global};
 use std::hash::BuildHasher;
 
-/// A file that is to be made: its name in the folder, the number of its message in the base, and its bytes.
+/// Why a message has no file: the message was not read or there was no memory, or the folder did not get the file.
 #[derive(Debug, Drop)]
-pub struct MessageFile {
-    pub name: Items<u8>,
-    pub message: usize,
-    pub bytes: Items<u8>,
+pub enum Unexported<'a> {
+    Message(Fault<'a>),
+    File(Status),
 }
 
-/// The files that are to be made, in order, and the number of the message behind all that were looked at.
+/// How many files were made, and the number of the message from which the next export begins. If that one has no file,
+/// `stop` says why.
 #[derive(Debug, Drop)]
-pub struct Exported {
-    pub files: Items<MessageFile>,
-    pub end: u64,
+pub struct Exported<'a> {
+    pub made: usize,
+    pub next: u64,
+    pub stop: Option<Unexported<'a>>,
 }
 
-/// `export --msg DIR --area TAG [--from I] BASE`: the messages of the area as files, from the number `first` on. If
-/// the last file of the folder is one of these messages, they start after it: so a stopped run continues. `greatest`
-/// is the number of that file, 0 if there is none.
-pub fn export_files<'a, S: BuildHasher + Drop>(
+/// `export --msg DIR --area TAG [--from I] BASE`: makes a file of each message of the area, from the number `first` on. If
+/// the last file of the folder is one of these messages, they start after it: so a stopped run continues.
+pub fn export_files<'a, F: MessageFolder, S: BuildHasher + Drop>(
     alloc: Global,
     area: &[u8],
     first: u64,
-    greatest: u32,
-    last: Option<&[u8]>,
+    last: LastFile<'_>,
     base: &[u8],
     hasher: S,
-) -> Result<Exported, Fault<'a>>
-    ensures { ExportAnswers area.now first greatest (option_copied last.entry) base.now result }
+    folder: &mut F,
+) -> Result<Exported<'a>, Fault<'a>>
+    ensures files { ExportAnswers area.now first last.entry.number (option_copied last.entry.bytes) base.now (F.made folder.old) (F.made folder.new) result }
+    ensures none { OnErr result (Gets (F.made folder.old) (F.made folder.new) []) }
 {
     let mut messages = BaseReader::read(alloc, base, hasher)?;
-    export_files_of(alloc, area, first, greatest, last, "", &mut messages)
+    export_files_of(alloc, area, first, last, "", &mut messages, folder)
 }
 
-/// The same of messages that are read one by one, of the base with this path.
-pub fn export_files_of<'a, M: MessageSource>(
+/// The same of messages that are read one by one, of the base with this path. Each file is made before the next message
+/// is read.
+pub fn export_files_of<'a, M: MessageSource, F: MessageFolder>(
     alloc: Global,
     area: &[u8],
     first: u64,
-    greatest: u32,
-    last: Option<&[u8]>,
+    last: LastFile<'_>,
     path: &'a str,
     messages: &mut M,
-) -> Result<Exported, Fault<'a>>
+    folder: &mut F,
+) -> Result<Exported<'a>, Fault<'a>>
     requires { (M.state messages.old).is_ready }
-    ensures { (M.state messages.new).is_honest → (base : Base) → (M.state messages.old).holds base
-        → AnswersReading (IsExport area.now first greatest (option_copied last.entry) base) path.now (M.state messages.old).failures (M.state messages.new).failures result }
+    ensures files { (M.state messages.new).is_honest → (base : Base) → (M.state messages.old).holds base
+        → AnswersReading (IsExport area.now first last.entry.number (option_copied last.entry.bytes) base path.now (M.state messages.old).failures (M.state messages.new).failures (F.made folder.old) (F.made folder.new)) path.now (M.state messages.old).failures (M.state messages.new).failures result }
+    ensures none { OnErr result (Gets (F.made folder.old) (F.made folder.new) []) }
 {
     let area = area.to_ascii_uppercase(alloc)?;
-    let count = messages.count();
-    let from = resumed(alloc, &area, first, last, path, messages)?;
-    let files = files_of(alloc, &area, from, first_number(greatest), path, messages)?;
-    let end = from.max(count as u64);
-    Ok(Exported {
-        files: Items::new(files),
-        end,
-    })
+    let from = resumed(alloc, &area, first, last.bytes, path, messages)?;
+    let wanted = Wanted {
+        area: &area,
+        first: from,
+        cursor: messages.cursor(),
+        number: first_number(last.number),
+    };
+    Ok(make_files(alloc, wanted, path, messages, folder))
 }
 
 // The number of the first file.
@@ -186,67 +191,112 @@ fn behind_numbers(bytes: &[u8]) -> &[u8]
     }
 }
 
-// Which messages become files: those of the area from the number `first` on. Those before the cursor were scanned.
+// Which messages become files: those of the area from the number `first` on. Those before the cursor were scanned. The
+// first file has this number.
 #[derive(Clone, Copy)]
 struct Wanted<'a> {
     area: &'a [u8],
     first: u64,
     cursor: usize,
+    number: u64,
 }
 
-// The files of the messages.
-fn files_of<'a, M: MessageSource>(
+// Makes the files of the messages, up to the first that cannot be made.
+fn make_files<'a, M: MessageSource, F: MessageFolder>(
     alloc: Global,
-    area: &[u8],
-    first: u64,
-    number: u64,
+    wanted: Wanted<'_>,
     path: &'a str,
     messages: &mut M,
-) -> Result<Vec<MessageFile>, Fault<'a>>
+    folder: &mut F,
+) -> Exported<'a>
     requires { (M.state messages.old).is_ready }
-    ensures files { (M.state messages.new).is_honest → (base : Base) → (M.state messages.old).holds base
-        → IfOk result (λ files. files.items ≡ files_of area.now first base.cursor number base.messages (length base.messages)) }
+    ensures honest { (M.state messages.new).is_honest → (M.state messages.old).is_honest }
+    ensures made { (M.state messages.new).is_honest → (base : Base) → (M.state messages.old).holds base → wanted.entry.cursor ≡ base.cursor
+        → IsMadeFrom wanted.entry.area.now wanted.entry.first wanted.entry.number base path.now (M.state messages.old).failures (M.state messages.new).failures (F.made folder.old) (F.made folder.new) result }
+{
+    let count = messages.count();
+    let mut made = 0;
+    'messages: for i in 0..count {
+        match make_next(alloc, wanted, made, i, path, messages, folder) {
+            Ok(more) => made += more,
+            Err(why) => {
+                return Exported {
+                    made,
+                    next: i as u64,
+                    stop: Some(why),
+                };
+            }
+        }
+    }
+    Exported {
+        made,
+        next: wanted.first.max(count as u64),
+        stop: None,
+    }
+}
+
+// Reads the message of this number, and makes its file after so many, if it is exported. Returns how many were made.
+fn make_next<'a, M: MessageSource, F: MessageFolder>(
+    alloc: Global,
+    wanted: Wanted<'_>,
+    made: usize,
+    i: usize,
+    path: &'a str,
+    messages: &mut M,
+    folder: &mut F,
+) -> Result<usize, Unexported<'a>>
+    requires ready { (M.state messages.old).is_ready }
+    requires within { i < (M.state messages.old).count }
+    ensures made { (M.state messages.new).is_honest → (base : Base) → (M.state messages.old).holds base
+        → IfOk result (IsMade (file_at wanted.entry.area.now wanted.entry.first wanted.entry.cursor (wanted.entry.number + made) i (slice_get base.messages i)) (F.made folder.old) (F.made folder.new)) }
     ensures fault { (M.state messages.new).is_honest → (base : Base) → (M.state messages.old).holds base
-        → IfErr result (IsUnread path.now (M.state messages.old).failures (M.state messages.new).failures) }
+        → IfErr result (IsUnexported (file_at wanted.entry.area.now wanted.entry.first wanted.entry.cursor (wanted.entry.number + made) i (slice_get base.messages i)) path.now (M.state messages.old).failures (M.state messages.new).failures) }
+    ensures none { OnErr result (Gets (F.made folder.old) (F.made folder.new) []) }
+    ensures few { IfOk result (λ more. more ≤ 1) }
     ensures looks { LooksAt (M.state messages.old) (M.state messages.new) }
     ensures later { (M.state messages.old).failures ≤ (M.state messages.new).failures }
 {
-    let count = messages.count();
-    let cursor = messages.cursor();
-    let wanted = Wanted {
-        area,
-        first,
-        cursor,
-    };
-    let mut files = Vec::new(alloc);
-    'messages: for i in 0..count {
-        fetch_message(messages, path, i)?;
-        let next = u128::from(number) + files.len() as u128;
-        push_file(alloc, &mut files, wanted, next, i, messages.at_hand())?;
+    if let Err(fault) = fetch_message(messages, path, i) {
+        return Err(Unexported::Message(fault));
     }
-    Ok(files)
+    let number = u128::from(wanted.number) + made as u128;
+    match messages.at_hand() {
+        Some(message) if is_wanted(wanted, i, message) => make_file(
+            alloc, wanted, number, i, message, folder,
+        ),
+        _ => Ok(0),
+    }
 }
 
-// Adds the file of the message of this number, if it is exported.
-fn push_file(
+// Whether the message of this number is exported.
+fn is_wanted(wanted: Wanted<'_>, i: usize, message: &Filed) -> bool
+    ensures { result ≡ is_exported wanted.entry.area.now wanted.entry.first wanted.entry.cursor i message.now }
+{
+    is_exported(wanted.area, wanted.first, wanted.cursor, i, message)
+}
+
+// Makes the file of a message.
+fn make_file<'a, F: MessageFolder>(
     alloc: Global,
-    files: &mut Vec<MessageFile>,
     wanted: Wanted<'_>,
     number: u128,
     i: usize,
-    message: Option<&Filed>,
-) -> Result<(), AllocError>
-    ensures { OnOk result (files.new.items ≡ files.old.items ++ file_at wanted.entry.area.now wanted.entry.first wanted.entry.cursor number i (option_copied message.entry)) }
+    message: &Filed,
+    folder: &mut F,
+) -> Result<usize, Unexported<'a>>
+    ensures made { IfOk result (IsMade (file_of wanted.entry.cursor number i message.now ∷ []) (F.made folder.old) (F.made folder.new)) }
+    ensures few { IfOk result (λ more. more ≤ 1) }
+    ensures fault { IfErr result IsUnmade }
+    ensures none { OnErr result (Gets (F.made folder.old) (F.made folder.new) []) }
 {
-    let Some(message) = message else {
-        return Ok(());
+    let file = match file_of(alloc, wanted.cursor, number, i, message) {
+        Ok(file) => file,
+        Err(_) => return Err(Unexported::Message(Fault::OutOfMemory)),
     };
-    if !is_exported(wanted.area, wanted.first, wanted.cursor, i, message) {
-        return Ok(());
+    match folder.make(&file) {
+        Ok(()) => Ok(1),
+        Err(status) => Err(Unexported::File(status)),
     }
-    let file = file_of(alloc, wanted.cursor, number, i, message)?;
-    files.push(file)?;
-    Ok(())
 }
 
 // The file with this number.

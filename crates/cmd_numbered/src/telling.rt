@@ -4,7 +4,7 @@ ghost use Rattle.std.specs.Io.KnownBytes.{Appends};
 ghost use Rattle.cmd_status.specs.Ended.{Stops};
 ghost use Rattle.cmd_status.specs.Lines.{WritesFront};
 ghost use Rattle.cmd_status.specs.declared.status.Status.TheVariants.{Refused};
-ghost use Rattle.cmd_numbered.specs.Told.{added_line, cuts_line, exported_line, left_line, next_at, refused_line, told_line};
+ghost use Rattle.cmd_numbered.specs.Told.{added_line, cuts_line, exported_line, left_line, refused_line, told_line};
 
 use crate::adding::JamExport;
 use crate::numbering::Exported;
@@ -14,32 +14,21 @@ use echo_charset::written;
 use std::alloc::{AllocError, Global};
 use std::io::Write;
 
-/// Prints how many of the files were made, and the number of the message from which the next export begins.
+/// Prints how many files were made, and the number of the message from which the next export begins.
 pub fn tell_exported<'a, W: Sink>(
     alloc: Global,
-    exported: &Exported,
-    made: usize,
+    exported: &Exported<'_>,
     out: &mut W,
 ) -> Result<(), Fault<'a>>
-    ensures line { OnOk result (Appends (W.contents out.old) (W.contents out.new) (exported_line exported.now made)) }
+    ensures line { OnOk result (Appends (W.contents out.old) (W.contents out.new) (exported_line exported.now)) }
     ensures passed { OnOk result (W.holds out.new ≡ false) }
-    ensures begun { OnErr result (WritesFront (exported_line exported.now made) (W.contents out.old) (W.contents out.new)) }
+    ensures begun { OnErr result (WritesFront (exported_line exported.now) (W.contents out.old) (W.contents out.new)) }
     ensures ok { OnOk result (W.failures out.new ≡ W.failures out.old) }
     ensures err { IfErr result (Stops (W.failures out.old) (W.failures out.new)) }
 {
     let mut line = Vec::new(alloc);
-    push_line(&mut line, made, next_of(exported, made))?;
+    push_line(&mut line, exported.made, exported.next)?;
     print_rest(&mut line, out)
-}
-
-// The number of the first message without a file, or the number after the last message.
-fn next_of(exported: &Exported, made: usize) -> u64
-    ensures { result ≡ next_at (slice_get exported.now.files made) exported.now.end }
-{
-    match exported.files.as_slice().get(made) {
-        Some(file) => file.message as u64,
-        None => exported.end,
-    }
 }
 
 /// The same, where so many of the messages were added to a JAM base.

@@ -6,12 +6,14 @@ use base_folder::MessageSource;
 use cmd_input::{
     folder_fault, is_folder, load_base, locked_folder, look_into, output_fault, read_file,
 };
-use cmd_numbered::{Exported, MessageFile, export_files_of, is_left, number_in, tell_exported};
+use cmd_numbered::{
+    Exported, LastFile, MessageFile, MessageFolder, Unexported, export_files_of, is_left,
+    number_in, tell_exported,
+};
 use cmd_status::{Fault, Status, ended, number_of};
 use cmd_words::ExportWords;
 use disk_io::Sink;
 use disk_system::OutputFault;
-use echo_addr::Items;
 use std::alloc::AllocError;
 use std::fs::File;
 use std::{fs, io, str};
@@ -26,15 +28,43 @@ struct Last {
     path: String,
 }
 
-// A folder under its lock, and the files for it.
+// A folder that gets files. It reports on `errors` why a file was not made.
 #[derive(Drop)]
-struct Export {
-    locked: File,
-    exported: Exported,
+struct FolderFiles<'r, 'a, E: Sink> {
+    rt: &'r HostRuntime,
+    folder: &'a str,
+    errors: &'r mut E,
+}
+
+impl<E: Sink> MessageFolder for FolderFiles<'_, '_, E> {
+    ghost use Rattle.std.specs.Prelude.{None};
+
+    ghost made = { λ folder. None };
+
+    fn make(&mut self, file: &MessageFile) -> Result<(), Status> {
+        let name = str::from_utf8(file.name.as_slice()).unwrap_or("");
+        match paths(self.rt, self.folder, name) {
+            Ok((path, beside)) => self.make_at(path.as_str(), beside.as_str(), file),
+            Err(_) => Err(output_fault(OutputFault::Memory, "").report(self.errors)),
+        }
+    }
+}
+
+impl<E: Sink> FolderFiles<'_, '_, E> {
+    // Makes the file at this path.
+    fn make_at(&mut self, path: &str, beside: &str, file: &MessageFile) -> Result<(), Status> {
+        let making = Making {
+            path,
+            beside,
+            bytes: file.bytes.as_slice(),
+            known_by: MESSAGE_KNOWN_BY,
+        };
+        make_file(self.rt, making).map_err(|fault| output_fault(fault, path).report(self.errors))
+    }
 }
 
 /// `export --msg DIR --area TAG [--from I] BASE`: the number is judged first. The folder is locked before the base is
-/// read, and a fault of the base counts before one of the folder.
+/// read, and a fault of the base counts before one of the folder. Each file is made before the next message is read.
 pub fn run_export_stored<W: Sink, E: Sink>(
     rt: &HostRuntime,
     words: &ExportWords<'_>,
@@ -42,63 +72,71 @@ pub fn run_export_stored<W: Sink, E: Sink>(
     out: &mut W,
     errors: &mut E,
 ) -> Status {
-    let Export { locked, exported } = match files_given(rt, words, folder) {
-        Ok(export) => export,
+    let (locked, exported) = match export_into(rt, words, folder, errors) {
+        Ok(exported) => exported,
         Err(fault) => return fault.report(errors),
     };
-    let (made, stopped) = write_files(rt, folder, exported.files.as_slice(), errors);
-    let told = match tell_exported(rt.alloc(), &exported, made, out) {
+    let line = match tell_exported(rt.alloc(), &exported, out) {
         Ok(()) => Ok(Status::Good),
         Err(fault) => Err(fault),
     };
     let _ = locked.unlock();
-    match stopped {
-        Status::Good => ended(told, errors),
-        failed => failed,
+    match exported.stop {
+        None => ended(line, errors),
+        Some(Unexported::Message(fault)) => fault.report(errors),
+        Some(Unexported::File(status)) => status,
     }
 }
 
-// The files to make, and the folder under its lock.
-fn files_given<'a>(
+// Makes the files, and returns the folder under its lock.
+fn export_into<'a, E: Sink>(
     rt: &HostRuntime,
     words: &ExportWords<'a>,
     folder: &'a str,
-) -> Result<Export, Fault<'a>> {
+    errors: &mut E,
+) -> Result<(File, Exported<'a>), Fault<'a>> {
     let first = match words.from {
         Some(word) => number_of(word)?,
         None => 0,
     };
     let locked = locked_folder(rt, folder);
+    let mut files = FolderFiles { rt, folder, errors };
     if is_folder(rt, words.base) {
         let mut messages = look_into(rt, words.base, 0, None)?;
-        return files_under(rt, words, folder, first, locked?, &mut messages);
+        let locked = locked?;
+        let exported = export_messages(words, first, &mut messages, &mut files)?;
+        return Ok((locked, exported));
     }
     let mut messages = load_base(rt, words.base)?;
-    files_under(rt, words, folder, first, locked?, &mut messages)
+    let locked = locked?;
+    let exported = export_messages(words, first, &mut messages, &mut files)?;
+    Ok((locked, exported))
 }
 
-// The same of these messages, under the lock.
-fn files_under<'a, M: MessageSource>(
-    rt: &HostRuntime,
+// Makes the files of these messages.
+fn export_messages<'a, M: MessageSource, E: Sink>(
     words: &ExportWords<'a>,
-    folder: &'a str,
     first: u64,
-    locked: File,
     messages: &mut M,
-) -> Result<Export, Fault<'a>>
+    files: &mut FolderFiles<'_, 'a, E>,
+) -> Result<Exported<'a>, Fault<'a>>
     requires { (M.state messages.old).is_ready }
 {
-    let (greatest, last) = last_stored(rt, folder)?;
-    let exported = export_files_of(
-        rt.alloc(),
-        words.area.unwrap_or("").as_bytes(),
+    let (number, bytes) = last_stored(files.rt, files.folder)?;
+    let last = LastFile {
+        number,
+        bytes: bytes.as_ref().map(|bytes| bytes.as_slice()),
+    };
+    let area = words.area.unwrap_or("").as_bytes();
+    export_files_of(
+        files.rt.alloc(),
+        area,
         first,
-        greatest,
-        last.as_ref().map(|bytes| bytes.as_slice()),
+        last,
         words.base,
         messages,
-    )?;
-    Ok(Export { locked, exported })
+        files,
+    )
 }
 
 // The greatest number of a stored message in the folder, 0 where it has none, and the bytes of that one.
@@ -137,47 +175,6 @@ fn last_name<'a>(rt: &HostRuntime, folder: &'a str) -> Result<Option<Last>, Faul
         }
     }
     Ok(last)
-}
-
-// Writes each message to a new file in the folder, up to the first that cannot be written. Returns how many were
-// written, and the status.
-fn write_files<E: Sink>(
-    rt: &HostRuntime,
-    folder: &str,
-    files: &[MessageFile],
-    errors: &mut E,
-) -> (usize, Status) {
-    for (i, file) in files.iter().enumerate() {
-        match write_file(rt, folder, file, errors) {
-            Status::Good => {}
-            failed => return (i, failed),
-        }
-    }
-    (files.len(), Status::Good)
-}
-
-// Writes one message.
-fn write_file<E: Sink>(
-    rt: &HostRuntime,
-    folder: &str,
-    file: &MessageFile,
-    errors: &mut E,
-) -> Status {
-    let name = str::from_utf8(file.name.as_slice()).unwrap_or("");
-    let (path, beside) = match paths(rt, folder, name) {
-        Ok(paths) => paths,
-        Err(_) => return output_fault(OutputFault::Memory, "").report(errors),
-    };
-    let making = Making {
-        path: path.as_str(),
-        beside: beside.as_str(),
-        bytes: file.bytes.as_slice(),
-        known_by: MESSAGE_KNOWN_BY,
-    };
-    match make_file(rt, making) {
-        Ok(()) => Status::Good,
-        Err(fault) => output_fault(fault, path.as_str()).report(errors),
-    }
 }
 
 // The path of a file of the folder, and its staging path.

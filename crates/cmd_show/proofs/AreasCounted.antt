@@ -2,14 +2,15 @@
 use Rattle.std.proofs.Common.{◌≡◌, ℕ, ◌+◌, ◌-◌, ◌≤◌, ◌<◌, ◌∙◌, ◌||◌, ◌&&◌, ◌⊎◌, Bool, true, false, cond, List, [], ◌∷◌, ◌++◌, Option, None, Some, Result, Ok, Err, length, map, take, drop, take_all, refl, sym, ap, subst, arith, inl, inr}
 use Rattle.std.specs.Prelude.{bytes_eq, count_by, is_some, nat_le, slice_get, unwrap_or}
 use Rattle.std.specs.declared.cmp.Ordering.{Ordering}
-use Rattle.std.specs.declared.cmp.Ordering.TheVariants.{Less, Equal, Greater}
-use Rattle.std.specs.Ordering.{is_eq, match_ordering, nat_cmp}
+use Rattle.std.specs.declared.cmp.Ordering.TheVariants.{Less}
+use Rattle.std.specs.Ordering.{is_eq, nat_cmp}
 use Rattle.std.specs.List.{AllByRecursion, flat_map, list_any}
 use Rattle.std.specs.List.Sorted.{IsStrictlySortedBy}
 use Rattle.std.specs.Map.{keys_of, lookup}
 use Rattle.std.specs.BTreeMap.{insert_entry}
 use Rattle.std.specs.Cmp.Lexicographic.{bytes_decides, slice_cmp}
-use Rattle.std.proofs.lemmas.Bool.{cases_lt, le-leb, lt-leb, true≢false}
+use Rattle.std.proofs.Math.Bool.{or_comm}
+use Rattle.std.proofs.lemmas.Bool.{cases_lt, le-leb, lt-leb}
 use Rattle.std.proofs.lemmas.List.{drop-append-le, drop_all, length-append, take-append-le, take_more}
 use Rattle.std.proofs.lemmas.List.Folds.{list_any-append}
 use Rattle.std.proofs.lemmas.List.Sums.{sum_by-append, sum_by-cons}
@@ -19,7 +20,7 @@ use Rattle.base_file.specs.Base.{Base}
 use Rattle.echo_export.specs.declared.json_line.State.{State}
 use Rattle.echo_export.specs.declared.json_line.State.TheVariants.{Purged, Scanned, Waiting}
 use Rattle.echo_filed.specs.Filed.{Filed}
-use Rattle.echo_links.proofs.Found.{bytes_turned, tied, apart}
+use Rattle.echo_links.proofs.Found.{bytes_turned, lookup_inserted}
 use Rattle.cmd_print.specs.BaseListed.{is_purged, total_text}
 use Rattle.cmd_status.specs.declared.fault.Fault.{Fault}
 use Rattle.cmd_status.specs.declared.status.Status.{Status}
@@ -129,12 +130,6 @@ some_found true v (Some x) = refl
 some_found false v None = refl
 some_found false v (Some x) = refl
 
-either_turned : (a b : Bool) → (a || b) ≡ (b || a)
-either_turned true true = refl
-either_turned true false = refl
-either_turned false true = refl
-either_turned false false = refl
-
 -- there is a message at each number below the count
 pub some_there : (base : List Filed) (i : ℕ) → i < length base → None ≡ slice_get base i → ⊥
 some_there base i inside none = elim (slice_get_cases base i).1 [
@@ -155,38 +150,13 @@ module _ {K : Type 0} (bytes : K → List ℕ) where
   abbrev is_key : List ℕ → K → Bool
   is_key tag k = is_eq (slice_cmp nat_cmp tag (bytes k))
 
-  is_key_exact : (tag : List ℕ) (k : K) → is_key tag k ≡ true → tag ≡ bytes k
-  is_key_exact tag k h = (bytes_decides tag (bytes k)).0 (sym (is_eq-slice_cmp tag (bytes k)) ∙ h)
-
   -- keys in the order of their tags
   abbrev pub key_order : K → K → Ordering
   key_order x y = slice_cmp nat_cmp (bytes x) (bytes y)
 
-  -- a look-up after an insertion
-  lookup_inserted : (tag : List ℕ) (es : List (K × AreaCounts)) (k : K) (v : AreaCounts)
-      → lookup (is_key tag) (insert_entry key_order es k v) ≡ cond (is_key tag k) (Some v) (lookup (is_key tag) es)
-  lookup_inserted tag [] k v = refl
-  lookup_inserted tag (e ∷ es) k v = by (key_order k e.0) refl (lookup_inserted tag es k v)
-    where
-      both : is_key tag k ≡ true → is_key tag e.0 ≡ true → is_eq (key_order k e.0) ≡ true
-      both h g =
-          is_eq-slice_cmp (bytes k) (bytes e.0) ∙ (bytes_decides (bytes k) (bytes e.0)).1 (sym (is_key_exact tag k h) ∙ is_key_exact tag e.0 g)
-
-      by : (o : Ordering) → key_order k e.0 ≡ o → lookup (is_key tag) (insert_entry key_order es k v) ≡ cond (is_key tag k) (Some v) (lookup (is_key tag) es)
-          → lookup (is_key tag) (match_ordering o ((k, v) ∷ e ∷ es) ((e.0, v) ∷ es) (e ∷ insert_entry key_order es k v))
-          ≡ cond (is_key tag k) (Some v) (lookup (is_key tag) (e ∷ es))
-      by Less is later = refl
-      by Equal is later =
-          let same : bytes k ≡ bytes e.0 = is_key_exact (bytes k) e.0 (ap is_eq is) in
-          tied (is_key tag k) (is_key tag e.0) (Some v) (Some e.1) (lookup (is_key tag) es) (ap (λ t. is_eq (slice_cmp nat_cmp tag t)) (sym same))
-      by Greater is later =
-          ap (cond (is_key tag e.0) (Some e.1)) later
-          ∙ apart (is_key tag k) (is_key tag e.0) (Some v) (Some e.1) (lookup (is_key tag) es)
-          (λ h g. true≢false (sym (both h g) ∙ ap is_eq is))
-
   counts_inserted : (tag : List ℕ) (es : List (K × AreaCounts)) (k : K) (v : AreaCounts)
       → counts_of bytes (insert_entry key_order es k v) tag ≡ cond (is_key tag k) v (counts_of bytes es tag)
-  counts_inserted tag es k v = ap (λ o. unwrap_or o no_counts) (lookup_inserted tag es k v) ∙ unwrapped (is_key tag k) v (lookup (is_key tag) es)
+  counts_inserted tag es k v = ap (λ o. unwrap_or o no_counts) (lookup_inserted bytes tag es k v) ∙ unwrapped (is_key tag k) v (lookup (is_key tag) es)
 
   -- no count grows by more than one
   pub within_inserted : (i : ℕ) (es : List (K × AreaCounts)) (k : K) (tag : List ℕ) (state : State) (v : AreaCounts)
@@ -205,9 +175,9 @@ module _ {K : Type 0} (bytes : K → List ℕ) where
   counted_on es k xs m cursor v own is have = record {
     counts = λ tag. counts_inserted tag es k v ∙ ap (λ b. cond b v (counts_of bytes es tag)) (hit tag) ∙ by tag (is_in tag m) refl ∙ sym (more_counts tag xs m cursor);
     there = λ tag.
-        ap is_some (lookup_inserted tag es k v) ∙ some_found (is_key tag k) v (lookup (is_key tag) es)
+        ap is_some (lookup_inserted bytes tag es k v) ∙ some_found (is_key tag k) v (lookup (is_key tag) es)
         ∙ ap (λ b. is_some (lookup (is_key tag) es) || b) (hit tag) ∙ ap (λ b. b || is_in tag m) (have.there tag)
-        ∙ ap (λ b. list_any (is_in tag) xs || b) (either_turned false (is_in tag m)) ∙ sym (list_any-append (is_in tag) xs (m ∷ []));
+        ∙ ap (λ b. list_any (is_in tag) xs || b) (or_comm false (is_in tag m)) ∙ sym (list_any-append (is_in tag) xs (m ∷ []));
   }
     where
       hit : (tag : List ℕ) → is_key tag k ≡ is_in tag m
@@ -236,7 +206,7 @@ module _ {K : Type 0} (bytes : K → List ℕ) where
   among_keys [] tag = refl
   among_keys (e ∷ es) tag =
       ap (λ b. bytes_eq tag (bytes e.0) || b) (among_keys es tag) ∙ ap (λ b. b || is_some (lookup (is_key tag) es)) (sym (is_eq-slice_cmp tag (bytes e.0)))
-      ∙ either_turned (is_key tag e.0) (is_some (lookup (is_key tag) es)) ∙ sym (some_found (is_key tag e.0) e.1 (lookup (is_key tag) es))
+      ∙ or_comm (is_key tag e.0) (is_some (lookup (is_key tag) es)) ∙ sym (some_found (is_key tag e.0) e.1 (lookup (is_key tag) es))
 
   below_all : (tag : List ℕ) (ks : List K) → AllByRecursion (λ k. slice_cmp nat_cmp tag (bytes k) ≡ Less) ks → AllByRecursion (λ t. slice_cmp nat_cmp tag t ≡ Less) (map bytes ks)
   below_all tag [] below = tt

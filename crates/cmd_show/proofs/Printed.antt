@@ -44,14 +44,7 @@ front_fault : (bytes : List ℕ) (f : PacketFault) → FrontFault bytes f → ((
 front_fault bytes (fault.Truncated at) h alive = inl (h.0, refl, h.1)
 front_fault bytes (fault.NotType2 at) h alive = (h.0, refl, h.1, h.2)
 front_fault bytes (fault.Read at) h alive = absurd (alive at refl)
-front_fault bytes (fault.NotMessage at) h alive = absurd h
-front_fault bytes (fault.FieldTooLong at) h alive = absurd h
-front_fault bytes (fault.TextTooLong at) h alive = absurd h
-front_fault bytes fault.Memory h alive = absurd h
-front_fault bytes fault.Stopped h alive = absurd h
-front_fault bytes (fault.Write n) h alive = absurd h
-front_fault bytes (fault.TooManyMessages at) h alive = absurd h
-front_fault bytes (fault.BadField n) h alive = absurd h
+front_fault bytes _ h alive = absurd h
 
 -- the lines of the header were added
 pub header_printed : (full : Bool) (bytes rest : List ℕ) (h : Header) (own : Limits) (given at : ℕ) (next : Stage) (kept behind : List ℕ) (old : Option (List ℕ)) (place : ℕ)
@@ -240,15 +233,7 @@ call_judged : (f : PacketFault) (P : Type 0) → P ⊎ IsOfCall f → CountsFail
 call_judged f P (inl wrong) device = inl wrong
 call_judged (fault.Read at) P (inr call) device = absurd (Failed-never device)
 call_judged fault.Memory P (inr call) device = inr refl
-call_judged (fault.Truncated at) P (inr call) device = absurd call
-call_judged (fault.NotType2 at) P (inr call) device = absurd call
-call_judged (fault.NotMessage at) P (inr call) device = absurd call
-call_judged (fault.FieldTooLong at) P (inr call) device = absurd call
-call_judged (fault.TextTooLong at) P (inr call) device = absurd call
-call_judged fault.Stopped P (inr call) device = absurd call
-call_judged (fault.Write at) P (inr call) device = absurd call
-call_judged (fault.TooManyMessages at) P (inr call) device = absurd call
-call_judged (fault.BadField at) P (inr call) device = absurd call
+call_judged _ P (inr call) device = absurd call
 
 -- a fault after the header: its lines and those of the messages before it are on their way
 pub message_refused : (full : Bool) (bytes rest : List ℕ) (h : Header) (own : Limits) (given at : ℕ) (next : Stage) (kept behind : List ℕ) (old new : Output) (count place : ℕ) (f : PacketFault)

@@ -1,6 +1,7 @@
 -- Cases of tests, and lists by their first element.
-use Rattle.std.proofs.Common.{◌≡◌, ℕ, suc, zero, ◌<◌, Bool, true, false, if◌then◌else◌, List, [], ◌∷◌, length, get_or, refl, sym, subst, ◌⊎◌, inl, inr, arith, Some}
-use Rattle.std.specs.Prelude.{Contains}
+use Rattle.std.proofs.Common.{◌≡◌, ℕ, suc, zero, ◌<◌, Bool, true, false, if◌then◌else◌, List, [], ◌∷◌, length, get_or, refl, sym, subst, ◌⊎◌, inl, inr, arith, Some, map}
+use Rattle.std.specs.Prelude.{Contains, find}
+use Rattle.std.proofs.lemmas.Bool.{cond_both}
 use Rattle.std.specs.List.{AllByRecursion}
 
 -- one of three choices
@@ -41,3 +42,14 @@ all_at P x (y ∷ ys) all h = elim h [ inl same ↦ subst P (sym same) all.0 | i
 pub all_weaker : {X : Type 0} (P Q : X → Type 0) → ((x : X) → P x → Q x) → (xs : List X) → AllByRecursion P xs → AllByRecursion Q xs
 all_weaker P Q weaker [] all = tt
 all_weaker P Q weaker (x ∷ xs) all = (weaker x all.0, all_weaker P Q weaker xs all.1)
+
+pub all_map : {X Y : Type 0} (P : Y → Type 0) (Q : X → Type 0) (f : X → Y) → ((x : X) → Q x → P (f x)) → (xs : List X) → AllByRecursion Q xs → AllByRecursion P (map f xs)
+all_map P Q f image [] all = tt
+all_map P Q f image (x ∷ xs) all = (image x all.0, all_map P Q f image xs all.1)
+
+-- what a search returns passes the test, and a fact about all elements holds for it
+pub found_is : {X : Type 0} (P : X → Type 0) (p : X → Bool) (xs : List X) → AllByRecursion P xs → (x : X) → find p xs ≡ Some x → (p x ≡ true) × P x
+found_is P p [] all x h = absurd (cc)
+found_is {X} P p (y ∷ ys) all x h =
+    cond_both (p y) (Some y) (find p ys) (λ o. o ≡ Some x → (p x ≡ true) × P x)
+    (λ passes is. subst (λ (z : X). (p z ≡ true) × P z) (same_some y x is) (passes, all.0)) (λ fails is. found_is P p ys all.1 x is) h

@@ -1,14 +1,16 @@
 -- Equal keys, and the messages after a purge.
-use Rattle.std.proofs.Common.{◌≡◌, ℕ, ◌<◌, Bool, true, cond, nat_lt, List, [], ◌∷◌, length, map, refl, sym, ap, subst, ◌∙◌, Option, Some, None, inl, inr}
+use Rattle.std.proofs.Common.{◌≡◌, ℕ, ◌<◌, Bool, true, cond, nat_lt, List, [], ◌∷◌, length, map, refl, sym, ap, subst, ◌∙◌, Option, Some, None}
 use Rattle.std.specs.Prelude.{bytes_eq, find, filter}
+use Rattle.std.specs.List.{AllByRecursion}
 use Rattle.std.specs.Cmp.Lexicographic.{pointwise, pointwise_decides, bytes_decides}
-use Rattle.std.proofs.lemmas.Bool.{and_from, and_parts, cases_Bool, cond-false, cond-true, ltb-true, lt-ltb, false≢true}
+use Rattle.std.proofs.lemmas.Bool.{and_from, and_parts, cond-true, ltb-true, lt-ltb, false≢true}
 use Rattle.echo_text.specs.Lines.{after_word, begins, msgid_word, trimmed}
 use Rattle.echo_text.specs.Echo.{msgid_of}
 use Rattle.echo_filed.specs.declared.key.Key.{Key}
 use Rattle.echo_filed.specs.declared.key.Key.TheVariants.{ByContent, ById}
 use Rattle.echo_filed.specs.Filed.{Filed, id_line, key_of, key_with, same_key}
 use Rattle.echo_filed.specs.Stubs.{stub_of, stub_with}
+use Rattle.echo_filed.proofs.Choices.{found_is}
 use Rattle.echo_filed.proofs.Trims.{IsTrim, after_blank, trimmed_trim}
 
 pub lines_decide : (a b : List (List ℕ)) → (pointwise bytes_eq a b ≡ true → a ≡ b) × (a ≡ b → pointwise bytes_eq a b ≡ true)
@@ -49,28 +51,6 @@ same_own (ByContent tag date to from subject kept) =
 pub same_key_decides : (k l : Key) → (same_key k l ≡ true → k ≡ l) × (k ≡ l → same_key k l ≡ true)
 same_key_decides k l = (same_if k l, λ e. let P : Key → Type 0 = λ x. same_key k x ≡ true in subst P e (same_own k))
 
--- the element that a search returns passes
-found_passes : {X : Type 0} (p : X → Bool) (xs : List X) (x : X) → find p xs ≡ Some x → p x ≡ true
-found_passes p [] x h = absurd (cc)
-found_passes {X} p (y ∷ ys) x h = elim (cases_Bool (p y)) [
-  | inl passes ↦
-      let same : Some y ≡ Some x = sym (cond-true (p y) (Some y) (find p ys) passes) ∙ h in
-      let e : y ≡ x = cc in
-      let P : X → Type 0 = λ z. p z ≡ true in subst P e passes
-  | inr fails ↦ found_passes p ys x (sym (cond-false (p y) (Some y) (find p ys) fails) ∙ h)
-]
-
--- a fact about each image holds for the one that a search returns
-found_image : {X Y : Type 0} (P : Y → Type 0) (p : Y → Bool) (f : X → Y) → ((x : X) → P (f x)) → (xs : List X) (y : Y) → find p (map f xs) ≡ Some y → P y
-found_image P p f all [] y h = absurd (cc)
-found_image {X} {Y} P p f all (x ∷ xs) y h = elim (cases_Bool (p (f x))) [
-  | inl passes ↦
-      let same : Some (f x) ≡ Some y = sym (cond-true (p (f x)) (Some (f x)) (find p (map f xs)) passes) ∙ h in
-      let e : f x ≡ y = cc in
-      subst P e (all x)
-  | inr fails ↦ found_image P p f all xs y (sym (cond-false (p (f x)) (Some (f x)) (find p (map f xs)) fails) ∙ h)
-]
-
 abbrev some_bytes : List ℕ → Bool
 some_bytes found = nat_lt 0 (length found)
 
@@ -79,14 +59,18 @@ pub record IsIdText (id : List ℕ) : Type 0 where
   pub some : 0 < length id
   pub trim : IsTrim id
 
+ids_trim : (lines : List (List ℕ)) → AllByRecursion IsTrim (map (λ line. trimmed (after_word msgid_word line)) lines)
+ids_trim [] = tt
+ids_trim (line ∷ more) = (trimmed_trim (after_word msgid_word line), ids_trim more)
+
 pub msgid_is_id : (kept : List (List ℕ)) (id : List ℕ) → msgid_of kept ≡ Some id → IsIdText id
 unfolding msgid_of
 msgid_is_id kept id h =
     let f : List ℕ → List ℕ = λ line. trimmed (after_word msgid_word line) in
-    let xs : List (List ℕ) = filter (begins msgid_word) kept in
+    let found = found_is IsTrim some_bytes (map f (filter (begins msgid_word) kept)) (ids_trim (filter (begins msgid_word) kept)) id h in
     record {
-      some = ltb-true 0 (length id) (found_passes some_bytes (map f xs) id h);
-      trim = found_image IsTrim some_bytes f (λ line. trimmed_trim (after_word msgid_word line)) xs id h;
+      some = ltb-true 0 (length id) found.0;
+      trim = found.1;
     }
 
 -- a first line MSGID has the id

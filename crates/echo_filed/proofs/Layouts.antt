@@ -1,6 +1,6 @@
 -- Fields of a file, with a layout that separates each field from the next bytes.
-use Rattle.std.proofs.Common.{◌≡◌, ℕ, suc, ◌+◌, ◌-◌, ◌*◌, ◌/◌, ◌%◌, ◌^◌, ◌<◌, ◌≤◌, nat_lt, cond, List, [], ◌∷◌, ◌++◌, length, take, drop, replicate, refl, sym, ap, subst, ◌∙◌, Option, Some, None, arith, lit<, inl, inr}
-use Rattle.std.proofs.lemmas.Bool.{cases_Bool, cond-false, cond-true, le-ltb, ltb-false, ltb-true}
+use Rattle.std.proofs.Common.{◌≡◌, ℕ, suc, ◌+◌, ◌-◌, ◌*◌, ◌/◌, ◌%◌, ◌^◌, ◌<◌, ◌≤◌, nat_lt, cond, List, [], ◌∷◌, ◌++◌, length, take, drop, replicate, refl, sym, ap, subst, ◌∙◌, Option, Some, None, arith, lit<}
+use Rattle.std.proofs.lemmas.Bool.{cond-false, cond_both, le-ltb, ltb-false, ltb-true}
 use Rattle.std.proofs.lemmas.List.{append_assoc, append-nil, drop_at, length-append, length-replicate, length-take-le, take-append-drop, take_at}
 use Rattle.echo_packet.specs.Header.{AreBytes, word}
 use Rattle.echo_packet.proofs.Headers.{AreBytes-drop}
@@ -60,9 +60,8 @@ byte_field = record { read = read_byte; takes = takes; again = λ b rest h. refl
 
 -- two bytes
 read_word : List ℕ → Option (ℕ × List ℕ)
-read_word [] = None
-read_word (a ∷ []) = None
 read_word (a ∷ (b ∷ rest)) = Some (a + 256 * b, rest)
+read_word _ = None
 
 pub word_field : Layout ℕ IsWord word
 unfolding read_word
@@ -95,11 +94,8 @@ word_field = record { read = read_word; takes = takes; again = again; cuts = cut
 
 -- four bytes
 read_long : List ℕ → Option (ℕ × List ℕ)
-read_long [] = None
-read_long (a ∷ []) = None
-read_long (a ∷ (b ∷ [])) = None
-read_long (a ∷ (b ∷ (c ∷ []))) = None
 read_long (a ∷ (b ∷ (c ∷ (d ∷ rest)))) = Some (a + 256 * b + 65536 * (c + 256 * d), rest)
+read_long _ = None
 
 -- the bytes of a number of four bytes
 long_is : (a b c d : ℕ) → a < 256 → b < 256 → c < 256 → d < 256 → a ∷ (b ∷ (c ∷ (d ∷ []))) ≡ long (a + 256 * b + 65536 * (c + 256 * d))
@@ -119,14 +115,11 @@ long_size a b c d ha hb hc hd = omega arith
 
 -- the number that the first four bytes are
 pub long_front : (bytes : List ℕ) → AreBytes bytes → 4 ≤ length bytes → (bytes ≡ long (long_at 0 bytes) ++ drop 4 bytes) × (long_at 0 bytes < 2 ^ 32)
-long_front [] are h = absurd (omega arith)
-long_front (a ∷ []) are h = absurd (omega arith)
-long_front (a ∷ (b ∷ [])) are h = absurd (omega arith)
-long_front (a ∷ (b ∷ (c ∷ []))) are h = absurd (omega arith)
 long_front (a ∷ (b ∷ (c ∷ (d ∷ rest)))) are h = (
   ap (λ bs. bs ++ rest) (long_is a b c d (are 0) (are 1) (are 2) (are 3)),
   long_size a b c d (are 0) (are 1) (are 2) (are 3),
 )
+long_front _ are h = absurd (omega arith)
 
 -- the number of these four bytes
 pub long_value : (n : ℕ) → n % 65536 % 256 + 256 * (n % 65536 / 256) + 65536 * (n / 65536 % 256 + 256 * (n / 65536 / 256)) ≡ n
@@ -195,24 +188,13 @@ abbrev front_of : ℕ → List ℕ → Option (List ℕ × List ℕ)
 front_of n bytes = cond (nat_lt (length bytes) n) None (Some (take n bytes, drop n bytes))
 
 front_some : (n : ℕ) (bytes : List ℕ) (found : List ℕ × List ℕ) → front_of n bytes ≡ Some found → (n ≤ length bytes) × ((take n bytes, drop n bytes) ≡ found)
-front_some n bytes found h = elim (cases_Bool (nat_lt (length bytes) n)) [
-  | inl short ↦
-      let never : None ≡ Some found = sym (cond-true (nat_lt (length bytes) n) None (Some (take n bytes, drop n bytes)) short) ∙ h in
-      absurd (cc)
-  | inr long ↦ (
-    ltb-false (length bytes) n long,
-    same_some (take n bytes, drop n bytes) found (sym (cond-false (nat_lt (length bytes) n) None (Some (take n bytes, drop n bytes)) long) ∙ h),
-  )
-]
+front_some n bytes found h =
+    cond_both (nat_lt (length bytes) n) None (Some (take n bytes, drop n bytes)) (λ o. o ≡ Some found → (n ≤ length bytes) × ((take n bytes, drop n bytes) ≡ found))
+    (λ short is. absurd (cc)) (λ long is. (ltb-false (length bytes) n long, same_some (take n bytes, drop n bytes) found is)) h
 
 front_none : (n : ℕ) (bytes : List ℕ) → front_of n bytes ≡ None → length bytes < n
-front_none n bytes h = elim (cases_Bool (nat_lt (length bytes) n)) [
-  | inl short ↦ ltb-true (length bytes) n short
-  | inr long ↦
-      let front : List ℕ × List ℕ = (take n bytes, drop n bytes) in
-      let never : Some front ≡ None = sym (cond-false (nat_lt (length bytes) n) None (Some front) long) ∙ h in
-      absurd (cc)
-]
+front_none n bytes h =
+    cond_both (nat_lt (length bytes) n) None (Some (take n bytes, drop n bytes)) (λ o. o ≡ None → length bytes < n) (λ short is. ltb-true (length bytes) n short) (λ long is. absurd (cc)) h
 
 front_again : (n : ℕ) (s rest : List ℕ) → length s ≡ n → front_of n (s ++ rest) ≡ Some (s, rest)
 front_again n s rest e =

@@ -1,7 +1,7 @@
 -- Lines without 00 and 0D.
 use Rattle.std.proofs.Common.{◌≡◌, ◌≢◌, ℕ, zero, suc, ◌^◌, ◌<◌, ◌==◌, ◌||◌, true, false, List, [], ◌∷◌, ◌++◌, length, take, drop, decimal, codes, refl, sym, subst, arith, inl, inr}
 use Rattle.std.specs.List.{AllByRecursion, list_all, list_any, onto_first, slice_split}
-use Rattle.std.proofs.lemmas.Bool.{and_parts, cases_Bool, cond-false, cond-true, eqb-false, not-true, or_parts}
+use Rattle.std.proofs.lemmas.Bool.{and_parts, cases_Bool, cond_both, eqb-false, not-true, or_parts}
 use Rattle.std.proofs.lemmas.List.Elements.{All-from_recursion}
 use Rattle.std.proofs.lemmas.List.Splits.{slice_split-cons_no, slice_split-cons_yes}
 use Rattle.echo_packet.specs.Message.{HasNoZero}
@@ -63,12 +63,7 @@ split_plain (b ∷ text) h =
 
 last_plain : (pieces : List (List ℕ)) → AllByRecursion Plain pieces → AllByRecursion Plain (without_empty_last pieces)
 last_plain [] all = tt
-last_plain (piece ∷ []) all =
-    let P : List (List ℕ) → Type 0 = AllByRecursion Plain in
-    elim (cases_Bool (length piece == 0)) [
-      | inl empty ↦ subst P (sym (cond-true (length piece == 0) [] (piece ∷ []) empty)) tt
-      | inr some ↦ subst P (sym (cond-false (length piece == 0) [] (piece ∷ []) some)) all
-    ]
+last_plain (piece ∷ []) all = cond_both (length piece == 0) [] (piece ∷ []) (AllByRecursion Plain) (λ empty. tt) (λ some. all)
 last_plain (piece ∷ (next ∷ more)) all = (all.0, last_plain (next ∷ more) all.1)
 
 -- the lines of a text without 00

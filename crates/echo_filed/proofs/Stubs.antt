@@ -1,38 +1,16 @@
 -- A stub is a message that a base may have.
-use Rattle.std.proofs.Common.{◌≡◌, ℕ, not, Bool, true, List, [], ◌∷◌, ◌++◌, length, map, drop, codes, refl, sym, subst, ◌∙◌, Option, Some, None, arith, inl, inr}
-use Rattle.std.specs.Prelude.{filter, find}
+use Rattle.std.proofs.Common.{nat_lt, ◌≡◌, ℕ, not, true, List, [], ◌∷◌, ◌++◌, length, map, drop, codes, refl, Option, Some, None, arith}
+use Rattle.std.specs.Prelude.{filter}
 use Rattle.std.specs.List.{AllByRecursion, prefix_len}
-use Rattle.std.proofs.lemmas.Bool.{cases_Bool, cond-false, cond-true}
-use Rattle.std.proofs.lemmas.List.Elements.{All-from_recursion, recursion_from_All}
+use Rattle.std.proofs.lemmas.List.Elements.{All-filter, All-from_recursion, recursion_from_All}
 use Rattle.echo_text.specs.Lines.{after_feeds, after_word, begins, is_feed, is_tag, msgid_word, trimmed}
 use Rattle.echo_text.specs.Tail.{tail}
 use Rattle.echo_text.specs.Echo.{IsEcho, IsLine, is_shed, msgid_of}
 use Rattle.echo_addr.specs.Entries.{is_blank}
 use Rattle.echo_filed.specs.Filed.{Filed, IsFiled, id_line}
 use Rattle.echo_filed.specs.Stubs.{bare, stub_of, stub_with}
-use Rattle.echo_filed.proofs.Choices.{all_weaker}
+use Rattle.echo_filed.proofs.Choices.{all_map, all_weaker, found_is}
 use Rattle.echo_filed.proofs.Plain.{IsLineByte, Plain, all_append, plain_drop, plain_if, plain_line, plain_take}
-
--- a fact about each image of some lines holds for the line that a search returns
-found_of : (P Q : List ℕ → Type 0) (p : List ℕ → Bool) (f : List ℕ → List ℕ) → ((x : List ℕ) → Q x → P (f x)) → (xs : List (List ℕ)) → AllByRecursion Q xs
-    → (y : List ℕ) → find p (map f xs) ≡ Some y → P y
-found_of P Q p f image [] all y h = absurd (cc)
-found_of P Q p f image (x ∷ xs) all y h = elim (cases_Bool (p (f x))) [
-  | inl passes ↦
-      let same : Some (f x) ≡ Some y = sym (cond-true (p (f x)) (Some (f x)) (find p (map f xs)) passes) ∙ h in
-      let e : f x ≡ y = cc in
-      subst P e (image x all.0)
-  | inr fails ↦ found_of P Q p f image xs all.1 y (sym (cond-false (p (f x)) (Some (f x)) (find p (map f xs)) fails) ∙ h)
-]
-
-all_filter : (Q : List ℕ → Type 0) (p : List ℕ → Bool) (xs : List (List ℕ)) → AllByRecursion Q xs → AllByRecursion Q (filter p xs)
-all_filter Q p [] all = tt
-all_filter Q p (x ∷ xs) all =
-    let P : List (List ℕ) → Type 0 = AllByRecursion Q in
-    elim (cases_Bool (p x)) [
-      | inl passes ↦ subst P (sym (cond-true (p x) (x ∷ filter p xs) (filter p xs) passes)) (all.0, all_filter Q p xs all.1)
-      | inr fails ↦ subst P (sym (cond-false (p x) (x ∷ filter p xs) (filter p xs) fails)) (all_filter Q p xs all.1)
-    ]
 
 -- an id is a part of a kept line
 part_plain : (line : List ℕ) → Plain line → Plain (trimmed (after_word msgid_word line))
@@ -44,7 +22,10 @@ part_plain line h =
 id_is_plain : (kept : List (List ℕ)) → AllByRecursion Plain kept → (id : List ℕ) → msgid_of kept ≡ Some id → Plain id
 unfolding msgid_of
 id_is_plain kept all id h =
-    found_of Plain Plain _ (λ line. trimmed (after_word msgid_word line)) part_plain (filter (begins msgid_word) kept) (all_filter Plain (begins msgid_word) kept all) id h
+    let lines = filter (begins msgid_word) kept in
+    let plain : AllByRecursion Plain lines = recursion_from_All Plain lines (All-filter (begins msgid_word) Plain kept (All-from_recursion Plain kept all)) in
+    let id_in : List ℕ → List ℕ = λ line. trimmed (after_word msgid_word line) in
+    (found_is Plain (λ found. nat_lt 0 (length found)) (map id_in lines) (all_map Plain Plain id_in part_plain lines plain) id h).1
 
 line_is_plain : (line : List ℕ) → IsLine line → Plain line
 line_is_plain line h = recursion_from_All IsLineByte line h

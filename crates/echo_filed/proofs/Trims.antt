@@ -1,7 +1,7 @@
 -- Bytes without blanks at both ends.
-use Rattle.std.proofs.Common.{◌≡◌, ℕ, zero, suc, ◌+◌, ◌-◌, ◌<◌, ◌≤◌, Bool, List, [], ◌∷◌, ◌++◌, length, reverse, drop, take, refl, sym, ap, ◌∙◌, arith, inl, inr}
+use Rattle.std.proofs.Common.{◌≡◌, ℕ, zero, suc, ◌+◌, ◌-◌, ◌<◌, ◌≤◌, Bool, true, false, cond, List, [], ◌∷◌, ◌++◌, length, reverse, drop, take, refl, sym, ap, ◌∙◌, arith}
 use Rattle.std.specs.List.{prefix_len, suffix_len}
-use Rattle.std.proofs.lemmas.Bool.{cases_Bool, cond-false, cond-true}
+use Rattle.std.proofs.lemmas.Bool.{cond-false, cond_both}
 use Rattle.std.proofs.lemmas.List.{length-drop, length-reverse, reverse-append, reverse-reverse, take-append-drop, take_all}
 use Rattle.std.proofs.lemmas.List.Sums.{suffix_len-le-length}
 use Rattle.std.proofs.Math.Seq.{take-append_seam}
@@ -15,23 +15,20 @@ pub record IsTrim (bytes : List ℕ) : Type 0 where
 
 none_left : (p : ℕ → Bool) (xs : List ℕ) → prefix_len p (drop (prefix_len p xs) xs) ≡ 0
 none_left p [] = refl
-none_left p (x ∷ xs) = elim (cases_Bool (p x)) [
-  | inl passes ↦
-      let is : prefix_len p (x ∷ xs) ≡ suc (prefix_len p xs) = cond-true (p x) (1 + prefix_len p xs) 0 passes ∙ omega arith in
-      ap (λ n. prefix_len p (drop n (x ∷ xs))) is ∙ none_left p xs
-  | inr fails ↦
-      let is : prefix_len p (x ∷ xs) ≡ 0 = cond-false (p x) (1 + prefix_len p xs) 0 fails in
-      ap (λ n. prefix_len p (drop n (x ∷ xs))) is ∙ is
-]
+none_left p (x ∷ xs) =
+    let next : 1 + prefix_len p xs ≡ suc (prefix_len p xs) = omega arith in
+    cond_both (p x) (1 + prefix_len p xs) 0 (λ n. prefix_len p (drop n (x ∷ xs)) ≡ 0) (λ passes. ap (λ n. prefix_len p (drop n (x ∷ xs))) next ∙ none_left p xs)
+    (λ fails. cond-false (p x) (1 + prefix_len p xs) 0 fails)
+
+-- a test that fails at the first element fails there for another list too
+still_none : (b : Bool) (m n : ℕ) → cond b (1 + m) 0 ≡ 0 → cond b (1 + n) 0 ≡ 0
+still_none true m n is = absurd (omega arith)
+still_none false m n is = refl
 
 none_in_front : (p : ℕ → Bool) (n : ℕ) (xs : List ℕ) → prefix_len p xs ≡ 0 → prefix_len p (take n xs) ≡ 0
 none_in_front p zero xs h = refl
 none_in_front p (suc n) [] h = refl
-none_in_front p (suc n) (x ∷ xs) h = elim (cases_Bool (p x)) [
-  | inl passes ↦
-      let is : 0 ≡ 1 + prefix_len p xs = sym h ∙ cond-true (p x) (1 + prefix_len p xs) 0 passes in absurd (omega arith)
-  | inr fails ↦ cond-false (p x) (1 + prefix_len p (take n xs)) 0 fails
-]
+none_in_front p (suc n) (x ∷ xs) h = still_none (p x) (prefix_len p xs) (prefix_len p (take n xs)) h
 
 -- the bytes before the last k
 take_back : (k : ℕ) (xs : List ℕ) → k ≤ length xs → take (length xs - k) xs ≡ reverse (drop k (reverse xs))
@@ -78,11 +75,7 @@ joined_trim front back some some' begin finish = record {
   where
     begins_so : (xs ys : List ℕ) → 0 < length xs → prefix_len is_blank xs ≡ 0 → prefix_len is_blank (xs ++ ys) ≡ 0
     begins_so [] ys some none = absurd (omega arith)
-    begins_so (x ∷ xs) ys some none = elim (cases_Bool (is_blank x)) [
-      | inl passes ↦
-          let is : 0 ≡ 1 + prefix_len is_blank xs = sym none ∙ cond-true (is_blank x) (1 + prefix_len is_blank xs) 0 passes in absurd (omega arith)
-      | inr fails ↦ cond-false (is_blank x) (1 + prefix_len is_blank (xs ++ ys)) 0 fails
-    ]
+    begins_so (x ∷ xs) ys some none = still_none (is_blank x) (prefix_len is_blank xs) (prefix_len is_blank (xs ++ ys)) none
 
 -- trimming changes nothing
 pub trimmed_same : (bs : List ℕ) → IsTrim bs → trimmed bs ≡ bs

@@ -64,14 +64,14 @@ number_is [] tag (Some i) is = absurd (omega (arith, is.0))
 number_is (area ∷ areas) tag (Some i) is = sym (ap is_some (is.1 ∙ slice_get-get_or (area ∷ areas) i area is.0))
 
 -- two equal keys: the new value replaces the old one
-pub tied : {X : Type 0} (b c : Bool) (x y z : Option X) → c ≡ b → cond c x z ≡ cond b x (cond c y z)
+tied : {X : Type 0} (b c : Bool) (x y z : Option X) → c ≡ b → cond c x z ≡ cond b x (cond c y z)
 tied true true x y z e = refl
 tied true false x y z e = absurd (true≢false (sym e))
 tied false true x y z e = absurd (true≢false e)
 tied false false x y z e = refl
 
 -- two keys of which one at most passes
-pub apart : {X : Type 0} (b c : Bool) (x y z : Option X) → (b ≡ true → c ≡ true → ⊥) → cond c y (cond b x z) ≡ cond b x (cond c y z)
+apart : {X : Type 0} (b c : Bool) (x y z : Option X) → (b ≡ true → c ≡ true → ⊥) → cond c y (cond b x z) ≡ cond b x (cond c y z)
 apart true true x y z h = absurd (h refl refl)
 apart true false x y z h = refl
 apart false true x y z h = refl
@@ -103,7 +103,7 @@ module _ {K : Type 0} (tag_of : K → List ℕ) where
   tag_order x y = slice_cmp nat_cmp (tag_of x) (tag_of y)
 
   -- a look-up after an entry was put in
-  lookup_inserted : (tag : List ℕ) (es : List (K × ℕ)) (k : K) (v : ℕ)
+  pub lookup_inserted : {X : Type 0} (tag : List ℕ) (es : List (K × X)) (k : K) (v : X)
       → lookup (is_key tag) (insert_entry tag_order es k v) ≡ cond (is_key tag k) (Some v) (lookup (is_key tag) es)
   lookup_inserted tag [] k v = refl
   lookup_inserted tag (e ∷ es) k v = by (tag_order k e.0) refl (lookup_inserted tag es k v)

@@ -14,7 +14,6 @@ use Rattle.model_graph.proofs.Members.{Among-from_Contains, Contains-from_Among}
 use Rattle.model_run.proofs.Lists.{Among-filter_from, Among-filter_to}
 use Rattle.echo_filed.specs.Sets.{address_before}
 use Rattle.model_run.specs.Tidy.{Joined, carries, lists}
-use Rattle.echo_net.specs.declared.each_fault.Kind.TheVariants as kinds
 use Rattle.echo_net.specs.declared.link.Link.{Link}
 use Rattle.echo_net.specs.declared.verdict.NetFault.{NetFault}
 use Rattle.echo_net.specs.declared.verdict.NetFault.TheVariants.{NoSuchArea, TwoFiles, SelfLink, Unknown, OneSided, SameNetNode, Apart, Loop}
@@ -25,12 +24,11 @@ use Rattle.echo_net.specs.Drawn.{AreLinksInOrder, back, has_address, has_link}
 use Rattle.echo_net.specs.Faults.{AllAreAnswered, AllAreKnown, AreSoundLinks, HaveOneFileEach, IfNo, IsFirstFault, NoneListsItself}
 use Rattle.echo_net.specs.Firsts.{HasTwin, pair_before}
 use Rattle.echo_net.specs.Nets.{link, systems}
-use Rattle.echo_net.proofs.Apart.{apart_first, apart_later}
-use Rattle.echo_net.proofs.Drawings.{carriers_held, links_held, links_in_order}
-use Rattle.echo_net.proofs.Faulty.{is_carried, not_carried, twin_from, twin_to}
-use Rattle.echo_net.proofs.Graphs.{Different-apart}
+use Rattle.echo_net.proofs.Drawings.{carriers_held, links_held, links_in_order, apart_first, apart_later}
 use Rattle.echo_net.proofs.Rounds.{named_first}
 use Rattle.echo_net.proofs.Orders.{link_order, not_before_itself, same_exact, same_itself}
+use Rattle.echo_net.proofs.Collected.{is_carried, not_carried, twin_from, twin_to, Different-apart}
+use Rattle.echo_net.specs.declared.each_fault.Kind.TheVariants as kinds
 
 -- one more item of a filtered list
 module _ {X : Type 0} (p : X → Bool) (xs : List X) (i : ℕ) (d : X) (inside : i < length xs) (all next : List X) (before : all ≡ filter p (take i xs)) where

@@ -1,16 +1,7 @@
-pub mod Ascending
 pub mod Orders
-pub mod FirstOf
 pub mod Collected
-pub mod Neighbours
 pub mod Owned
 pub mod Twins
-pub mod Runs
-pub mod Faulty
-pub mod Numbers
-pub mod Graphs
-pub mod Absences
 pub mod Drawings
-pub mod Apart
 pub mod Rounds
 pub mod AllFaults

@@ -1,27 +1,39 @@
 -- Addresses that occur twice among some systems.
-use Rattle.std.proofs.Common.{◌≡◌, ◌<◌, ◌+◌, ◌&&◌, ◌↔◌, ℕ, suc, Some, None, List, [], ◌∷◌, ◌++◌, length, get_or, refl, sym, subst, ap, ◌∙◌, arith, inl, inr}
-use Rattle.std.specs.Prelude.{Contains, slice_get}
-use Rattle.std.specs.List.Sorted.{IsStrictlySortedBy}
-use Rattle.std.specs.Ordering.{nat_cmp, ordering_then}
+use Rattle.std.proofs.Common.{◌≡◌, ◌<◌, ◌+◌, ◌&&◌, ◌↔◌, ℕ, suc, Some, None, List, [], ◌∷◌, ◌++◌, length, get_or, refl, sym, subst, ap, ◌∙◌, arith, inl, inr, ◌≢◌, ◌≤◌, nat_lt, Bool, true, false, IsTrue, Option, ◌-◌, ◌==◌, not, take, drop}
+use Rattle.std.specs.Prelude.{Contains, slice_get, is_some, option_map, unwrap_or}
+use Rattle.std.specs.List.Sorted.{IsStrictlySortedBy, IsPartitionedBy, IsPartitionPoint}
+use Rattle.std.specs.Ordering.{nat_cmp, ordering_then, is_lt, ordering_reverse}
 use Rattle.std.specs.declared.cmp.Ordering.{Ordering}
 use Rattle.std.specs.declared.cmp.Ordering.TheVariants.{Less, Equal}
-use Rattle.std.proofs.lemmas.Bool.{cases_lt, or_parts}
+use Rattle.std.proofs.lemmas.Bool.{cases_lt, or_parts, and_from, and_parts, cases_Bool, lt-ltb, ltb-true, not-true}
 use Rattle.std.proofs.lemmas.Cmp.{tied_itself}
-use Rattle.std.proofs.lemmas.List.{get_or_default}
-use Rattle.std.proofs.lemmas.List.Elements.{Contains-append_left, Contains-push, Contains-push_cases}
+use Rattle.std.proofs.lemmas.List.{get_or_default, get_or-drop, get_or-take, get_or_at, get_or_append_left, length-drop, length-take, length-append}
+use Rattle.std.proofs.lemmas.List.Elements.{Contains-append_left, Contains-push, Contains-push_cases, Contains-get_or}
 use Rattle.echo_addr.specs.declared.address.Address.{Address}
-use Rattle.echo_links.specs.Links.{same_address}
+use Rattle.echo_links.specs.Links.{same_address, Area, LinkFile, area_of, has_area, is_link, links_of}
 use Rattle.echo_filed.specs.Sets.{address_before}
 use Rattle.echo_net.specs.declared.link.Link.{Link}
-use Rattle.model_graph.specs.Walk.{Different, IsAt}
-use Rattle.model_graph.proofs.Members.{Among-index}
+use Rattle.model_graph.specs.Walk.{Different, IsAt, Connected, Reaches, Simple, Among}
+use Rattle.model_graph.proofs.Members.{Among-index, Among-from_Contains, Contains-from_Among}
 use Rattle.echo_net.specs.declared.owners.Owner.{Owner}
 use Rattle.echo_net.specs.Firsts.{IsSmallest, StandsTwice}
 use Rattle.echo_net.specs.Nets.{link}
 use Rattle.echo_net.specs.Pairs.{IsShared}
-use Rattle.echo_net.proofs.Ascending.{at_place, earlier_from_less, earlier_less, later_not_before}
-use Rattle.echo_net.proofs.Neighbours.{next_alike}
-use Rattle.echo_net.proofs.Orders.{address_exact, address_order, address_total, link_order, link_total, nat_cmp_less, nat_less, owner_order, owner_total, pair_before_is, then_less}
+use Rattle.echo_net.proofs.Orders.{address_exact, address_order, address_total, link_order, link_total, nat_cmp_less, nat_less, owner_order, owner_total, pair_before_is, then_less, at_place, earlier_from_less, earlier_less, later_not_before, next_alike, before_is, before_less, not_before_itself, same_exact, same_itself, before_again, same_where_neither, not_gt, not_lt, one_place, gt_first}
+use Rattle.std.specs.List.{list_any, position_or_len, AllZip}
+use Rattle.std.proofs.lemmas.List.Sums.{position_or_len_is}
+use Rattle.echo_links.specs.LinkLines.{no_address}
+use Rattle.model_graph.specs.Cycle.{IsCycle, Polygons}
+use Rattle.model_graph.specs.Loops.{HasUnlinked}
+use Rattle.model_graph.specs.Renaming.{IsRenaming, KeepsOrder}
+use Rattle.model_graph.proofs.Renaming.{IsRenaming-swap, Polygons-renamed, Reaches-renamed}
+use Rattle.model_run.specs.Tidy.{Carries, lists}
+use Rattle.echo_net.specs.Faults.{AllAreAnswered, AllAreKnown, AreInOrder, NoneListsItself, numbered}
+use Rattle.echo_net.specs.Rows.{system_at, IsRow}
+use Rattle.model_run.proofs.Places.{lister-carries as lister_carries}
+use Rattle.std.proofs.lemmas.Map.Keys.{below_from_sorted}
+use Rattle.model_graph.specs.Rows.{IsAscending, links_at}
+use Rattle.model_graph.proofs.Rows.{holds_at, place_of}
 
 abbrev pub owner : Address → ℕ → Owner
 owner a n = record { system = a; file = n }
@@ -142,3 +154,298 @@ module _ (systems : List Address) (shared : List Link) where
             let late = later_not_before link_total shared up 0 there.0 l (link b b) first (there.1, there.2) (omega arith) in
             (or_parts (address_before b l.from) (same_address b l.from && address_before b l.to) (pair_before_is (link b b) l ∙ late)).0;
       }
+
+-- Carriers by their indexes in ascending order.
+
+pub before_back : (a b : Address) → address_before a b ≡ true → address_before b a ≡ false
+before_back a b h = before_is b a ∙ ap is_lt (address_total.antisymm b a ∙ ap ordering_reverse (before_less a b h))
+
+pub in_order_from_sorted : (IsMember : Address → Type 0) (all : List Address) → IsStrictlySortedBy address_order all → ((a : Address) → Contains all a ↔ IsMember a) → AreInOrder IsMember all
+in_order_from_sorted IsMember all up members = record {
+  ascending = λ i j lt inside.
+      let d = no_address in
+      before_is (system_at all i) (system_at all j)
+      ∙ ap is_lt (earlier_less address_total all up i j (system_at all i) (system_at all j)
+      (omega arith, get_or_default all i (system_at all i) d (omega arith)) (inside, get_or_default all j (system_at all j) d inside) lt);
+  members = members;
+}
+
+module _ (files : List LinkFile) (tag : List ℕ) (all : List Address) (order : AreInOrder (Carries files tag) all) where
+  abbrev pub name : ℕ → Address
+  name i = system_at all i
+
+  abbrev pub back : Address → ℕ
+  back a = position_or_len (λ b. same_address b a) all
+
+  abbrev pub joined : ℕ → ℕ → Bool
+  joined = numbered all (lists files tag)
+
+  pub no_later : (i j : ℕ) → i ≤ j → j < length all → address_before (name j) (name i) ≡ false
+  no_later i j le inside = elim (cases_lt i j) [
+    | inl lt ↦ before_back (name i) (name j) (order.ascending i j lt inside)
+    | inr ge ↦ (let same : j ≡ i = omega arith in not_before_itself (name j) (name i) (ap name same))
+  ]
+
+  others : (i j : ℕ) → i < j → j < length all → name i ≢ name j
+  others i j lt inside e = (let low = order.ascending i j lt inside in let up = not_before_itself (name i) (name j) e in cc)
+
+  pub back_name : (i : ℕ) → i < length all → back (name i) ≡ i
+  back_name i inside =
+      position_or_len_is (λ b. same_address b (name i)) all i no_address (omega arith)
+      (λ k lt. elim (cases_Bool (same_address (name k) (name i))) [
+        | inl same ↦ absurd (others k i lt inside (same_exact (name k) (name i) same))
+        | inr apart ↦ apart
+      ])
+      (λ lt. same_itself (name i) (name i) refl)
+
+  pub number : (a : Address) → Carries files tag a → (i : ℕ) × (i < length all) × (name i ≡ a)
+  number a h = (let (i, inside, is) = (order.members a).1 h in (i, inside, get_or_default all i no_address a inside ∙ is))
+
+  pub name_back : (a : Address) → Carries files tag a → name (back a) ≡ a
+  name_back a h = (let (i, inside, is) = number a h in ap name (ap back (sym is) ∙ back_name i inside) ∙ is)
+
+  pub carried : (i : ℕ) → i < length all → Carries files tag (name i)
+  carried i inside = (order.members (name i)).0 (Contains-get_or all i no_address inside)
+
+  pub record Parts (i j : ℕ) : Type 0 where
+    pub one : i < length all
+    pub other : j < length all
+    pub linked : IsTrue (lists files tag (name i) (name j))
+
+  pub parts : (i j : ℕ) → IsTrue (joined i j) → Parts i j
+  parts i j h =
+      let (sizes, linked) = and_parts (nat_lt i (length all) && nat_lt j (length all)) (lists files tag (name i) (name j)) h in
+      let (one, other) = and_parts (nat_lt i (length all)) (nat_lt j (length all)) sizes in
+      record { one = ltb-true i (length all) one; other = ltb-true j (length all) other; linked = linked }
+
+  pub whole : (i j : ℕ) → i < length all → j < length all → IsTrue (lists files tag (name i) (name j)) → IsTrue (joined i j)
+  whole i j one other linked =
+      and_from (nat_lt i (length all) && nat_lt j (length all)) (lists files tag (name i) (name j))
+      (and_from (nat_lt i (length all)) (nat_lt j (length all)) (lt-ltb i (length all) one) (lt-ltb j (length all) other)) linked
+
+  module _ (none : NoneListsItself files tag) (known : AllAreKnown files tag) (both : AllAreAnswered files tag) where
+    pub renaming : IsRenaming joined (lists files tag) name back
+    renaming = record {
+      links = λ i j h. (parts i j h).linked;
+      links_back = λ a b h.
+          let (i, in_i, is_i) = number a (lister_carries files tag a b h) in
+          let (j, in_j, is_j) = number b (known a b h) in
+          let linked = subst (λ (c : Address). IsTrue (lists files tag (name i) c)) (sym is_j) (subst (λ (c : Address). IsTrue (lists files tag c b)) (sym is_i) h) in
+          let back_i : i ≡ back a = sym (back_name i in_i) ∙ ap back is_i in
+          let back_j : j ≡ back b = sym (back_name j in_j) ∙ ap back is_j in
+          subst (λ (n : ℕ). IsTrue (joined (back a) n)) back_j (subst (λ (n : ℕ). IsTrue (joined n j)) back_i (whole i j in_i in_j linked));
+      back_name = λ i j h. back_name i (parts i j h).one;
+      name_back = λ a b h. name_back a (lister_carries files tag a b h);
+    }
+
+    pub simple : Simple (lists files tag)
+    simple = record { both_ways = both; no_self = none }
+
+    pub simple_numbers : Simple joined
+    simple_numbers = record {
+      both_ways = λ i j h. (let p = parts i j h in whole j i p.other p.one (both (name i) (name j) p.linked));
+      no_self = λ i h. none (name i) (parts i i h).linked;
+    }
+
+    pub polygons : Polygons joined → Polygons (lists files tag)
+    polygons h = Polygons-renamed joined (lists files tag) name back renaming simple h
+
+    -- indexes and addresses have one order
+    pub keeps : KeepsOrder joined (λ i j. i < j) (λ a b. address_before a b ≡ true) name
+    keeps i j k l link_i link_j lt = order.ascending i j lt (parts j l link_j).one
+
+    pub keeps_back : KeepsOrder (lists files tag) (λ a b. address_before a b ≡ true) (λ i j. i < j) back
+    keeps_back a b c d link_a link_b before =
+        let (i, in_i, is_i) = number a (lister_carries files tag a c link_a) in
+        let (j, in_j, is_j) = number b (lister_carries files tag b d link_b) in
+        let back_i : i ≡ back a = sym (back_name i in_i) ∙ ap back is_i in
+        let back_j : j ≡ back b = sym (back_name j in_j) ∙ ap back is_j in
+        let named : address_before (name i) (name j) ≡ true = subst (λ (x : Address). address_before x (name j) ≡ true) (sym is_i) (subst (λ (x : Address). address_before a x ≡ true) (sym is_j) before) in
+        elim (cases_lt i j) [
+          | inl lt ↦ omega (arith, lt, back_i, back_j)
+          | inr le ↦ (let late = no_later j i le in_i in cc)
+        ]
+
+    pub reaches : (i j : ℕ) → Reaches joined i j → Reaches (lists files tag) (name i) (name j)
+    reaches i j h = Reaches-renamed joined (lists files tag) name back renaming i j h
+
+    pub reaches_back : (i j : ℕ) → i < length all → j < length all → Reaches (lists files tag) (name i) (name j) → Reaches joined i j
+    reaches_back i j in_i in_j h =
+        let moved = Reaches-renamed (lists files tag) joined back name (IsRenaming-swap joined (lists files tag) name back renaming) (name i) (name j) h in
+        subst (λ (n : ℕ). Reaches joined i n) (back_name j in_j) (subst (λ (n : ℕ). Reaches joined n (back (name j))) (back_name i in_i) moved)
+
+    pub connected : Connected (λ i. i < length all) joined → Connected (Carries files tag) (lists files tag)
+    connected h a b at_a at_b =
+        let (i, in_i, is_i) = number a at_a in
+        let (j, in_j, is_j) = number b at_b in
+        subst (λ (c : Address). Reaches (lists files tag) c b) is_i
+        (subst (λ (c : Address). Reaches (lists files tag) (name i) c) is_j (reaches i j (h i j in_i in_j)))
+
+-- a loop with two members that are not linked is no polygon
+pub loop_apart : {A : Type 0} (linked : A → A → Bool) (loop : List A) → IsCycle linked loop → HasUnlinked linked loop → Polygons linked → ⊥
+loop_apart linked [] cycle unlinked polygons = cycle
+loop_apart linked (first ∷ rest) cycle (x, y, at_x, at_y, differ, apart) polygons = apart (polygons first rest cycle x y at_x at_y differ)
+
+-- The links from one system, and its row.
+
+-- three addresses
+not_before_after : (a b c : Address) → address_before b a ≡ false → address_before b c ≡ true → address_before a c ≡ true
+not_before_after a b c h g = elim (cases_Bool (address_before a b)) [
+  | inl lower ↦ before_again a b c lower g
+  | inr apart ↦ subst (λ (d : Address). address_before d c ≡ true) (same_where_neither b a h apart) g
+]
+
+not_before_later : (a b c : Address) → address_before c b ≡ false → address_before a b ≡ true → address_before a c ≡ true
+not_before_later a b c h g = elim (cases_Bool (address_before b c)) [
+  | inl lower ↦ before_again a b c g lower
+  | inr apart ↦ subst (λ (d : Address). address_before a d ≡ true) (same_where_neither b c apart h) g
+]
+
+-- ascending links have ascending systems
+pub rising : (links : List Link) → IsStrictlySortedBy link_order links → (i j : ℕ) (l m : Link) → IsAt links i l → IsAt links j m → i ≤ j →
+    address_before m.from l.from ≡ false
+rising links up i j l m at_l at_m le =
+    before_is m.from l.from ∙ not_lt address_total l.from m.from
+    (gt_first (address_order l.from m.from) (address_order l.to m.to) (not_gt link_total l m (later_not_before link_total links up i j l m at_l at_m le)))
+
+-- one more pair
+pub zip_push : {X Y : Type 0} (R : X → Y → Type 0) (xs : List X) (ys : List Y) (x : X) (y : Y) → AllZip R xs ys → R x y → AllZip R (xs ++ x ∷ []) (ys ++ y ∷ [])
+zip_push R [] [] x y zip here = (here, tt)
+zip_push R [] (w ∷ ys) x y zip here = absurd zip
+zip_push R (v ∷ xs) [] x y zip here = absurd zip
+zip_push R (v ∷ xs) (w ∷ ys) x y zip here = (zip.0, zip_push R xs ys x y zip.1 here)
+
+-- the pairs of links and indexes
+zip_from : (carriers : List Address) (links : List Link) (row : List ℕ) → AllZip (λ l j. IsAt carriers j l.to) links row → (j : ℕ) → Among j row →
+    (l : Link) × Among l links × IsAt carriers j l.to
+zip_from carriers [] [] zip j h = absurd h
+zip_from carriers [] (n ∷ row) zip j h = absurd zip
+zip_from carriers (l ∷ links) [] zip j h = absurd h
+zip_from carriers (l ∷ links) (n ∷ row) zip j h = elim h [
+  | inl is ↦ (l, inl refl, subst (λ (m : ℕ). IsAt carriers m l.to) (sym is) zip.0)
+  | inr later ↦ (let (m, there, at) = zip_from carriers links row zip.1 j later in (m, inr there, at))
+]
+
+zip_to : (carriers : List Address) (links : List Link) (row : List ℕ) → AllZip (λ l j. IsAt carriers j l.to) links row → (l : Link) → Among l links →
+    (j : ℕ) × Among j row × IsAt carriers j l.to
+zip_to carriers [] row zip l h = absurd h
+zip_to carriers (m ∷ links) [] zip l h = absurd zip
+zip_to carriers (m ∷ links) (n ∷ row) zip l h = elim h [
+  | inl is ↦ (n, inl refl, subst (λ (k : Link). IsAt carriers n k.to) (sym is) zip.0)
+  | inr later ↦ (let (j, there, at) = zip_to carriers links row zip.1 l later in (j, inr there, at))
+]
+
+pub row_members : (carriers : List Address) → IsStrictlySortedBy address_order carriers → (links : List Link) (row : List ℕ) →
+    AllZip (λ l j. IsAt carriers j l.to) links row → (j : ℕ) → Contains row j ↔ ((l : Link) × Contains links l × IsAt carriers j l.to)
+row_members carriers up links row zip j = (
+  λ h. (let (l, there, at) = zip_from carriers links row zip j (Among-from_Contains j row h) in (l, Contains-from_Among l links there, at)),
+  λ (l, there, at). (let (i, in', at') = zip_to carriers links row zip l (Among-from_Contains l links there) in
+      let same : i ≡ j = one_place address_total carriers up i j l.to at' at in
+      subst (Contains row) same (Contains-from_Among i row in')),
+)
+
+pub row_ascends : (row : List ℕ) → IsStrictlySortedBy nat_cmp row → IsAscending row
+row_ascends row up i j lt inside = below_from_sorted row i j 0 up lt inside
+
+-- the row of a system: the indexes of the systems that its links lead to
+pub is_row : (carriers : List Address) (links run : List Link) (system : Address) (row : List ℕ) →
+    ((l : Link) → Contains run l ↔ (Contains links l × (l.from ≡ system))) → IsAscending row →
+    ((j : ℕ) → Contains row j ↔ ((l : Link) × Contains run l × IsAt carriers j l.to)) → IsRow carriers links system row
+is_row carriers links run system row from ascending members =
+    let held : (j : ℕ) → IsTrue (list_any (λ n. n == j) row) → Contains row j = λ j h.
+    let (k, inside, is) = place_of row j h in (k, inside, get_or_default row k j 0 inside ∙ is) in
+    let passes : (j : ℕ) → Contains row j → IsTrue (list_any (λ n. n == j) row) = λ j (k, inside, is).
+    holds_at row j k inside (get_or_default row k 0 j inside ∙ is) in
+    record {
+      ascending = ascending;
+      within = λ j h. (let (l, there, at) = (members j).0 (held j h) in at.0);
+      listed = λ j inside. (
+        λ h. (let (l, there, at) = (members j).0 (held j h) in
+            let (in', own) = (from l).0 there in
+            let to : l.to ≡ system_at carriers j = sym (get_or_default carriers j no_address l.to inside ∙ at.1) in
+            let is : l ≡ link system (system_at carriers j) = (λ i. record { from = own i; to = to i }) in
+            subst (Contains links) is in'),
+        λ h. (let to = system_at carriers j in
+            passes j ((members j).1 (link system to, (from (link system to)).1 (h, refl), (inside, get_or_default carriers j to no_address inside)))),
+      );
+    }
+
+-- one more row
+pub one_row_more : (carriers : List Address) (links : List Link) (i : ℕ) (rows : List (List ℕ)) (row : List ℕ) → length rows ≡ i →
+    ((k : ℕ) → k < i → IsRow carriers links (system_at carriers k) (links_at rows k)) → IsRow carriers links (system_at carriers i) row →
+    (length (rows ++ row ∷ []) ≡ i + 1) × ((k : ℕ) → k < i + 1 → IsRow carriers links (system_at carriers k) (links_at (rows ++ row ∷ []) k))
+one_row_more carriers links i rows row size below here = (
+  omega (arith, length-append rows (row ∷ [])),
+  λ k lt. elim (cases_lt k i) [
+    | inl earlier ↦ subst (IsRow carriers links (system_at carriers k)) (sym (get_or_append_left rows (row ∷ []) [] k (omega arith))) (below k earlier)
+    | inr later ↦ (let same : i ≡ k = omega arith in
+        subst (λ (n : ℕ). IsRow carriers links (system_at carriers n) (links_at (rows ++ row ∷ []) n)) same
+        (subst (IsRow carriers links (system_at carriers i)) (sym (get_or_at rows row [] [] i size)) here))
+  ],
+)
+
+-- the links from a system, cut out of ascending links
+module _ (links : List Link) (up : IsStrictlySortedBy link_order links) (system : Address) where
+  at_links : (k : ℕ) (d : Link) → k < length links → IsAt links k (get_or links k d)
+  at_links k d inside = (inside, get_or_default links k (get_or links k d) d inside)
+
+  -- links of smaller systems come first
+  pub smaller_first : IsPartitionedBy (λ l. address_before l.from system) links
+  smaller_first i j d le inside h =
+      let l = get_or links i d in
+      let m = get_or links j d in
+      let up_to : address_before m.from l.from ≡ false = rising links up i j l m (at_links i d (omega arith)) (at_links j d inside) le in
+      elim (cases_Bool (address_before l.from system)) [
+        | inl before ↦ before
+        | inr after ↦ (let late = not_before_after l.from m.from system up_to h in cc)
+      ]
+
+  pub not_greater_first : (start : ℕ) → IsPartitionedBy (λ l. not (address_before system l.from)) (drop start links)
+  not_greater_first start i j d le inside h =
+      let size = length-drop start links in
+      let l = get_or links (start + i) d in
+      let m = get_or links (start + j) d in
+      let fits : start + j < length links = omega (arith, size, inside) in
+      let up_to : address_before m.from l.from ≡ false =
+      rising links up (start + i) (start + j) l m (at_links (start + i) d (omega arith)) (at_links (start + j) d fits) (omega arith) in
+      let after : address_before system m.from ≡ false =
+      not-true (address_before system m.from) (subst (λ (n : Link). not (address_before system n.from) ≡ true) (get_or-drop start links j d) h) in
+      let lower : address_before system l.from ≡ false = elim (cases_Bool (address_before system l.from)) [
+        | inr up ↦ up
+        | inl low ↦ (let early = not_before_later system l.from m.from up_to low in cc)
+      ] in
+      subst (λ (n : Link). not (address_before system n.from) ≡ true) (sym (get_or-drop start links i d))
+      (ap not lower)
+
+  pub cut : (start count : ℕ) → IsPartitionPoint (λ l. address_before l.from system ≡ true) (λ l. address_before l.from system ≡ false) links start →
+      IsPartitionPoint (λ l. not (address_before system l.from) ≡ true) (λ l. not (address_before system l.from) ≡ false) (drop start links) count →
+      start ≤ length links → count ≤ length (drop start links) →
+      (l : Link) → Contains (take count (drop start links)) l ↔ (Contains links l × (l.from ≡ system))
+  cut start count first second within most l = (
+    λ (k, inside, is).
+        (let lt : k < count = omega (arith, inside, length-take count (drop start links)) in
+        let fits : start + k < length links = omega (arith, lt, most, length-drop start links) in
+        let read : get_or links (start + k) l ≡ l = sym (get_or-drop start links k l) ∙ (sym (get_or-take count (drop start links) k l lt) ∙ is) in
+        let one : address_before l.from system ≡ false =
+        subst (λ (m : Link). address_before m.from system ≡ false) read (first.1 (start + k) l (omega arith) fits) in
+        let other : address_before system l.from ≡ false =
+        not-true (address_before system l.from)
+        (subst (λ (m : Link). not (address_before system m.from) ≡ true) (get_or-drop start links k l ∙ read) (second.0 k l (omega arith) lt)) in
+        ((start + k, fits, read), same_where_neither l.from system one other)),
+    λ ((m, inside, is), own).
+        (let low : start ≤ m = elim (cases_lt m start) [
+          | inl lt ↦ (let yes : address_before l.from system ≡ true = subst (λ (n : Link). address_before n.from system ≡ true) is (first.0 m l (omega arith) lt) in
+              let no = not_before_itself l.from system own in cc)
+          | inr le ↦ le
+        ] in
+        let k = m - start in
+        let place : start + k ≡ m = omega arith in
+        let in_rest : k < length (drop start links) = omega (arith, length-drop start links, inside, place) in
+        let read : get_or (drop start links) k l ≡ l = get_or-drop start links k l ∙ (ap (λ (n : ℕ). get_or links n l) place ∙ is) in
+        let lt : k < count = elim (cases_lt k count) [
+          | inl lt ↦ lt
+          | inr le ↦ (let no : not (address_before system l.from) ≡ false = subst (λ (n : Link). not (address_before system n.from) ≡ false) read (second.1 k l le in_rest) in
+              let yes : not (address_before system l.from) ≡ true = ap not (not_before_itself system l.from (sym own)) in cc)
+        ] in
+        (k, omega (arith, length-take count (drop start links), lt, in_rest), get_or-take count (drop start links) k l lt ∙ read)),
+  )

@@ -13,11 +13,9 @@ use Rattle.model_blocks.specs.BlockLoops.{AreBlockLoops, AreInOneBlock, FirstInB
 use Rattle.model_graph.specs.Loops.{NamedLoopBy}
 use Rattle.model_graph.specs.Pinches.{FirstPinchBy, IsPinchBy, NotAfter}
 use Rattle.model_graph.specs.Walk.{Simple}
-use Rattle.model_graph.proofs.Around.{Around-itself}
-use Rattle.model_graph.proofs.Members.{Among-from_Contains, Contains-from_Among}
+use Rattle.model_graph.proofs.Members.{Around-itself, Among-from_Contains, Contains-from_Among}
 use Rattle.model_blocks.proofs.RenamedBlocks.{FirstInBlock-renamed, LoopOfBlock-renamed}
-use Rattle.model_graph.proofs.RenamedLoops.{Among-of_names}
-use Rattle.model_graph.proofs.Renaming.{Among-map, IsRenaming-swap}
+use Rattle.model_graph.proofs.Renaming.{Among-of_names, Among-map, IsRenaming-swap}
 use Rattle.model_run.specs.Tidy.{Carries, lists}
 use Rattle.echo_net.specs.declared.link.Link.{Link}
 use Rattle.echo_net.specs.declared.verdict.NetFault.{NetFault}
@@ -26,10 +24,10 @@ use Rattle.echo_net.specs.Faults.{AreInOrder, AreSoundLinks, numbered}
 use Rattle.echo_net.specs.Firsts.{pair_before}
 use Rattle.echo_net.specs.Nets.{link}
 use Rattle.echo_net.specs.Rows.{system_at}
-use Rattle.echo_net.proofs.Graphs.{loop_within}
-use Rattle.echo_net.proofs.Numbers.{back, before_back, keeps, keeps_back, name, name_back, parts, renaming, simple, simple_numbers}
 use Rattle.echo_net.proofs.Orders.{not_before_itself, same_exact, same_itself}
 use Rattle.model_run.proofs.Places.{lister-carries as lister_carries}
+use Rattle.echo_net.proofs.Collected.{loop_within}
+use Rattle.echo_net.proofs.Owned.{back, before_back, keeps, keeps_back, name, name_back, parts, renaming, simple, simple_numbers}
 
 -- an item of a nonempty list
 item_of : {X : Type 0} (xs : List X) (i : ℕ) → i < length xs → X

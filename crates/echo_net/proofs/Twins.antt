@@ -18,10 +18,8 @@ use Rattle.model_graph.specs.Walk.{IsAt}
 use Rattle.echo_net.specs.Firsts.{HasTwin, IsSmallestPair}
 use Rattle.echo_net.specs.Nets.{link}
 use Rattle.echo_net.specs.Pairs.{AreAlike, IsTwin, neighbour_of}
-use Rattle.echo_net.proofs.Ascending.{at_place, earlier_from_less, earlier_less, later_not_before, not_gt, not_lt}
-use Rattle.echo_net.proofs.Neighbours.{key_between, next_alike}
-use Rattle.echo_net.proofs.Orders.{address_order, address_total, before_is, before_less, link_order, link_total, neighbour_order, neighbour_total, net_node_exact, net_node_order, net_node_total, pair_before_is}
-use Rattle.model_run.proofs.RulesLists.{Among-map_to, Among-map_from}
+use Rattle.echo_net.proofs.Orders.{address_order, address_total, before_is, before_less, link_order, link_total, neighbour_order, neighbour_total, net_node_exact, net_node_order, net_node_total, pair_before_is, at_place, earlier_from_less, earlier_less, later_not_before, not_gt, not_lt, key_between, next_alike}
+use Rattle.model_run.proofs.Lists.{Among-map_to, Among-map_from}
 
 -- the neighbouring items before an index that have one key
 abbrev pub AreAlikeBefore : {X K : Type 0} → (X → K) → (X → Address) → List X → ℕ → List Link → Type 0

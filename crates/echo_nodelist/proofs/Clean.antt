@@ -9,7 +9,7 @@ use Rattle.std.proofs.lemmas.List.Elements.{All-from_get_or}
 use Rattle.std.proofs.lemmas.List.Folds.{list_all-append}
 use Rattle.std.proofs.lemmas.List.Splits.{slice_split-cons_no, slice_split-cons_yes}
 use Rattle.std.proofs.lemmas.List.Sums.{fails_before_first, list_all-from_AllPass, prefix_len-le-length}
-use Rattle.std.proofs.lemmas.Bool.{and_from, and_parts, cases_Bool, cases_lt, cond-false, cond-true, le-ltb, lt-ltb}
+use Rattle.std.proofs.lemmas.Bool.{and_from, and_parts, cases_Bool, cond_both, ltb-false}
 use Rattle.echo_addr.specs.Digits.{is_number}
 use Rattle.echo_nodelist.specs.declared.keyword.Keyword.{Keyword}
 use Rattle.echo_nodelist.specs.declared.line.Line.{Line}
@@ -46,19 +46,14 @@ split_clean q p (b ∷ text) h =
 
 without_last_clean : (r : List ℕ → Bool) (pieces : List (List ℕ)) → list_all r pieces ≡ true → list_all r (without_empty_last pieces) ≡ true
 without_last_clean r [] h = refl
-without_last_clean r (piece ∷ []) h = elim (cases_Bool (length piece == 0)) [
-  | inl y ↦ ap (list_all r) (cond-true (length piece == 0) [] (piece ∷ []) y)
-  | inr n ↦ ap (list_all r) (cond-false (length piece == 0) [] (piece ∷ []) n) ∙ h
-]
+without_last_clean r (piece ∷ []) h = cond_both (length piece == 0) [] (piece ∷ []) (λ ls. list_all r ls ≡ true) (λ y. refl) (λ n. h)
 without_last_clean r (piece ∷ (next ∷ more)) h =
     let parts = and_parts (r piece) (list_all r (next ∷ more)) h in
     and_from (r piece) (list_all r (without_empty_last (next ∷ more))) parts.0 (without_last_clean r (next ∷ more) parts.1)
 
 strip_clean : (q : ℕ → Bool) (piece : List ℕ) → list_all q piece ≡ true → list_all q (strip_last 13 piece) ≡ true
-strip_clean q piece h = elim (cases_Bool (ends_with_byte 13 piece)) [
-  | inl y ↦ ap (list_all q) (cond-true (ends_with_byte 13 piece) (take (length piece - 1) piece) piece y) ∙ front_clean q (length piece - 1) piece h
-  | inr n ↦ ap (list_all q) (cond-false (ends_with_byte 13 piece) (take (length piece - 1) piece) piece n) ∙ h
-]
+strip_clean q piece h =
+    cond_both (ends_with_byte 13 piece) (take (length piece - 1) piece) piece (λ xs. list_all q xs ≡ true) (λ y. front_clean q (length piece - 1) piece h) (λ n. h)
 
 strips_clean : (q : ℕ → Bool) (pieces : List (List ℕ)) → list_all (list_all q) pieces ≡ true → list_all (list_all q) (map (strip_last 13) pieces) ≡ true
 strips_clean q [] h = refl
@@ -92,19 +87,10 @@ list_all-reverse r (x ∷ xs) h =
 -- ---- a parsed line keeps the rules
 
 fit_number : (k : Keyword) (digits : List ℕ) (n : ℕ) → number_of k digits ≡ Some n → is_fit k n ≡ true
-fit_number k digits n is = elim (cases_Bool (is_number digits && is_fit k (digits_value 10 digits))) [
-  | inl y ↦
-      let value : Some (digits_value 10 digits) ≡ Some n =
-      sym (cond-true (is_number digits && is_fit k (digits_value 10 digits)) (Some (digits_value 10 digits)) None y) ∙ is
-      in
-      let same : digits_value 10 digits ≡ n = cc in
-      subst (λ m. is_fit k m ≡ true) same (and_parts (is_number digits) (is_fit k (digits_value 10 digits)) y).1
-  | inr other ↦
-      let none : None ≡ Some n =
-      sym (cond-false (is_number digits && is_fit k (digits_value 10 digits)) (Some (digits_value 10 digits)) None other) ∙ is
-      in
-      absurd cc
-]
+fit_number k digits n is =
+    let value = digits_value 10 digits in
+    cond_both (is_number digits && is_fit k value) (Some value) None (λ o. o ≡ Some n → is_fit k n ≡ true)
+    (λ y some. let same : value ≡ n = cc in subst (λ m. is_fit k m ≡ true) same (and_parts (is_number digits) (is_fit k value) y).1) (λ other none. absurd cc) is
 
 module _ (at : ℕ) (earlier : List Line) (line : Line) (fields : List (List ℕ)) (enough : 5 ≤ length fields) (clean : list_all (list_all is_field_byte) fields ≡ true) where
   by_zone : (k : Keyword) (n : ℕ) (z : Option ℕ) → is_fit k n ≡ true → zone_back (Entry k n fields ∷ earlier) ≡ z → in_zone at z (Entry k n fields) ≡ Ok line → IsGoodLine earlier line
@@ -123,43 +109,27 @@ module _ (at : ℕ) (earlier : List Line) (line : Line) (fields : List (List ℕ
 
 entry_good : (at : ℕ) (earlier : List Line) (line : Line) (pieces : List (List ℕ)) → list_all (list_all is_field_byte) pieces ≡ true
     → placed at earlier (entry_in at pieces) ≡ Ok line → IsGoodLine earlier line
-entry_good at earlier line [] clean is = absurd cc
-entry_good at earlier line (word ∷ []) clean is = absurd cc
 entry_good at earlier line (word ∷ (digits ∷ fields)) clean is =
     let inner = list_all is_field_byte in
     let rest : list_all inner fields ≡ true =
     (and_parts (inner digits) (list_all inner fields) (and_parts (inner word) (list_all inner (digits ∷ fields)) clean).1).1 in
-    elim (cases_lt (length fields) 5) [
-      | inl few ↦
-          let fault : Err (TooFewFields at) ≡ Ok line =
-          sym (ap (placed at earlier) (cond-true (nat_lt (length fields) 5) (Err (TooFewFields at)) (with_keyword at (keyword_of word) digits fields) (lt-ltb (length fields) 5 few))) ∙ is
-          in
-          absurd cc
-      | inr enough ↦
-          by_keyword at earlier line fields enough rest (keyword_of word) digits
-          (sym (ap (placed at earlier) (cond-false (nat_lt (length fields) 5) (Err (TooFewFields at)) (with_keyword at (keyword_of word) digits fields) (le-ltb (length fields) 5 enough))) ∙ is)
-    ]
+    cond_both (nat_lt (length fields) 5) (Err (TooFewFields at)) (with_keyword at (keyword_of word) digits fields) (λ o. placed at earlier o ≡ Ok line → IsGoodLine earlier line)
+    (λ few fault. absurd cc) (λ enough said. by_keyword at earlier line fields (ltb-false (length fields) 5 enough) rest (keyword_of word) digits said) is
+entry_good at earlier line _ clean is = absurd cc
 
 line_good : (earlier : List Line) (raw : List ℕ) (line : Line) → line_outcome earlier raw ≡ Ok line → list_all is_inner raw ≡ true → IsGoodLine earlier line
 line_good earlier raw line is clean =
     let at = length earlier + 1 in
-    elim (cases_Bool (is_note raw)) [
-      | inl y ↦
-          let said : Ok (Note raw) ≡ Ok line = sym (ap (placed at earlier) (cond-true (is_note raw) (Ok (Note raw)) (entry_in at (slice_split is_comma raw)) y)) ∙ is in
-          let same : Note raw ≡ line = cc in
-          subst (IsGoodLine earlier) same (y, clean)
-      | inr n ↦
-          entry_good at earlier line (slice_split is_comma raw) (split_clean is_inner is_comma raw clean)
-          (sym (ap (placed at earlier) (cond-false (is_note raw) (Ok (Note raw)) (entry_in at (slice_split is_comma raw)) n)) ∙ is)
-    ]
+    cond_both (is_note raw) (Ok (Note raw)) (entry_in at (slice_split is_comma raw)) (λ o. placed at earlier o ≡ Ok line → IsGoodLine earlier line)
+    (λ y said. let same : Note raw ≡ line = cc in subst (IsGoodLine earlier) same (y, clean))
+    (λ n said. entry_good at earlier line (slice_split is_comma raw) (split_clean is_inner is_comma raw clean) said) is
 
 lines_good : (raws : List (List ℕ)) (lines : List Line) → AreRead raws lines → list_all (list_all is_inner) raws ≡ true → AreLines lines
 lines_good [] [] read clean = tt
-lines_good [] (line ∷ earlier) read clean = absurd read
-lines_good (raw ∷ raws) [] read clean = absurd read
 lines_good (raw ∷ raws) (line ∷ earlier) read clean =
     let parts = and_parts (list_all is_inner raw) (list_all (list_all is_inner) raws) clean in
     (line_good earlier raw line read.0 parts.0, lines_good raws earlier read.1 parts.1)
+lines_good _ _ read clean = absurd read
 
 -- the lines of bytes that are a nodelist keep the rules
 pub good_lines : (bytes : List ℕ) (lines : List Line) → NodelistOf bytes lines → IsNodelist lines

@@ -41,29 +41,10 @@ sum_of_same : (x : Bool) → sum_of x x ≡ false
 sum_of_same true = refl
 sum_of_same false = refl
 
-sum_of_undone : (x y : Bool) → sum_of (sum_of x y) x ≡ y
-sum_of_undone true true = refl
-sum_of_undone true false = refl
-sum_of_undone false true = refl
-sum_of_undone false false = refl
-
 sum_of_four : (x y z w : Bool) → sum_of (sum_of x y) (sum_of z w) ≡ sum_of (sum_of x z) (sum_of y w)
-sum_of_four true true true true = refl
-sum_of_four true true true false = refl
-sum_of_four true true false true = refl
-sum_of_four true true false false = refl
-sum_of_four true false true true = refl
-sum_of_four true false true false = refl
-sum_of_four true false false true = refl
-sum_of_four true false false false = refl
-sum_of_four false true true true = refl
-sum_of_four false true true false = refl
-sum_of_four false true false true = refl
-sum_of_four false true false false = refl
-sum_of_four false false true true = refl
-sum_of_four false false true false = refl
-sum_of_four false false false true = refl
-sum_of_four false false false false = refl
+sum_of_four x y z w =
+    sum_of_assoc x y (sum_of z w) ∙ ap (sum_of x) (sym (sum_of_assoc y z w) ∙ ap (λ t. sum_of t w) (sum_of_comm y z) ∙ sum_of_assoc z y w)
+    ∙ sym (sum_of_assoc x z (sum_of y w))
 
 -- ---- sums of lists of bits
 
@@ -92,42 +73,36 @@ added_again (p ∷ ps) (x ∷ xs) = ap (λ b. b ∷ added ps (added ps xs)) (sum
 
 added_comm : (xs ys : List Bool) → length xs ≡ length ys → added xs ys ≡ added ys xs
 added_comm [] [] h = refl
-added_comm [] (y ∷ ys) h = absurd (omega arith)
-added_comm (x ∷ xs) [] h = absurd (omega arith)
 added_comm (x ∷ xs) (y ∷ ys) h = ap (λ b. b ∷ added xs ys) (sum_of_comm x y) ∙ ap (λ l. sum_of y x ∷ l) (added_comm xs ys (omega arith))
+added_comm _ _ h = absurd (omega arith)
 
 pub added_undone : (xs ys : List Bool) → length xs ≡ length ys → added (added xs ys) xs ≡ ys
-added_undone [] [] h = refl
-added_undone [] (y ∷ ys) h = absurd (omega arith)
-added_undone (x ∷ xs) [] h = absurd (omega arith)
-added_undone (x ∷ xs) (y ∷ ys) h = ap (λ b. b ∷ added (added xs ys) xs) (sum_of_undone x y) ∙ ap (λ l. y ∷ l) (added_undone xs ys (omega arith))
+added_undone xs ys h = added_comm (added xs ys) xs (length-added xs ys ∙ sym h) ∙ added_again xs ys
+
+pub added_both : (xs us ys vs : List Bool) → length xs ≡ length ys → added (xs ++ us) (ys ++ vs) ≡ added xs ys ++ added us vs
+added_both [] us [] vs h = refl
+added_both (x ∷ xs) us (y ∷ ys) vs h = ap (λ l. sum_of x y ∷ l) (added_both xs us ys vs (omega arith))
+added_both _ us _ vs h = absurd (omega arith)
 
 added-push : (xs ys : List Bool) → length xs ≡ length ys → added xs ys ++ false ∷ [] ≡ added (xs ++ false ∷ []) (ys ++ false ∷ [])
-added-push [] [] h = refl
-added-push [] (y ∷ ys) h = absurd (omega arith)
-added-push (x ∷ xs) [] h = absurd (omega arith)
-added-push (x ∷ xs) (y ∷ ys) h = ap (λ l. sum_of x y ∷ l) (added-push xs ys (omega arith))
+added-push xs ys h = sym (added_both xs (false ∷ []) ys (false ∷ []) h)
 
 pub added_zeros : (n : ℕ) (xs : List Bool) → added (zeros n) xs ≡ xs
 added_zeros zero xs = refl
 added_zeros (suc n) [] = refl
 added_zeros (suc n) (x ∷ xs) = ap (λ l. x ∷ l) (added_zeros n xs)
 
-sum_of_false : (x : Bool) → sum_of x false ≡ x
-sum_of_false true = refl
-sum_of_false false = refl
+length-zeros : (n : ℕ) → length (zeros n) ≡ n
+length-zeros zero = refl
+length-zeros (suc n) = ap suc (length-zeros n)
 
 pub added_to_zeros : (n : ℕ) (xs : List Bool) → length xs ≡ n → added xs (zeros n) ≡ xs
-added_to_zeros zero [] h = refl
-added_to_zeros zero (x ∷ xs) h = absurd (omega arith)
-added_to_zeros (suc n) [] h = absurd (omega arith)
-added_to_zeros (suc n) (x ∷ xs) h = ap (λ b. b ∷ added xs (zeros n)) (sum_of_false x) ∙ ap (λ l. x ∷ l) (added_to_zeros n xs (omega arith))
+added_to_zeros n xs h = added_comm xs (zeros n) (h ∙ sym (length-zeros n)) ∙ added_zeros n xs
 
 -- ---- the register
 
 length-push : (xs : List Bool) → length (xs ++ false ∷ []) ≡ suc (length xs)
-length-push [] = refl
-length-push (x ∷ xs) = ap suc (length-push xs)
+length-push xs = omega (arith, length-append xs (false ∷ []))
 
 length-reduced : (b : Bool) (xs : List Bool) → length (reduced b xs) ≡ length xs
 length-reduced false xs = refl
@@ -167,41 +142,31 @@ divided_register message =
 
 -- ---- registers add up
 
+added_across : (u v : List Bool) → length u ≡ 16 → added poly (added u v) ≡ added u (added poly v)
+added_across u v hu =
+    let same : length poly ≡ length u = sym hu in
+    sym (added_assoc poly u v (omega arith)) ∙ ap (λ l. added l v) (added_comm poly u same) ∙ added_assoc u poly v (omega arith)
+
 reduced_sum : (s t : Bool) (u v : List Bool) → length u ≡ 16 → length v ≡ 16 → reduced (sum_of s t) (added u v) ≡ added (reduced s u) (reduced t v)
 reduced_sum false false u v hu hv = refl
 reduced_sum true false u v hu hv = sym (added_assoc poly u v (omega arith))
-reduced_sum false true u v hu hv = across u v hu hv
-  where
-    across : (u v : List Bool) → length u ≡ 16 → length v ≡ 16 → added poly (added u v) ≡ added u (added poly v)
-    across u v hu hv =
-        let same : length poly ≡ length u = sym hu in
-        sym (added_assoc poly u v (omega arith)) ∙ ap (λ l. added l v) (added_comm poly u same) ∙ added_assoc u poly v (omega arith)
-reduced_sum true true u v hu hv = twice
-  where
-    across : added poly (added u v) ≡ added u (added poly v)
-    across =
-        let same : length poly ≡ length u = sym hu in
-        sym (added_assoc poly u v (omega arith)) ∙ ap (λ l. added l v) (added_comm poly u same) ∙ added_assoc u poly v (omega arith)
-
-    twice : added u v ≡ added (added poly u) (added poly v)
-    twice = sym (added_assoc poly u (added poly v) (omega arith) ∙ ap (added poly) (sym across) ∙ added_again poly (added u v))
+reduced_sum false true u v hu hv = added_across u v hu
+reduced_sum true true u v hu hv = sym (added_assoc poly u (added poly v) (omega arith) ∙ ap (added poly) (sym (added_across u v hu)) ∙ added_again poly (added u v))
 
 shifted_sum : (r s : List Bool) (x y : Bool) → length r ≡ 16 → length s ≡ 16 → shifted (added r s) (sum_of x y) ≡ added (shifted r x) (shifted s y)
-shifted_sum [] s x y hr hs = absurd (omega arith)
-shifted_sum (p ∷ a) [] x y hr hs = absurd (omega arith)
 shifted_sum (p ∷ a) (q ∷ c) x y hr hs =
     ap (λ b. reduced b (added a c ++ false ∷ [])) (sum_of_four p q x y)
     ∙ ap (reduced (sum_of (sum_of p x) (sum_of q y))) (added-push a c (omega arith))
     ∙ reduced_sum (sum_of p x) (sum_of q y) (a ++ false ∷ []) (c ++ false ∷ []) (omega (arith, length-push a)) (omega (arith, length-push c))
+shifted_sum _ _ x y hr hs = absurd (omega arith)
 
 pub fold_sum : (r s xs ys : List Bool) → length r ≡ 16 → length s ≡ 16 → length xs ≡ length ys
     → fold shifted (added r s) (added xs ys) ≡ added (fold shifted r xs) (fold shifted s ys)
 fold_sum r s [] [] hr hs h = refl
-fold_sum r s [] (y ∷ ys) hr hs h = absurd (omega arith)
-fold_sum r s (x ∷ xs) [] hr hs h = absurd (omega arith)
 fold_sum r s (x ∷ xs) (y ∷ ys) hr hs h =
     ap (λ t. fold shifted t (added xs ys)) (shifted_sum r s x y hr hs)
     ∙ fold_sum (shifted r x) (shifted s y) xs ys (length-shifted r x ∙ hr) (length-shifted s y ∙ hs) (omega arith)
+fold_sum r s _ _ hr hs h = absurd (omega arith)
 
 -- bits that meet themselves go out without the divisor
 fold_same : (h z : List Bool) → fold shifted (h ++ z) h ≡ z ++ zeros (length h)
@@ -227,12 +192,6 @@ added_front : (xs ys zs : List Bool) → length xs ≤ length ys → added xs (y
 added_front [] ys zs h = refl
 added_front (x ∷ xs) [] zs h = absurd (omega arith)
 added_front (x ∷ xs) (y ∷ ys) zs h = ap (λ l. sum_of x y ∷ l) (added_front xs ys zs (omega arith))
-
-pub added_both : (xs us ys vs : List Bool) → length xs ≡ length ys → added (xs ++ us) (ys ++ vs) ≡ added xs ys ++ added us vs
-added_both [] us [] vs h = refl
-added_both [] us (y ∷ ys) vs h = absurd (omega arith)
-added_both (x ∷ xs) us [] vs h = absurd (omega arith)
-added_both (x ∷ xs) us (y ∷ ys) vs h = ap (λ l. sum_of x y ∷ l) (added_both xs us ys vs (omega arith))
 
 -- a register may be added to the first bits of a message of sixteen bits and more
 fold_added : (r message : List Bool) → length r ≡ 16 → 16 ≤ length message → fold shifted r message ≡ fold shifted (zeros 16) (added r message)

@@ -3,7 +3,7 @@ use Rattle.std.specs.Prelude.{MatchOption}
 use Rattle.std.proofs.Common.{◌≡◌, ◌≢◌, ℕ, ◌+◌, ◌<◌, ◌≤◌, nat_lt, ◌-◌, List, [], ◌∷◌, ◌++◌, length, get_or, take, reverse, cond, refl, sym, ap, ◌∙◌, subst, arith, Option, Some, None, Ok, Err, inl, inr}
 use Rattle.std.proofs.lemmas.List.{get_or-append_right, get_or_append_left, length-append, length-reverse, reverse-append, reverse-reverse, take-append-le, take_all}
 use Rattle.std.proofs.Math.ListN.{get_or-eq_default}
-use Rattle.std.proofs.lemmas.Bool.{cases_lt, cond-false, cond-true, le-ltb, lt-ltb}
+use Rattle.std.proofs.lemmas.Bool.{cases_lt, cond_both, ltb-false, ltb-true}
 use Rattle.echo_addr.specs.declared.address.Address.{Address}
 use Rattle.echo_nodelist.specs.declared.place.Place.{Place}
 use Rattle.echo_nodelist.specs.declared.place.Located.{Located}
@@ -76,20 +76,15 @@ each_back_at f (line ∷ earlier) i below = elim (cases_lt i (length earlier)) [
 
 pub kept_at : (f : List Line → Option Address) (lines : List Line) (kept : List (Option Address)) (i : ℕ) → kept ≡ each_back f (reverse lines)
     → get_or kept i None ≡ cond (nat_lt i (length lines)) (f (lines_back lines i)) None
-kept_at f lines kept i is = elim (cases_lt i (length lines)) [
-  | inl low ↦
-      ap (λ ks. get_or ks i None) is
-      ∙ each_back_at f (reverse lines) i (omega (arith, length-reverse lines))
-      ∙ ap (λ ls. f (reverse (take (i + 1) ls))) (reverse-reverse lines)
-      ∙ sym (cond-true (nat_lt i (length lines)) (f (lines_back lines i)) None (lt-ltb i (length lines) low))
-  | inr high ↦
-      ap (λ ks. get_or ks i None) is
-      ∙ past (each_back f (reverse lines)) i (omega (arith, length-each_back f (reverse lines), length-reverse lines))
-      ∙ sym (cond-false (nat_lt i (length lines)) (f (lines_back lines i)) None (le-ltb i (length lines) high))
-]
-  where
-    past : (xs : List (Option Address)) (j : ℕ) → length xs ≤ j → get_or xs j None ≡ None
-    past xs j h = get_or-eq_default xs None h
+kept_at f lines kept i is =
+    cond_both (nat_lt i (length lines)) (f (lines_back lines i)) None (λ found. get_or kept i None ≡ found)
+    (λ low.
+    ap (λ ks. get_or ks i None) is
+    ∙ each_back_at f (reverse lines) i (omega (arith, length-reverse lines, ltb-true i (length lines) low))
+    ∙ ap (λ ls. f (reverse (take (i + 1) ls))) (reverse-reverse lines))
+    (λ high.
+    ap (λ ks. get_or ks i None) is
+    ∙ get_or-eq_default (each_back f (reverse lines)) None (omega (arith, length-each_back f (reverse lines), length-reverse lines, ltb-false i (length lines) high)))
 
 -- the first address that was found is that of the first line with it
 pub finds_first : (lines : List Line) (addresses : List (Option Address)) (wanted : Address) (found : Option ℕ) → addresses ≡ each_back address_back (reverse lines)

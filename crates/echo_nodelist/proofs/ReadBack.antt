@@ -5,12 +5,12 @@ use Rattle.std.specs.List.{All, AllByRecursion, flat_map, join_with_byte, list_a
 use Rattle.std.specs.Str.Parse.{digits_value}
 use Rattle.std.specs.Io.BufRead.{ends_with_byte, strip_last}
 use Rattle.std.proofs.Math.Seq.{get_or-append_seam, take-append_seam}
-use Rattle.std.proofs.lemmas.List.{append_assoc, get_or_append_left, length-append, reverse-append}
+use Rattle.std.proofs.lemmas.List.{append_assoc, get_or_append_left, length-append, map-append, reverse-append}
 use Rattle.std.proofs.lemmas.List.Elements.{All-from_get_or, All-get_or}
 use Rattle.std.proofs.lemmas.List.Folds.{list_all-append}
 use Rattle.std.proofs.lemmas.List.Splits.{slice_split_at, slice_split_none}
 use Rattle.std.proofs.lemmas.List.Sums.{AllPass-from_list_all, position_or_len_is}
-use Rattle.std.proofs.lemmas.Bool.{and_from, and_parts, cond-false, cond-true, eq-eqb, le-ltb, leb-true, lt-ltb, ne_eqb}
+use Rattle.std.proofs.lemmas.Bool.{and_from, and_parts, cond-false, cond-true, eq-eqb, le-ltb, leb-true, lt-ltb, ne_eqb, not-true}
 use Rattle.echo_addr.specs.Digits.{is_number}
 use Rattle.echo_addr.proofs.Decimals.{IsDigit, digits_of_decimal, is_number-writes, writes_decimal}
 use Rattle.echo_nodelist.specs.declared.keyword.Keyword.{Keyword}
@@ -32,21 +32,20 @@ fails_of p q other xs h =
     let all = AllPass-from_list_all q xs h in
     All-from_get_or (λ b. p b ≡ false) xs 0 (λ i below. other (get_or xs i 0) (All-get_or (λ b. q b ≡ true) xs i 0 below all))
 
-not_true : (b : Bool) → not b ≡ true → b ≡ false
-not_true true h = sym h
-not_true false h = refl
-
 inner_feed : (b : ℕ) → is_inner b ≡ true → is_feed b ≡ false
-inner_feed b h = not_true (is_feed b) (and_parts (not (is_end b)) (not (is_feed b)) h).1
+inner_feed b h = not-true (is_feed b) (and_parts (not (is_end b)) (not (is_feed b)) h).1
 
 field_comma : (b : ℕ) → is_field_byte b ≡ true → is_comma b ≡ false
-field_comma b h = not_true (is_comma b) (and_parts (is_inner b) (not (is_comma b)) h).1
+field_comma b h = not-true (is_comma b) (and_parts (is_inner b) (not (is_comma b)) h).1
+
+weaker : (p q : ℕ → Bool) → ((b : ℕ) → p b ≡ true → q b ≡ true) → (xs : List ℕ) → list_all p xs ≡ true → list_all q xs ≡ true
+weaker p q so [] h = refl
+weaker p q so (b ∷ xs) h =
+    let parts = and_parts (p b) (list_all p xs) h in
+    and_from (q b) (list_all q xs) (so b parts.0) (weaker p q so xs parts.1)
 
 fields_inner : (xs : List ℕ) → list_all is_field_byte xs ≡ true → list_all is_inner xs ≡ true
-fields_inner [] h = refl
-fields_inner (b ∷ xs) h =
-    let parts = and_parts (is_field_byte b) (list_all is_field_byte xs) h in
-    and_from (is_inner b) (list_all is_inner xs) (and_parts (is_inner b) (not (is_comma b)) parts.0).0 (fields_inner xs parts.1)
+fields_inner = weaker is_field_byte is_inner (λ b h. (and_parts (is_inner b) (not (is_comma b)) h).0)
 
 -- digits are bytes of a field
 digit_field : (b : ℕ) → IsDigit b → is_field_byte b ≡ true
@@ -214,19 +213,13 @@ no_end (line ∷ lines) h =
     let parts = and_parts (q line) (list_all q lines) h in
     list_all-append (λ b. not (is_end b)) (line_and_end line) (flat_map line_and_end lines)
     ∙ and_from (list_all (λ b. not (is_end b)) (line_and_end line)) (list_all (λ b. not (is_end b)) (flat_map line_and_end lines))
-    (list_all-append (λ b. not (is_end b)) (line_text line) (13 ∷ (10 ∷ [])) ∙ and_from (list_all (λ b. not (is_end b)) (line_text line)) true (weaken (line_text line) parts.0) refl)
+    (list_all-append (λ b. not (is_end b)) (line_text line) (13 ∷ (10 ∷ [])) ∙ and_from (list_all (λ b. not (is_end b)) (line_text line)) true (weaker is_inner (λ b. not (is_end b)) (λ b inner. (and_parts (not (is_end b)) (not (is_feed b)) inner).0) (line_text line) parts.0) refl)
     (no_end lines parts.1)
-  where
-    weaken : (xs : List ℕ) → list_all is_inner xs ≡ true → list_all (λ b. not (is_end b)) xs ≡ true
-    weaken [] h = refl
-    weaken (b ∷ xs) h =
-        let parts = and_parts (is_inner b) (list_all is_inner xs) h in
-        and_from (not (is_end b)) (list_all (λ c. not (is_end c)) xs) (and_parts (not (is_end b)) (not (is_feed b)) parts.0).0 (weaken xs parts.1)
 
 text_again : (xs : List ℕ) → list_all (λ b. not (is_end b)) xs ≡ true → before_end (xs ++ 26 ∷ []) ≡ xs
 text_again xs h =
     let all = xs ++ 26 ∷ [] in
-    let fails = fails_of is_end (λ b. not (is_end b)) (λ b. not_true (is_end b)) xs h in
+    let fails = fails_of is_end (λ b. not (is_end b)) (λ b. not-true (is_end b)) xs h in
     let place : position_or_len is_end all ≡ length xs =
     position_or_len_is is_end all (length xs) 0 (omega (arith, length-append xs (26 ∷ [])))
     (λ k below. ap is_end (get_or_append_left xs (26 ∷ []) 0 k below) ∙ All-get_or (λ b. is_end b ≡ false) xs k 0 below fails)
@@ -239,12 +232,8 @@ reverse-map [] = refl
 reverse-map (line ∷ lines) =
     reverse-append (line_text line ∷ []) (map line_text lines)
     ∙ ap (λ ls. ls ++ line_text line ∷ []) (reverse-map lines)
-    ∙ sym (map-push (reverse lines) line)
+    ∙ sym (map-append line_text (reverse lines) (line ∷ []))
     ∙ ap (map line_text) (sym (reverse-append (line ∷ []) lines))
-  where
-    map-push : (ls : List Line) (l : Line) → map line_text (ls ++ l ∷ []) ≡ map line_text ls ++ line_text l ∷ []
-    map-push [] l = refl
-    map-push (x ∷ ls) l = ap (λ r. line_text x ∷ r) (map-push ls l)
 
 -- the text of a nodelist is that nodelist
 pub written_again : (lines : List Line) → IsNodelist lines → NodelistOf (nodelist_text lines) lines

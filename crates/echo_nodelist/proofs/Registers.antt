@@ -1,12 +1,12 @@
 -- The register as a number, and the table of its bytes.
-use Rattle.std.proofs.Common.{◌≡◌, ℕ, zero, suc, ◌+◌, ◌-◌, ◌*◌, ◌/◌, ◌%◌, ◌^◌, ◌<◌, ◌==◌, Bool, true, false, List, [], ◌∷◌, ◌++◌, length, get_or, cond, refl, sym, ap, ◌∙◌, subst, arith, add-zero, zero-add}
+use Rattle.std.proofs.Common.{◌≡◌, ℕ, zero, suc, ◌+◌, ◌-◌, ◌*◌, ◌/◌, ◌%◌, ◌^◌, ◌<◌, ◌==◌, ◌&&◌, Bool, true, false, List, [], ◌∷◌, ◌++◌, length, get_or, cond, refl, sym, ap, ◌∙◌, subst, arith, add-zero, zero-add}
 use Rattle.std.specs.List.{flat_map, fold}
 use Rattle.std.specs.Int.{bit_at}
 use Rattle.std.specs.Int.Bits.{bit_xor}
 use Rattle.std.proofs.Math.Nat.{pow-suc}
 use Rattle.std.proofs.lemmas.Nat.{mod-pow-add, shr_split, xor_of_16}
 use Rattle.std.proofs.lemmas.Nat.Bits.{bit_at-lt, bit_at_above, bit_at_cat_high, bit_at_cat_low, bit_at_xor}
-use Rattle.std.proofs.lemmas.Bool.{eqb-true, true≢false}
+use Rattle.std.proofs.lemmas.Bool.{and_parts, eqb-true}
 use Rattle.std.proofs.lemmas.List.{append-nil}
 use Rattle.std.proofs.lemmas.List.Sums.{fold-append}
 use Rattle.std.proofs.lemmas.List.Concat.{flat_map-append}
@@ -130,17 +130,16 @@ unfolding register
 register_single byte = ap (fold shifted (zeros 16)) (append-nil (bits_of 8 byte))
 
 -- the bits of a register, cut in two; those of the lower half moved up
+low_bits : (n : ℕ) → bits_of 8 (n % 2 ^ 8) ≡ bits_of 8 n
+low_bits n = same_bits 8 (n % 2 ^ 8) n (λ i below. sym (ap (λ m. bit_at m i) (sym (shr_split n 8)) ∙ bit_at_cat_low (n / 2 ^ 8) 8 (n % 2 ^ 8) i below))
+
 pub cut_bits : (n : ℕ) → bits_of 16 n ≡ bits_of 8 (n / 2 ^ 8) ++ bits_of 8 n
-cut_bits n =
-    let low : n % 2 ^ 8 < 2 ^ 8 = omega arith in
-    let rest : bits_of 8 (n % 2 ^ 8) ≡ bits_of 8 n = same_bits 8 (n % 2 ^ 8) n (λ i below. sym (ap (λ m. bit_at m i) (sym (shr_split n 8)) ∙ bit_at_cat_low (n / 2 ^ 8) 8 (n % 2 ^ 8) i below)) in
-    ap (bits_of 16) (sym (shr_split n 8)) ∙ bits_cat 8 8 (n / 2 ^ 8) (n % 2 ^ 8) low ∙ ap (λ l. bits_of 8 (n / 2 ^ 8) ++ l) rest
+cut_bits n = ap (bits_of 16) (sym (shr_split n 8)) ∙ bits_cat 8 8 (n / 2 ^ 8) (n % 2 ^ 8) (omega arith) ∙ ap (λ l. bits_of 8 (n / 2 ^ 8) ++ l) (low_bits n)
 
 moved_up : (n : ℕ) → bits_of 16 (n * 2 ^ 8 % 2 ^ 16) ≡ bits_of 8 n ++ zeros 8
 moved_up n =
     let low : n * 2 ^ 8 % 2 ^ 16 ≡ n % 2 ^ 8 * 2 ^ 8 + 0 = omega arith in
-    let rest : bits_of 8 (n % 2 ^ 8) ≡ bits_of 8 n = same_bits 8 (n % 2 ^ 8) n (λ i below. sym (ap (λ m. bit_at m i) (sym (shr_split n 8)) ∙ bit_at_cat_low (n / 2 ^ 8) 8 (n % 2 ^ 8) i below)) in
-    ap (bits_of 16) low ∙ bits_cat 8 8 (n % 2 ^ 8) 0 (omega arith) ∙ ap (λ l. l ++ bits_of 8 0) rest ∙ ap (λ l. bits_of 8 n ++ l) (bits_of-zero 8)
+    ap (bits_of 16) low ∙ bits_cat 8 8 (n % 2 ^ 8) 0 (omega arith) ∙ ap (λ l. l ++ bits_of 8 0) (low_bits n) ∙ ap (λ l. bits_of 8 n ++ l) (bits_of-zero 8)
 
 -- one more byte: its checksum with the upper half of the register is added to the lower half, moved up
 pub crc-push : (bytes : List ℕ) (byte : ℕ)
@@ -169,24 +168,20 @@ crc-push bytes byte =
 -- each entry from the i-th on is the checksum of its place
 all_match : ℕ → List ℕ → Bool
 all_match i [] = true
-all_match i (x ∷ xs) = cond (crc (i ∷ []) == x) (all_match (suc i) xs) false
+all_match i (x ∷ xs) = (crc (i ∷ []) == x) && all_match (suc i) xs
 
 table_matches : all_match 0 TABLE ≡ true
 unfolding all_match crc
 table_matches = refl
 
-cond_false_true : (b c : Bool) → cond b c false ≡ true → (b ≡ true) × (c ≡ true)
-cond_false_true true c h = (refl, h)
-cond_false_true false c h = absurd (true≢false (sym h))
-
 match_at : (i : ℕ) (xs : List ℕ) → all_match i xs ≡ true → (k : ℕ) → k < length xs → get_or xs k 0 ≡ crc ((i + k) ∷ [])
 unfolding all_match
 match_at i [] h k below = absurd (omega arith)
 match_at i (x ∷ xs) h zero below =
-    let both = cond_false_true (crc (i ∷ []) == x) (all_match (suc i) xs) h in
+    let both = and_parts (crc (i ∷ []) == x) (all_match (suc i) xs) h in
     sym (eqb-true (crc (i ∷ [])) x both.0) ∙ ap (λ n. crc (n ∷ [])) (sym (add-zero i))
 match_at i (x ∷ xs) h (suc k) below =
-    let both = cond_false_true (crc (i ∷ []) == x) (all_match (suc i) xs) h in
+    let both = and_parts (crc (i ∷ []) == x) (all_match (suc i) xs) h in
     let next : suc i + k ≡ i + suc k = omega arith in
     match_at (suc i) xs both.1 k (omega arith) ∙ ap (λ n. crc (n ∷ [])) next
 

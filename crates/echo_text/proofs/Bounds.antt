@@ -2,7 +2,7 @@
 use Rattle.std.proofs.Common.{◌≡◌, ℕ, suc, ◌+◌, ◌≤◌, ◌==◌, ◌&&◌, nat_eq, nat_lt, true, false, List, [], ◌∷◌, length, refl, sym, ap, arith, inl, inr}
 use Rattle.std.specs.Option.{is_none}
 use Rattle.std.specs.List.{filter, onto_first, prefix_len, slice_split, starts_with, sum_by}
-use Rattle.std.proofs.lemmas.Bool.{and_parts, cases_Bool, cond-false, cond-true}
+use Rattle.std.proofs.lemmas.Bool.{and_parts, cases_Bool, cond_both}
 use Rattle.std.proofs.lemmas.List.{length-drop}
 use Rattle.std.proofs.lemmas.List.Splits.{slice_split-cons_no, slice_split-cons_yes}
 use Rattle.std.proofs.lemmas.List.Sums.{count_by-le-length, sum_by-cons}
@@ -12,23 +12,17 @@ use Rattle.echo_text.specs.Lines.{after_feeds, after_word, begins, control_word,
 use Rattle.echo_text.specs.Tail.{all_dropped, lists_of, tail}
 use Rattle.echo_text.proofs.LineKinds.{control_is_not_seen}
 use Rattle.echo_text.proofs.EachLine.{listed_no, listed_yes}
-use Rattle.echo_text.proofs.Tails.{all_tail, tail_later, tail_whole}
+use Rattle.echo_text.proofs.Tails.{all_tail}
 
 -- how many pieces are not empty
 abbrev filled : List (List ℕ) → List (List ℕ)
 filled pieces = filter (λ t. nat_lt 0 (length t)) pieces
 
 filled_more : (piece : List ℕ) (more : List (List ℕ)) → length (filled (piece ∷ more)) ≤ 1 + length (filled more)
-filled_more piece more = elim (cases_Bool (nat_lt 0 (length piece))) [
-  | inl y ↦ omega (arith, ap length (cond-true (nat_lt 0 (length piece)) (piece ∷ filled more) (filled more) y))
-  | inr n ↦ omega (arith, ap length (cond-false (nat_lt 0 (length piece)) (piece ∷ filled more) (filled more) n))
-]
+filled_more piece more = cond_both (nat_lt 0 (length piece)) (piece ∷ filled more) (filled more) (λ l. length l ≤ 1 + length (filled more)) (λ y. omega arith) (λ n. omega arith)
 
 filled_least : (piece : List ℕ) (more : List (List ℕ)) → length (filled more) ≤ length (filled (piece ∷ more))
-filled_least piece more = elim (cases_Bool (nat_lt 0 (length piece))) [
-  | inl y ↦ omega (arith, ap length (cond-true (nat_lt 0 (length piece)) (piece ∷ filled more) (filled more) y))
-  | inr n ↦ omega (arith, ap length (cond-false (nat_lt 0 (length piece)) (piece ∷ filled more) (filled more) n))
-]
+filled_least piece more = cond_both (nat_lt 0 (length piece)) (piece ∷ filled more) (filled more) (λ l. length (filled more) ≤ length l) (λ y. omega arith) (λ n. omega arith)
 
 filled_onto : (b : ℕ) (pieces : List (List ℕ)) → length (filled (onto_first b pieces)) ≤ 1 + length (filled pieces)
 filled_onto b [] = filled_more (b ∷ []) []
@@ -106,10 +100,8 @@ dropped_by_lines (line ∷ more) = elim (cases_Bool (is_path line)) [
 
 tail_within : (ls : List (List ℕ)) → sum_by length (tail ls) ≤ sum_by length ls
 tail_within [] = omega arith
-tail_within (line ∷ more) = elim (cases_Bool (all_tail (line ∷ more))) [
-  | inl y ↦ omega (arith, ap (sum_by length) (tail_whole (line ∷ more) y))
-  | inr n ↦ omega (arith, ap (sum_by length) (tail_later line more n), tail_within more, sum_by-cons length line more)
-]
+tail_within (line ∷ more) =
+    cond_both (all_tail (line ∷ more)) (line ∷ more) (tail more) (λ ls. sum_by length ls ≤ sum_by length (line ∷ more)) (λ y. omega arith) (λ n. omega (arith, tail_within more, sum_by-cons length line more))
 
 onto_as_long : (b : ℕ) (pieces : List (List ℕ)) → sum_by length (onto_first b pieces) ≡ 1 + sum_by length pieces
 onto_as_long b [] = refl
@@ -126,10 +118,7 @@ pieces_within (b ∷ text) = elim (cases_Bool (is_return b)) [
 
 without_last_within : (pieces : List (List ℕ)) → sum_by length (without_empty_last pieces) ≤ sum_by length pieces
 without_last_within [] = omega arith
-without_last_within (piece ∷ []) = elim (cases_Bool (length piece == 0)) [
-  | inl y ↦ omega (arith, ap (sum_by length) (cond-true (length piece == 0) [] (piece ∷ []) y))
-  | inr n ↦ omega (arith, ap (sum_by length) (cond-false (length piece == 0) [] (piece ∷ []) n))
-]
+without_last_within (piece ∷ []) = cond_both (length piece == 0) [] (piece ∷ []) (λ ls. sum_by length ls ≤ sum_by length (piece ∷ [])) (λ y. omega arith) (λ n. omega arith)
 without_last_within (piece ∷ (next ∷ more)) =
     omega (arith, without_last_within (next ∷ more), sum_by-cons length piece (next ∷ more), sum_by-cons length piece (without_empty_last (next ∷ more)))
 

@@ -4,7 +4,7 @@ use Rattle.std.specs.Int.{is_in_range}
 use Rattle.std.specs.Char.{digit_value}
 use Rattle.std.specs.List.{list_all}
 use Rattle.std.specs.Str.Parse.{AllDigits}
-use Rattle.std.proofs.lemmas.Bool.{agree_below_at, and_from, and_parts, and_right, cases_Bool, cases_lt, cond-false, cond-true, eq-eqb, eqb-true, false≢true, le-ltb, lt-leb, lt-ltb, not-true}
+use Rattle.std.proofs.lemmas.Bool.{agree_below_at, and_from, and_parts, and_right, cases_Bool, cases_lt, cond-false, cond_both, eq-eqb, eqb-true, false≢true, le-ltb, lt-leb, lt-ltb, not-true}
 use Rattle.std.proofs.lemmas.List.{length-append, take_at}
 use Rattle.std.proofs.lemmas.List.Sums.{AllPass-from_list_all}
 use Rattle.echo_addr.specs.Entries.{is_blank}
@@ -38,15 +38,9 @@ hex_from_digits (d ∷ ds) h =
 -- a text with each double quote doubled, and then a double quote
 pub ends_doubled : (plain : List ℕ) → ends_quoted false (doubled plain ++ 34 ∷ []) ≡ true
 ends_doubled [] = refl
-ends_doubled (b ∷ plain) = elim (cases_Bool (is_quote b)) [
-  | inl quote ↦
-      ap (λ bytes. ends_quoted false (bytes ++ 34 ∷ [])) (cond-true (is_quote b) (34 ∷ (34 ∷ doubled plain)) (b ∷ doubled plain) quote)
-      ∙ ends_doubled plain
-  | inr other ↦
-      ap (λ bytes. ends_quoted false (bytes ++ 34 ∷ [])) (cond-false (is_quote b) (34 ∷ (34 ∷ doubled plain)) (b ∷ doubled plain) other)
-      ∙ ap (λ t. (t || true) && ends_quoted (t && true) (doubled plain ++ 34 ∷ [])) other
-      ∙ ends_doubled plain
-]
+ends_doubled (b ∷ plain) =
+    cond_both (is_quote b) (34 ∷ (34 ∷ doubled plain)) (b ∷ doubled plain) (λ bytes. ends_quoted false (bytes ++ 34 ∷ []) ≡ true) (λ quote. ends_doubled plain)
+    (λ other. ap (λ t. (t || true) && ends_quoted (t && true) (doubled plain ++ 34 ∷ [])) other ∙ ends_doubled plain)
 
 -- a text that doubled gives these bytes, without a double quote at their end
 record Undone (rest : List ℕ) : Type 0 where
@@ -83,16 +77,10 @@ undo (b ∷ (c ∷ rest)) h = elim (cases_Bool (is_quote b)) [
 -- a doubled text made single again
 pub undoubled_doubled : (plain : List ℕ) → undoubled false (doubled plain) ≡ plain
 undoubled_doubled [] = refl
-undoubled_doubled (b ∷ plain) = elim (cases_Bool (is_quote b)) [
-  | inl quote ↦
-      ap (undoubled false) (cond-true (is_quote b) (34 ∷ (34 ∷ doubled plain)) (b ∷ doubled plain) quote)
-      ∙ ap (λ bytes. 34 ∷ bytes) (undoubled_doubled plain)
-      ∙ ap (λ x. x ∷ plain) (sym (eqb-true b 34 quote))
-  | inr other ↦
-      ap (undoubled false) (cond-false (is_quote b) (34 ∷ (34 ∷ doubled plain)) (b ∷ doubled plain) other)
-      ∙ ap (λ t. b ∷ undoubled t (doubled plain)) other
-      ∙ ap (λ bytes. b ∷ bytes) (undoubled_doubled plain)
-]
+undoubled_doubled (b ∷ plain) =
+    let rest = undoubled_doubled plain in
+    cond_both (is_quote b) (34 ∷ (34 ∷ doubled plain)) (b ∷ doubled plain) (λ bytes. undoubled false bytes ≡ b ∷ plain) (λ quote. ap (λ bytes. 34 ∷ bytes) rest ∙ ap (λ x. x ∷ plain) (sym (eqb-true b 34 quote)))
+    (λ other. ap (λ t. b ∷ undoubled t (doubled plain)) other ∙ ap (λ bytes. b ∷ bytes) rest)
 
 -- quoted bytes are an origin between double quotes
 pub quoted_origin : (spelled origin : List ℕ) → is_quoted_origin spelled ≡ true → origin ≡ take (length spelled - 2) (drop 1 spelled)

@@ -1,9 +1,10 @@
 -- Lines that a reader keeps at any position.
-use Rattle.std.proofs.Common.{◌≡◌, ℕ, ◌==◌, ◌&&◌, ◌||◌, not, nat_eq, Bool, true, false, List, [], ◌∷◌, ◌++◌, codes, length, map, nat_lt, Some, None, refl, sym, ap, subst, ◌∙◌, inl, inr}
+use Rattle.std.proofs.Common.{◌≡◌, ℕ, ◌==◌, ◌&&◌, ◌||◌, not, nat_eq, Bool, cond, true, false, List, [], ◌∷◌, ◌++◌, codes, length, map, nat_lt, None, refl, sym, ap, subst, ◌∙◌, inl, inr}
 use Rattle.std.specs.List.{All, Contains, filter, find, last_or, list_all, starts_with}
 use Rattle.std.specs.Option.{option_or}
 use Rattle.std.proofs.lemmas.List.{append-nil, map-append}
-use Rattle.std.proofs.lemmas.Bool.{and_parts, cases_Bool, cond-false, cond-true, eqb-true, or_cases}
+use Rattle.std.proofs.lemmas.Bool.{and_parts, cases_Bool, cond-false, cond_both, eqb-true, or_cases}
+use Rattle.std.proofs.lemmas.List.Folds.{find-append}
 use Rattle.std.proofs.lemmas.List.Elements.{All-append, All-contains_itself, All-filter, All-weaker, Contains-append_left, Contains-append_right, filter-append}
 use Rattle.echo_addr.specs.Entries.{is_blank}
 use Rattle.echo_addr.specs.ShortLines.{path_prefix, seen_prefix}
@@ -11,7 +12,7 @@ use Rattle.echo_text.specs.Lines.{after_feeds, after_word, begins, control_word,
 use Rattle.echo_text.specs.Tail.{body, is_kept_control, is_tail_line, kept_of, tail}
 use Rattle.echo_text.specs.Echo.{first_after, msgid_of, origin_of, reply_of, tear_of}
 use Rattle.echo_text.proofs.LineKinds.{blanks_after_feeds, control_in_tail}
-use Rattle.echo_text.proofs.Tails.{all_tail, body_and_tail, tail_is_tail}
+use Rattle.echo_text.proofs.Tails.{body_and_tail, tail_is_tail}
 
 -- bytes that begin with a word, taken apart behind its first byte
 record Opened (w : ℕ) (word bytes : List ℕ) : Type 0 where
@@ -66,73 +67,35 @@ origin_outside line h =
     ap (λ x. (starts_with nat_eq x seen_prefix || starts_with nat_eq x control_word) || is_blank_line line) is
     ∙ no_blank_line line (32 ∷ (42 ∷ two.rest)) is refl
 
+-- a kind of lines, of which a filter loses none among lines of a kind
+only_kept : (p q r : List ℕ → Bool) → ((line : List ℕ) → p line ≡ true → r line ≡ true → q line ≡ true) → (ls : List (List ℕ)) → list_all r ls ≡ true → filter p (filter q ls) ≡ filter p ls
+only_kept p q r stays [] all = refl
+only_kept p q r stays (line ∷ more) all =
+    let parts = and_parts (r line) (list_all r more) all in
+    let rest = only_kept p q r stays more parts.1 in
+    cond_both (q line) (line ∷ filter q more) (filter q more) (λ ls. filter p ls ≡ filter p (line ∷ more)) (λ k. ap (λ ls. cond (p line) (line ∷ ls) ls) rest)
+    (λ d. cond_both (p line) (line ∷ filter p more) (filter p more) (λ ls. filter p (filter q more) ≡ ls) (λ y. let is = stays line y parts.0 in absurd cc) (λ n. rest))
+
+all_pass : (ls : List (List ℕ)) → list_all (λ _. true) ls ≡ true
+all_pass [] = refl
+all_pass (line ∷ more) = all_pass more
+
 -- a kind of lines that a tail never loses
 module _ (p : List ℕ → Bool) (stays : (line : List ℕ) → p line ≡ true → is_tail_line line ≡ true → is_kept_control line ≡ true) where
-  of_tail : (lines : List (List ℕ)) → all_tail lines ≡ true → filter p (filter is_kept_control lines) ≡ filter p lines
-  of_tail [] all = refl
-  of_tail (line ∷ more) all =
-      let parts = and_parts (is_tail_line line) (all_tail more) all in
-      let rest = of_tail more parts.1 in
-      elim (cases_Bool (p line)) [
-        | inl y ↦
-            ap (filter p) (cond-true (is_kept_control line) (line ∷ filter is_kept_control more) (filter is_kept_control more) (stays line y parts.0))
-            ∙ cond-true (p line) (line ∷ filter p (filter is_kept_control more)) (filter p (filter is_kept_control more)) y
-            ∙ ap (λ ls. line ∷ ls) rest
-            ∙ sym (cond-true (p line) (line ∷ filter p more) (filter p more) y)
-        | inr n ↦ elim (cases_Bool (is_kept_control line)) [
-          | inl k ↦
-              ap (filter p) (cond-true (is_kept_control line) (line ∷ filter is_kept_control more) (filter is_kept_control more) k)
-              ∙ cond-false (p line) (line ∷ filter p (filter is_kept_control more)) (filter p (filter is_kept_control more)) n
-              ∙ rest
-              ∙ sym (cond-false (p line) (line ∷ filter p more) (filter p more) n)
-          | inr d ↦
-              ap (filter p) (cond-false (is_kept_control line) (line ∷ filter is_kept_control more) (filter is_kept_control more) d)
-              ∙ rest
-              ∙ sym (cond-false (p line) (line ∷ filter p more) (filter p more) n)
-        ]
-      ]
-
   stays_kept : (later : List (List ℕ)) → filter p (kept_of later) ≡ filter p later
   unfolding kept_of
   stays_kept later =
       filter-append p (body later) (filter is_kept_control (tail later))
-      ∙ ap (λ ls. filter p (body later) ++ ls) (of_tail (tail later) (tail_is_tail later))
+      ∙ ap (λ ls. filter p (body later) ++ ls) (only_kept p is_kept_control is_tail_line stays (tail later) (tail_is_tail later))
       ∙ sym (filter-append p (body later) (tail later))
       ∙ ap (filter p) (body_and_tail later)
 
--- a kind of lines, among the lines of a tail that are kept
-only_kept : (p q : List ℕ → Bool) → ((line : List ℕ) → p line ≡ true → q line ≡ true) → (ls : List (List ℕ)) → filter p (filter q ls) ≡ filter p ls
-only_kept p q stays [] = refl
-only_kept p q stays (line ∷ more) =
-    let rest = only_kept p q stays more in
-    elim (cases_Bool (p line)) [
-      | inl y ↦
-          ap (filter p) (cond-true (q line) (line ∷ filter q more) (filter q more) (stays line y))
-          ∙ cond-true (p line) (line ∷ filter p (filter q more)) (filter p (filter q more)) y
-          ∙ ap (λ ls. line ∷ ls) rest
-          ∙ sym (cond-true (p line) (line ∷ filter p more) (filter p more) y)
-      | inr n ↦ elim (cases_Bool (q line)) [
-        | inl k ↦
-            ap (filter p) (cond-true (q line) (line ∷ filter q more) (filter q more) k)
-            ∙ cond-false (p line) (line ∷ filter p (filter q more)) (filter p (filter q more)) n
-            ∙ rest
-            ∙ sym (cond-false (p line) (line ∷ filter p more) (filter p more) n)
-        | inr d ↦
-            ap (filter p) (cond-false (q line) (line ∷ filter q more) (filter q more) d)
-            ∙ rest
-            ∙ sym (cond-false (p line) (line ∷ filter p more) (filter p more) n)
-      ]
-    ]
-
 none_kept : (p q : List ℕ → Bool) → ((line : List ℕ) → q line ≡ true → p line ≡ false) → (ls : List (List ℕ)) → filter p (filter q ls) ≡ []
 none_kept p q outside [] = refl
-none_kept p q outside (line ∷ more) = elim (cases_Bool (q line)) [
-  | inl k ↦
-      ap (filter p) (cond-true (q line) (line ∷ filter q more) (filter q more) k)
-      ∙ cond-false (p line) (line ∷ filter p (filter q more)) (filter p (filter q more)) (outside line k)
-      ∙ none_kept p q outside more
-  | inr d ↦ ap (filter p) (cond-false (q line) (line ∷ filter q more) (filter q more) d) ∙ none_kept p q outside more
-]
+none_kept p q outside (line ∷ more) =
+    let rest = none_kept p q outside more in
+    cond_both (q line) (line ∷ filter q more) (filter q more) (λ ls. filter p ls ≡ [])
+    (λ k. cond-false (p line) (line ∷ filter p (filter q more)) (filter p (filter q more)) (outside line k) ∙ rest) (λ d. rest)
 
 outside_kept : (p : List ℕ → Bool) → ((line : List ℕ) → p line ≡ true → is_tail_line line ≡ false) → (line : List ℕ) → is_kept_control line ≡ true → p line ≡ false
 outside_kept p outside line kept = elim (cases_Bool (p line)) [
@@ -146,16 +109,9 @@ first_of_parts : (word : List ℕ) → ((line : List ℕ) → begins word line �
 first_of_parts word stays front ls =
     let id : List ℕ → List ℕ = λ line. trimmed (after_word word line) in
     let some : List ℕ → Bool = λ found. nat_lt 0 (length found) in
-    ap (λ found. find some (map id found)) (filter-append (begins word) front (filter is_kept_control ls) ∙ ap (λ found. filter (begins word) front ++ found) (only_kept (begins word) is_kept_control stays ls))
+    ap (λ found. find some (map id found)) (filter-append (begins word) front (filter is_kept_control ls) ∙ ap (λ found. filter (begins word) front ++ found) (only_kept (begins word) is_kept_control (λ _. true) (λ line h any. stays line h) ls (all_pass ls)))
     ∙ ap (find some) (map-append id (filter (begins word) front) (filter (begins word) ls))
-    ∙ find_parts some (map id (filter (begins word) front)) (map id (filter (begins word) ls))
-  where
-    find_parts : (p : List ℕ → Bool) (xs ys : List (List ℕ)) → find p (xs ++ ys) ≡ option_or (find p xs) (find p ys)
-    find_parts p [] ys = refl
-    find_parts p (x ∷ xs) ys = elim (cases_Bool (p x)) [
-      | inl y ↦ cond-true (p x) (Some x) (find p (xs ++ ys)) y ∙ sym (ap (λ o. option_or o (find p ys)) (cond-true (p x) (Some x) (find p xs) y))
-      | inr n ↦ cond-false (p x) (Some x) (find p (xs ++ ys)) n ∙ find_parts p xs ys ∙ sym (ap (λ o. option_or o (find p ys)) (cond-false (p x) (Some x) (find p xs) n))
-    ]
+    ∙ find-append some (map id (filter (begins word) front)) (map id (filter (begins word) ls))
 
 pub msgid_of_parts : (front ls : List (List ℕ)) → msgid_of (front ++ filter is_kept_control ls) ≡ option_or (msgid_of front) (msgid_of ls)
 unfolding msgid_of

@@ -1,7 +1,7 @@
 -- The first bytes of each kind of line, and that the kinds differ.
 use Rattle.std.proofs.Common.{◌≡◌, ℕ, suc, ◌+◌, ◌==◌, ◌&&◌, ◌||◌, not, nat_eq, Bool, true, false, List, [], ◌∷◌, ◌++◌, drop, refl, ap, subst, ◌∙◌, arith, inl, inr}
 use Rattle.std.specs.List.{list_all, prefix_len, starts_with}
-use Rattle.std.proofs.lemmas.Bool.{and_parts, cases_Bool, cond-true, cond-false, eqb-true, not-true, or_left, or_right}
+use Rattle.std.proofs.lemmas.Bool.{and_parts, cases_Bool, cond_both, eqb-true, not-true, or_left, or_right}
 use Rattle.echo_addr.specs.Entries.{is_blank}
 use Rattle.echo_addr.specs.ShortLines.{path_prefix, seen_prefix}
 use Rattle.echo_text.specs.Lines.{after_feeds, after_word, area_word, begins, control_word, is_area, is_blank_line, is_control, is_feed, is_path, is_seen}
@@ -80,13 +80,10 @@ one_more n = omega arith
 -- the line feeds at the front of a line of blanks leave blanks
 pub blanks_after_feeds : (line : List ℕ) → list_all is_blank line ≡ true → list_all is_blank (after_feeds line) ≡ true
 blanks_after_feeds [] blank = refl
-blanks_after_feeds (b ∷ line) blank = elim (cases_Bool (is_feed b)) [
-  | inl y ↦
-      ap (λ n. list_all is_blank (drop n (b ∷ line))) (cond-true (is_feed b) (1 + prefix_len is_feed line) 0 y)
-      ∙ ap (λ n. list_all is_blank (drop n (b ∷ line))) (one_more (prefix_len is_feed line))
-      ∙ blanks_after_feeds line (and_parts (is_blank b) (list_all is_blank line) blank).1
-  | inr n ↦ ap (λ n. list_all is_blank (drop n (b ∷ line))) (cond-false (is_feed b) (1 + prefix_len is_feed line) 0 n) ∙ blank
-]
+blanks_after_feeds (b ∷ line) blank =
+    cond_both (is_feed b) (1 + prefix_len is_feed line) 0 (λ n. list_all is_blank (drop n (b ∷ line)) ≡ true)
+    (λ y. ap (λ n. list_all is_blank (drop n (b ∷ line))) (one_more (prefix_len is_feed line)) ∙ blanks_after_feeds line (and_parts (is_blank b) (list_all is_blank line) blank).1)
+    (λ n. blank)
 
 -- blanks do not begin with 01
 one_is_not_blank : (bytes : List ℕ) → starts_with nat_eq bytes control_word ≡ true → list_all is_blank bytes ≡ false
@@ -108,11 +105,9 @@ kept_unless_shed line tail_line left =
     by (is_seen line) (is_control line) (is_path line) (is_blank_line line) tail_line left
   where
     by : (seen control path blank : Bool) → (seen || control || blank) ≡ true → not (seen || path || blank) ≡ true → (control && not path) ≡ true
-    by true control path blank t l = absurd cc
-    by false control true blank t l = absurd cc
-    by false control false true t l = absurd cc
     by false true false false t l = refl
     by false false false false t l = absurd cc
+    by _ _ _ _ t l = absurd cc
 
 -- a kept line of the tail is not shed
 pub not_shed_if_kept : (line : List ℕ) → is_kept_control line ≡ true → not (is_shed line) ≡ true
@@ -122,10 +117,7 @@ not_shed_if_kept line kept =
   where
     by : (control seen path blank : Bool) → (control && not path) ≡ true → seen ≡ false → blank ≡ false → not (seen || path || blank) ≡ true
     by true false false false k s b = refl
-    by true false true false k s b = absurd cc
-    by false seen path blank k s b = absurd cc
-    by true true path blank k s b = absurd cc
-    by true false path true k s b = absurd cc
+    by _ _ _ _ k s b = absurd cc
 
 -- a kept line of the tail is no SEEN-BY line and no PATH line
 pub kept_no_seen : (line : List ℕ) → is_kept_control line ≡ true → is_seen line ≡ false

@@ -1,7 +1,7 @@
 -- The parsed parts of a text keep the rules of an echo.
-use Rattle.std.proofs.Common.{◌≡◌, ◌≢◌, ℕ, ◌==◌, not, true, List, [], ◌∷◌, ◌++◌, length, sym, ap, subst, ◌∙◌, inl, inr}
+use Rattle.std.proofs.Common.{false, cond, ◌≡◌, ◌≢◌, ℕ, ◌==◌, not, true, List, [], ◌∷◌, ◌++◌, length, sym, ap, subst, ◌∙◌, inl, inr}
 use Rattle.std.specs.List.{All, AllByRecursion, AllPass, Contains, filter, onto_first, slice_split}
-use Rattle.std.proofs.lemmas.Bool.{cases_Bool, cond-false, cond-true, eq-eqb}
+use Rattle.std.proofs.lemmas.Bool.{cases_Bool, cond_both, eq-eqb}
 use Rattle.std.proofs.lemmas.List.Elements.{All-append, All-contains, All-contains_itself, All-filter, All-from_recursion, All-same, All-weaker, filter_passes, recursion_from_All}
 use Rattle.std.proofs.lemmas.List.Splits.{slice_split-cons_no, slice_split-cons_yes}
 use Rattle.std.proofs.lemmas.List.Sums.{list_all-from_AllPass}
@@ -37,10 +37,7 @@ pieces_are_lines (b ∷ text) h = elim (cases_Bool (is_return b)) [
 
 without_last_are : (pieces : List (List ℕ)) → AreLines pieces → AreLines (without_empty_last pieces)
 without_last_are [] h = tt
-without_last_are (piece ∷ []) h = elim (cases_Bool (length piece == 0)) [
-  | inl y ↦ subst AreLines (sym (cond-true (length piece == 0) [] (piece ∷ []) y)) tt
-  | inr n ↦ subst AreLines (sym (cond-false (length piece == 0) [] (piece ∷ []) n)) h
-]
+without_last_are (piece ∷ []) h = cond_both (length piece == 0) [] (piece ∷ []) AreLines (λ y. tt) (λ n. h)
 without_last_are (piece ∷ (next ∷ more)) h = (h.0, without_last_are (next ∷ more) h.1)
 
 later_are : (ls : List (List ℕ)) → AreLines ls → AreLines (later_lines ls)
@@ -60,17 +57,12 @@ later_lines_are text h =
 -- parts of lines
 all_in_body : (P : List ℕ → Type 0) (ls : List (List ℕ)) → AllByRecursion P ls → AllByRecursion P (body ls) × AllByRecursion P (tail ls)
 all_in_body P [] h = (tt, tt)
-all_in_body P (line ∷ more) h = elim (cases_Bool (all_tail (line ∷ more))) [
-  | inl y ↦ (
-    subst (AllByRecursion P) (sym (cond-true (all_tail (line ∷ more)) [] (line ∷ body more) y)) tt,
-    subst (AllByRecursion P) (sym (cond-true (all_tail (line ∷ more)) (line ∷ more) (tail more) y)) h,
-  )
-  | inr n ↦
-      let rest = all_in_body P more h.1 in (
-        subst (AllByRecursion P) (sym (cond-false (all_tail (line ∷ more)) [] (line ∷ body more) n)) (h.0, rest.0),
-        subst (AllByRecursion P) (sym (cond-false (all_tail (line ∷ more)) (line ∷ more) (tail more) n)) rest.1,
-      )
-]
+all_in_body P (line ∷ more) h =
+    let rest = all_in_body P more h.1 in
+    elim (all_tail (line ∷ more)) as (λ b. AllByRecursion P (cond b [] (line ∷ body more)) × AllByRecursion P (cond b (line ∷ more) (tail more))) [
+      | true ↦ (tt, h)
+      | false ↦ ((h.0, rest.0), rest.1)
+    ]
 
 pub kept_are_lines : (later : List (List ℕ)) → All IsLine later → All IsLine (kept_of later)
 unfolding kept_of

@@ -1,7 +1,7 @@
 -- The longest ending of lines that is made of control lines.
-use Rattle.std.proofs.Common.{◌≡◌, ℕ, ◌&&◌, Bool, true, false, List, [], ◌∷◌, ◌++◌, refl, sym, ap, ◌∙◌, inl, inr}
+use Rattle.std.proofs.Common.{◌≡◌, ℕ, ◌&&◌, Bool, cond, true, false, List, [], ◌∷◌, ◌++◌, refl, sym, ap, ◌∙◌, inl, inr}
 use Rattle.std.specs.List.{list_all}
-use Rattle.std.proofs.lemmas.Bool.{and_cases, and_left, and_right, cases_Bool, cond-true, cond-false}
+use Rattle.std.proofs.lemmas.Bool.{and_cases, and_left, and_right, cond-false, cond-true, cond_both}
 use Rattle.echo_text.specs.Tail.{body, is_tail_line, tail}
 
 -- the lines of which the tail is made
@@ -30,42 +30,29 @@ all_tail-append (line ∷ more) ending all = ap (λ b. is_tail_line line && b) (
 -- tail lines at the end belong to the tail
 pub tail-append : (lines ending : List (List ℕ)) → all_tail ending ≡ true → tail (lines ++ ending) ≡ tail lines ++ ending
 tail-append [] ending all = tail_whole ending all
-tail-append (line ∷ more) ending all = elim (cases_Bool (all_tail (line ∷ more))) [
-  | inl y ↦
-      tail_whole (line ∷ (more ++ ending)) (all_tail-append (line ∷ more) ending all ∙ y)
-      ∙ ap (λ ls. ls ++ ending) (sym (tail_whole (line ∷ more) y))
-  | inr n ↦
-      tail_later line (more ++ ending) (all_tail-append (line ∷ more) ending all ∙ n)
-      ∙ tail-append more ending all ∙ ap (λ ls. ls ++ ending) (sym (tail_later line more n))
-]
+tail-append (line ∷ more) ending all =
+    cond_both (all_tail (line ∷ more)) (line ∷ more) (tail more) (λ ls. tail (line ∷ (more ++ ending)) ≡ ls ++ ending)
+    (λ y. tail_whole (line ∷ (more ++ ending)) (all_tail-append (line ∷ more) ending all ∙ y))
+    (λ n. tail_later line (more ++ ending) (all_tail-append (line ∷ more) ending all ∙ n) ∙ tail-append more ending all)
 
 pub body-append : (lines ending : List (List ℕ)) → all_tail ending ≡ true → body (lines ++ ending) ≡ body lines
 body-append [] ending all = body_none ending all
-body-append (line ∷ more) ending all = elim (cases_Bool (all_tail (line ∷ more))) [
-  | inl y ↦
-      body_none (line ∷ (more ++ ending)) (all_tail-append (line ∷ more) ending all ∙ y) ∙ sym (body_none (line ∷ more) y)
-  | inr n ↦
-      body_more line (more ++ ending) (all_tail-append (line ∷ more) ending all ∙ n)
-      ∙ ap (λ ls. line ∷ ls) (body-append more ending all) ∙ sym (body_more line more n)
-]
+body-append (line ∷ more) ending all =
+    cond_both (all_tail (line ∷ more)) [] (line ∷ body more) (λ ls. body (line ∷ (more ++ ending)) ≡ ls)
+    (λ y. body_none (line ∷ (more ++ ending)) (all_tail-append (line ∷ more) ending all ∙ y))
+    (λ n. body_more line (more ++ ending) (all_tail-append (line ∷ more) ending all ∙ n) ∙ ap (λ ls. line ∷ ls) (body-append more ending all))
 
 -- body and tail are the lines
 pub body_and_tail : (lines : List (List ℕ)) → body lines ++ tail lines ≡ lines
 body_and_tail [] = refl
-body_and_tail (line ∷ more) = elim (cases_Bool (all_tail (line ∷ more))) [
-  | inl y ↦
-      ap (λ ls. ls ++ tail (line ∷ more)) (body_none (line ∷ more) y) ∙ tail_whole (line ∷ more) y
-  | inr n ↦
-      ap (λ ls. ls ++ tail (line ∷ more)) (body_more line more n)
-      ∙ ap (λ ls. line ∷ (body more ++ ls)) (tail_later line more n) ∙ ap (λ ls. line ∷ ls) (body_and_tail more)
+body_and_tail (line ∷ more) = elim (all_tail (line ∷ more)) as (λ b. cond b [] (line ∷ body more) ++ cond b (line ∷ more) (tail more) ≡ line ∷ more) [
+  | true ↦ refl
+  | false ↦ ap (λ ls. line ∷ ls) (body_and_tail more)
 ]
 
 pub tail_is_tail : (lines : List (List ℕ)) → all_tail (tail lines) ≡ true
 tail_is_tail [] = refl
-tail_is_tail (line ∷ more) = elim (cases_Bool (all_tail (line ∷ more))) [
-  | inl y ↦ ap all_tail (tail_whole (line ∷ more) y) ∙ y
-  | inr n ↦ ap all_tail (tail_later line more n) ∙ tail_is_tail more
-]
+tail_is_tail (line ∷ more) = cond_both (all_tail (line ∷ more)) (line ∷ more) (tail more) (λ ls. all_tail ls ≡ true) (λ y. y) (λ n. tail_is_tail more)
 
 -- a body that is not whole still ends with a line that is no tail line
 body_not_tail : (lines : List (List ℕ)) → all_tail lines ≡ false → all_tail (body lines) ≡ false
@@ -79,12 +66,9 @@ body_not_tail (line ∷ more) not_all =
 -- the body contains no tail
 pub tail_of_body : (lines : List (List ℕ)) → tail (body lines) ≡ []
 tail_of_body [] = refl
-tail_of_body (line ∷ more) = elim (cases_Bool (all_tail (line ∷ more))) [
-  | inl y ↦ ap tail (body_none (line ∷ more) y)
-  | inr n ↦
-      let is = body_more line more n in
-      ap tail is ∙ tail_later line (body more) (ap all_tail (sym is) ∙ body_not_tail (line ∷ more) n) ∙ tail_of_body more
-]
+tail_of_body (line ∷ more) =
+    cond_both (all_tail (line ∷ more)) [] (line ∷ body more) (λ ls. tail ls ≡ []) (λ y. refl)
+    (λ n. tail_later line (body more) (ap all_tail (sym (body_more line more n)) ∙ body_not_tail (line ∷ more) n) ∙ tail_of_body more)
 
 -- a line that is no tail line ends the search for the tail
 not_all_before : (front : List (List ℕ)) (line : List ℕ) → is_tail_line line ≡ false → all_tail (front ++ line ∷ []) ≡ false

@@ -10,7 +10,7 @@ use Rattle.model_run.specs.Run.{Run}
 use Rattle.law_stations.specs.Agreement.{Agrees}
 use Rattle.law_stations.proofs.EachEvent.{first-agrees}
 use Rattle.model_run.specs.Lone.{AreOfPackets, LoneEvent, LoneSystem, TossHere, after_all_lone, lone_run}
-use Rattle.model_run.proofs.Growing.{run-append}
+use Rattle.model_run.proofs.Filings.{run-append}
 use Rattle.law_stations.specs.LoneStations.{LoneStation, lone_station_at_first}
 use Rattle.law_stations.proofs.Tosses.{IsInFront, IsTossedBy, more-events}
 

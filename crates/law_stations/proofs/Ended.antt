@@ -2,7 +2,7 @@
 use Rattle.std.proofs.Common.{◌≡◌, ◌≢◌, inl, inr, ⊎_elim, ◌∙◌, ℕ, zero, suc, ◌<◌, ◌≤◌, Bool, true, false, List, [], ◌∷◌, ◌++◌, append-nil, append_assoc, refl, sym, subst, ap}
 use Rattle.std.proofs.lemmas.Bool.{cases_eq, cases_lt}
 use Rattle.model_graph.specs.Walk.{Among}
-use Rattle.model_graph.proofs.Reached.{Among-push_cases}
+use Rattle.model_graph.proofs.Floods.{Among-push_cases}
 use Rattle.law_stations.specs.Nets.{Net}
 use Rattle.law_stations.specs.CanEnd.{CanEnd, LeftCanEnd}
 use Rattle.law_stations.specs.Disks.{StagingFile, HasCursor, naming}

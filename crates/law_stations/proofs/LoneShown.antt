@@ -35,11 +35,8 @@ use Rattle.law_stations.proofs.Sound.{reads}
 use Rattle.law_stations.proofs.Systems.{said-once, says-so}
 use Rattle.model_run.specs.Lone.{LoneEvent, LoneSystem, PostHere, PurgeHere, ScanHere, TossHere, lone_at_first, lone_run}
 use Rattle.model_run.specs.Owed.{IsFiledBy, IsFromLink, IsOwed}
-use Rattle.model_run.proofs.Filings.{run-from}
-use Rattle.model_run.proofs.Growing.{run-file}
-use Rattle.model_run.proofs.SentSoFar.{IsSentSoFar, copy-owed, owed-back, owed-there, run-sent, sent-once, sent-others, sent-owed, sent-waiting}
-use Rattle.model_run.proofs.Stubs.{run-left}
-use Rattle.model_run.proofs.WellFiled.{base-once, run-due, run-ok}
+use Rattle.model_run.proofs.Filings.{run-from, run-file, run-left}
+use Rattle.model_run.proofs.SentSoFar.{IsSentSoFar, copy-owed, owed-back, owed-there, run-sent, sent-once, sent-others, sent-owed, sent-waiting, base-once, run-due, run-ok}
 use Rattle.law_stations.specs.LoneStations.{LoneCommand, LoneStation}
 use Rattle.law_stations.specs.AloneInOrder.{LoneSays, HasCome, HoldsPacket, IsInOrderAlone, IsLeftAlone}
 use Rattle.law_stations.proofs.Purgings.{left-scanned, purge-among}

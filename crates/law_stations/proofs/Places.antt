@@ -8,10 +8,9 @@ use Rattle.echo_links.specs.Links.{same_address}
 use Rattle.echo_links.proofs.Addresses.{same_address_decides}
 use Rattle.model_run.specs.Event.{RunEvent}
 use Rattle.model_run.specs.Run.{Run, System, after_events, nth}
-use Rattle.model_run.proofs.Lists.{nth-among, yes_or_no}
+use Rattle.model_run.proofs.Lists.{nth-among, yes_or_no, Among-map_to}
 use Rattle.model_run.proofs.WholeRuns.{along, event-files, files_of}
 use Rattle.law_stations.specs.Agreement.{file_address, own_address}
-use Rattle.model_run.proofs.RulesLists.{Among-map_to}
 use Rattle.model_run.proofs.Targets.{some_same, none_some}
 
 -- the first system of its address is the only one

@@ -7,7 +7,7 @@ use Rattle.echo_filed.specs.Stubs.{stub_of}
 use Rattle.model_steps.specs.Purging.{purged}
 use Rattle.model_steps.specs.Stamps.{is_stamp}
 use Rattle.model_run.specs.Lone.{LoneEvent, LoneSystem, PostHere, PurgeHere, ScanHere, TossHere, after_all_lone, after_lone, with_scanned}
-use Rattle.model_run.proofs.Stubs.{purged-cons, purged-empty, purged-none}
+use Rattle.model_run.proofs.Filings.{purged-cons, purged-empty, purged-none}
 
 -- the event is a purge
 abbrev pub IsPurge : LoneEvent → Type 0

@@ -11,11 +11,11 @@ use Rattle.model_run.specs.Run.{Run, System, after_events, fresh, nth, start}
 use Rattle.model_run.specs.Keeping.{Content}
 use Rattle.model_run.proofs.Areas.{key-tag}
 use Rattle.model_run.proofs.EachSystem.{run-kept}
-use Rattle.model_run.proofs.Lists.{nth-among}
+use Rattle.model_run.proofs.Lists.{nth-among, Among-map_from}
 use Rattle.model_run.proofs.Origins.{run-traced}
 use Rattle.model_run.proofs.WholeRuns.{run-ok}
 use Rattle.model_run.proofs.TosserLaws.{the_laws}
-use Rattle.model_run.proofs.WellFormed.{filed-once}
+use Rattle.model_run.proofs.Bases.{filed-once}
 use Rattle.cmd_status.specs.Inputs.{AreLinkFiles}
 use Rattle.law_stations.specs.Agreement.{Agrees, HasSystem, IsPacketFile, limits_of}
 use Rattle.law_stations.specs.Commands.{CommandEvent}
@@ -25,7 +25,6 @@ use Rattle.law_stations.proofs.EachEvent.{LedAll, led-from-first}
 use Rattle.law_stations.proofs.Pairs.{paired-among, paired-nth}
 use Rattle.law_stations.proofs.Systems.{file-fits, said-once, says-so}
 use Rattle.law_stations.proofs.Unpurged.{AsFiledAt, IsAsFiled, kept-where}
-use Rattle.model_run.proofs.RulesLists.{Among-map_from}
 
 -- a packet file reads as the packet of the run
 pub reads : (bytes : List ℕ) (p : Packet) → IsPacketFile bytes p → ReadsAs bytes p

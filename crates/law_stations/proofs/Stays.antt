@@ -15,8 +15,7 @@ use Rattle.law_stations.specs.Agreement.{IsPacketFile}
 use Rattle.law_stations.specs.Nets.{Paired}
 use Rattle.law_stations.proofs.Systems.{file-fits}
 use Rattle.model_run.specs.Lone.{LoneEvent, LoneSystem, lone_run}
-use Rattle.model_run.proofs.Stubs.{purged-cons, purged-empty, purged-none, run-left}
-use Rattle.model_run.proofs.Growing.{events-purged, run-append, run-lasts}
+use Rattle.model_run.proofs.Filings.{purged-cons, purged-empty, purged-none, run-left, events-purged, run-append, run-lasts}
 use Rattle.law_stations.specs.AloneInOrder.{AloneIsInOrder, AloneStays, ShowsStill}
 use Rattle.law_stations.specs.LoneStations.{LoneCommand, LoneStation, PurgeAlone}
 use Rattle.law_stations.proofs.Purgings.{purge-among}

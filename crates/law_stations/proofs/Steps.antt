@@ -21,7 +21,7 @@ use Rattle.law_stations.proofs.OfEvents.{post-agrees, purge-agrees, scan-agrees}
 use Rattle.law_stations.proofs.Putting.{puts-agree}
 use Rattle.law_stations.proofs.Systems.{file-fits, one-file}
 use Rattle.model_run.specs.Lone.{IsOfPackets, LoneEvent, LoneSystem, PostHere, PurgeHere, ScanHere, TossHere, after_lone, lone_run, with_scanned, with_system}
-use Rattle.model_run.proofs.Growing.{run-file}
+use Rattle.model_run.proofs.Filings.{run-file}
 use Rattle.law_stations.specs.LoneStations.{HappenAlone, LeadsAlone, LoneCommand, LoneStation, NothingCame, PostAlone, PurgeAlone, ScanAlone, TossAny, TossesAny, held_in, lone_station_at_first, tossed_whole}
 use Rattle.law_stations.proofs.Tosses.{IsTossFrom, IsTossedBy, TossesFrom, files-tossed, front-plain, whole-first}
 use Rattle.law_stations.proofs.Purgings.{IsPurge}

@@ -15,7 +15,7 @@ use Rattle.model_steps.specs.Tossing.{sender_of, received, tossed, tossing, zone
 use Rattle.model_steps.proofs.Received.{tossing_received}
 use Rattle.model_steps.proofs.Kept.{tossing_keeps}
 use Rattle.model_run.specs.Run.{System, filing, state_of, tossing_at}
-use Rattle.model_run.proofs.States.{tossing-state}
+use Rattle.model_run.proofs.StandingRuns.{tossing-state}
 use Rattle.law_stations.specs.Agreement.{HasPosting}
 use Rattle.law_stations.proofs.Readings.{TossesFront}
 use Rattle.law_stations.proofs.Unpurged.{IsAsFiled, tossing-as_filed}

@@ -21,7 +21,7 @@ use Rattle.law_stations.proofs.FileRuns.{IsPartly, TossedFiles, wholes}
 use Rattle.law_stations.proofs.Readings.{TossesFront}
 use Rattle.law_stations.proofs.Tossed.{Takes, takes-both, takes-front, takes-none}
 use Rattle.model_run.specs.Lone.{LoneEvent, LoneSystem, PostHere, PurgeHere, ScanHere, TossHere, after_all_lone, with_system}
-use Rattle.model_run.proofs.Growing.{events-append}
+use Rattle.model_run.proofs.Filings.{events-append}
 use Rattle.law_stations.specs.AloneInOrder.{FaultlessTossIsWhole}
 use Rattle.law_stations.specs.LoneStations.{AreAnyFiles, LoneStation, held_in, tossed_whole}
 

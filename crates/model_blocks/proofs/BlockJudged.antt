@@ -1,22 +1,23 @@
 -- The findings in blocks, and the loops of all links in turn.
-use Rattle.std.proofs.Common.{◌≡◌, ◌+◌, ◌<◌, ◌≤◌, ◌&&◌, ◌⊎◌, ◌↔◌, ◌++◌, ℕ, zero, suc, Bool, true, IsTrue, Option, Some, None, List, [], ◌∷◌, length, map, get_or, refl, sym, ap, ◌∙◌, subst, arith, inl, inr}
+use Rattle.std.proofs.Common.{◌≡◌, ◌+◌, ◌<◌, ◌≤◌, ◌&&◌, ◌⊎◌, ◌↔◌, ◌++◌, ℕ, zero, suc, Bool, true, IsTrue, Option, Some, None, List, [], ◌∷◌, length, map, get_or, refl, sym, ap, ◌∙◌, subst, arith, inl, inr, ◌≢◌}
 use Rattle.std.specs.Prelude.{Contains}
 use Rattle.std.proofs.lemmas.Bool.{cases_eq, cases_lt}
 use Rattle.std.proofs.lemmas.List.{get_or_append_left, get_or_push, length_push}
 use Rattle.std.proofs.lemmas.List.Elements.{Contains-append_left, Contains-get_or, Contains-push, Contains-push_cases}
 use Rattle.model_blocks.specs.declared.block_loops.BlockLoop.{BlockLoop}
-use Rattle.model_graph.specs.Walk.{Different, Simple}
+use Rattle.model_graph.specs.Walk.{Different, Simple, Among}
 use Rattle.model_graph.specs.Blocks.{AreBlocks, AreFull, IsBlockOfLink, IsInFull}
-use Rattle.model_blocks.specs.BlockLoops.{AreBlockLoops, AreFoundIn, AreInOneBlock, AreLoopsBefore, AreWithin, FirstInBlock, HaveOneTop, IsBefore, IsFoundIn, IsLoopOfBlock, IsWhole, comes_before, placed}
+use Rattle.model_blocks.specs.BlockLoops.{AreBlockLoops, AreFoundIn, AreInOneBlock, AreLoopsBefore, AreWithin, FirstInBlock, HaveOneTop, IsBefore, IsFoundIn, IsLoopOfBlock, IsWhole, comes_before, placed, AreNumbers}
 use Rattle.model_graph.specs.Loops.{FirstWalk, IsWritten}
 use Rattle.model_graph.specs.Pinches.{FirstPinch, IsPinch}
 use Rattle.model_graph.specs.Rows.{IsAscending, IsGraph, linked, links_at}
-use Rattle.model_graph.proofs.Around.{Around-sym}
-use Rattle.model_blocks.proofs.BlockNames.{none_named, pinch_named, walk_named, whole_named}
+use Rattle.model_graph.proofs.Members.{Around-sym, Around-itself, Around-step, Around-trans, walk_ends}
 use Rattle.model_blocks.proofs.BlockView.{block_is, inner_ends, inside, inside_from, inside_to, loop_out, of_link, pinch_in, t_within, whole_out}
 use Rattle.model_graph.proofs.BlockWalks.{no_pinch_in_full}
 use Rattle.model_graph.proofs.PinchSearch.{Simple-from_graph, row_place, row_rises}
 use Rattle.model_graph.proofs.Rows.{linked_within}
+use Rattle.model_graph.specs.Beyond.{Around}
+use Rattle.model_blocks.proofs.BlockLists.{none_named, pinch_named, walk_named, whole_named}
 
 -- the findings in the first blocks
 pub record FoundBefore (links : ℕ → ℕ → Bool) (block top : ℕ → ℕ) (before : ℕ) (loops : List (Option BlockLoop)) : Type 0 where
@@ -135,11 +136,7 @@ module _ (rows : List (List ℕ)) (graph : IsGraph rows) (block top rank : ℕ �
 
 -- the block of a link has the number of a member
 pub block_within : (members : ℕ) (block top : ℕ → ℕ) → HaveOneTop members block top → (b a k : ℕ) → b < members → a < members → IsBlockOfLink block top b a k → k < members
-block_within members block top one_top b a k lt_b lt_a of =
-    elim of [
-      | inl below ↦ omega (arith, (one_top a lt_a).0, below.1)
-      | inr above ↦ omega (arith, (one_top b lt_b).0, above.1)
-    ]
+block_within members block top one_top b a k lt_b lt_a of = grind arith
 
 -- the first pinch of a block is the finding in it
 pub first_is_found : (rows : List (List ℕ)) (graph : IsGraph rows) (block top rank : ℕ → ℕ) (are : AreBlocks (linked rows) (length rows) block top rank) (loops : List (Option BlockLoop)) →
@@ -188,17 +185,11 @@ passed row (suc k) = get_or row k 0 + 1
 
 module _ (rows : List (List ℕ)) (graph : IsGraph rows) (at : ℕ) (row : List ℕ) (is : row ≡ links_at rows at) where
   passed_low : (k : ℕ) → k < length row → passed row k ≤ get_or row k 0
-  passed_low zero lt = omega arith
-  passed_low (suc k) lt = omega (arith, row_rises rows at row graph is k (suc k) (omega arith) lt)
+  passed_low k h1 = grind (arith, row_rises)
 
   -- an item before index k is passed
   passed_high : (j k : ℕ) → j < k → k ≤ length row → get_or row j 0 < passed row k
-  passed_high j zero lt le = absurd (omega arith)
-  passed_high j (suc k) lt le =
-      elim (cases_eq j k) [
-        | inl same ↦ omega (arith, ap (λ (n : ℕ). get_or row n 0) same)
-        | inr differ ↦ omega (arith, row_rises rows at row graph is j k (omega arith) (omega arith))
-      ]
+  passed_high j k h1 h2 = grind (arith, cases_eq, get_or, row_rises)
 
   -- each link before the item at index k is passed
   link_passed : (k a : ℕ) → k < length row → IsTrue (linked rows at a) → a < get_or row k 0 → a < passed row k
@@ -222,16 +213,7 @@ module _ (rows : List (List ℕ)) (graph : IsGraph rows) (at : ℕ) (row : List 
 
     -- a link is passed, or the next
     next_or : (b a c : ℕ) → IsBefore b a at (one + 1) → FirstInBlock (linked rows) b a c → IsBefore b a at (passed row k) ⊎ ((b ≡ at) × (a ≡ one))
-    next_or b a c h first =
-        elim h [
-          | inl less ↦ inl (inl less)
-          | inr here ↦
-              elim (cases_eq a one) [
-                | inl same ↦ inr (here.0, same)
-                | inr differ ↦
-                    inl (inr (here.0, link_passed k a lt (subst (λ (n : ℕ). IsTrue (linked rows n a)) here.0 first.pinch.one) (omega (arith, here.1, differ))))
-              ]
-        ]
+    next_or b a c h first = grind (arith, cases_eq, link_passed)
 
     pub loops_passed : ((c : ℕ) → ¬ FirstInBlock (linked rows) at one c) → AreLoopsBefore (linked rows) at (passed row (suc k)) loops
     loops_passed none = record {
@@ -306,16 +288,71 @@ module _ (rows : List (List ℕ)) (graph : IsGraph rows) (at : ℕ) (row : List 
   }
 
 pub loops_begun : (links : ℕ → ℕ → Bool) → AreLoopsBefore links 0 0 []
-loops_begun links = record {
-  ascending = λ i j d lt inside. absurd (omega (arith, inside));
-  sound = λ l (k, lt, is). absurd (omega (arith, lt));
-  before = λ l (k, lt, is). absurd (omega (arith, lt));
-  all = λ b a c h first. elim h [ inl less ↦ absurd (omega arith) | inr h' ↦ absurd (omega (arith, h'.1)) ];
-}
+loops_begun links = grind arith
 
 pub loops_done : (rows : List (List ℕ)) (loops : List BlockLoop) (end : ℕ) → length rows ≤ end → AreLoopsBefore (linked rows) end 0 loops → AreBlockLoops (linked rows) loops
-loops_done rows loops end past old = record {
-  ascending = old.ascending;
-  sound = old.sound;
-  all = λ b a c first. old.all b a c (inl (omega (arith, linked_within rows b a first.pinch.one))) first;
-}
+loops_done rows loops end past old = grind (arith, linked_within)
+
+-- Each number except the first and the last lies between those of two links. So no member parts two others.
+
+module _ (links : ℕ → ℕ → Bool) (simple : Simple links) (members last : ℕ) (within : (a b : ℕ) → IsTrue (links a b) → b < members)
+    (number : ℕ → ℕ) (are : AreNumbers links members last number) where
+  down : (m z x : ℕ) → x < members → number x ≤ m → number x ≤ number z → z ≢ x → Around links z x 0
+  down zero z x lt le under apart =
+      elim (cases_eq x 0) [
+        | inl is ↦ subst (Around links z x) is (Around-itself links z x apart)
+        | inr other ↦ (let (d, link, lower) = (are.each x lt).smaller other in absurd (omega arith))
+      ]
+  down (suc m) z x lt le under apart =
+      elim (cases_eq x 0) [
+        | inl is ↦ subst (Around links z x) is (Around-itself links z x apart)
+        | inr other ↦ (
+            let (d, link, lower) = (are.each x lt).smaller other in
+            Around-step links z x d 0 apart link
+            (down m z d (within x d link) (omega arith) (omega arith) (λ e. omega (arith, ap number e, lower, under))))
+      ]
+
+  up : (m z x : ℕ) → x < members → members ≤ number x + m → number z ≤ number x → z ≢ x → Around links z x last
+  up zero z x lt le over apart = (let bound = (are.each x lt).bound in absurd (omega arith))
+  up (suc m) z x lt le over apart =
+      elim (cases_eq x last) [
+        | inl is ↦ subst (Around links z x) is (Around-itself links z x apart)
+        | inr other ↦ (
+            let (d, link, greater) = (are.each x lt).greater other in
+            Around-step links z x d last apart link
+            (up m z d (within x d link) (omega arith) (omega arith) (λ e. omega (arith, ap number e, greater, over))))
+      ]
+
+  end_apart : (z x y : ℕ) → Around links z x y → z ≢ y
+  end_apart z x y (rest, walk, clear) e = clear (subst (λ (v : ℕ). Among v (x ∷ rest)) (sym e) (walk_ends links x rest y walk))
+
+  -- each other member reaches the first or the last
+  out : (z x : ℕ) → x < members → z ≢ x → Around links z x 0 ⊎ Around links z x last
+  out z x lt apart =
+      elim (cases_lt (number z) (number x)) [
+        | inl above ↦ inr (up members z x lt (omega arith) (omega arith) apart)
+        | inr below ↦ inl (down (number x) z x lt (omega arith) below apart)
+      ]
+
+  across : (z : ℕ) → z ≢ 0 → z ≢ last → Around links z 0 last
+  across z first other = Around-step links z 0 last last first are.closed (Around-itself links z last other)
+
+  pub whole : IsWhole links members
+  whole z x y lt_x lt_y apart_x apart_y =
+      elim (out z x lt_x apart_x) [
+        | inl x_first ↦
+            elim (out z y lt_y apart_y) [
+              | inl y_first ↦ Around-trans links z x 0 y x_first (Around-sym links simple z y 0 y_first)
+              | inr y_last ↦
+                  Around-trans links z x 0 y x_first
+                  (Around-trans links z 0 last y (across z (end_apart z x 0 x_first) (end_apart z y last y_last)) (Around-sym links simple z y last y_last))
+            ]
+        | inr x_last ↦
+            elim (out z y lt_y apart_y) [
+              | inl y_first ↦
+                  Around-trans links z x last y x_last
+                  (Around-trans links z last 0 y (Around-sym links simple z 0 last (across z (end_apart z y 0 y_first) (end_apart z x last x_last)))
+                  (Around-sym links simple z y 0 y_first))
+              | inr y_last ↦ Around-trans links z x last y x_last (Around-sym links simple z y last y_last)
+            ]
+      ]

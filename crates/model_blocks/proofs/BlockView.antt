@@ -1,15 +1,15 @@
 -- A graph seen from one of its blocks. Each member goes by the member, of the block or its top, at which walks from it
 -- enter the block.
 use Rattle.std.proofs.Common.{◌≡◌, ◌≢◌, ◌<◌, ◌≤◌, ◌&&◌, ◌||◌, ◌==◌, ◌⊎◌, ℕ, zero, suc, Bool, true, false, cond, IsTrue, List, [], ◌∷◌, length, refl, sym, ap, ◌∙◌, subst, arith, inl, inr}
-use Rattle.std.proofs.lemmas.Bool.{and_from, and_parts, cases_Bool, cases_eq, eq-eqb, eqb-true, or_cases, or_left, or_right}
+use Rattle.std.proofs.lemmas.Bool.{and_from, and_parts, cases_Bool, cases_eq, eq-eqb, eqb-true, or_cases, or_left, or_right, cases_lt}
 use Rattle.model_graph.specs.Walk.{Among, Simple, Walk}
 use Rattle.model_graph.specs.Beyond.{Around}
 use Rattle.model_graph.specs.Blocks.{AreBlocks, IsBlockOfLink}
-use Rattle.model_blocks.specs.BlockLoops.{AreInOneBlock, AreWithin, FirstInBlock, HaveOneTop, InBlock, IsLoopOfBlock}
+use Rattle.model_blocks.specs.BlockLoops.{AreInOneBlock, AreWithin, FirstInBlock, HaveOneTop, InBlock, IsLoopOfBlock, AreJoinedWithout, HasEarlier}
 use Rattle.model_graph.specs.Loops.{FirstWalk, IsWritten, NoLater}
-use Rattle.model_graph.specs.Pinches.{FirstPinch, IsPinch}
+use Rattle.model_graph.specs.Pinches.{FirstPinch, IsPinch, FirstOther}
 use Rattle.model_graph.proofs.Rings.{loop_cycle}
-use Rattle.model_graph.proofs.Walks.{linked_differ, walk_ends}
+use Rattle.model_graph.proofs.Members.{linked_differ, walk_ends, Around-step}
 
 module _ (links : ℕ → ℕ → Bool) (simple : Simple links) (members : ℕ) (within : (a b : ℕ) → IsTrue (links a b) → b < members)
     (block top rank : ℕ → ℕ) (are : AreBlocks links members block top rank) (one_top : HaveOneTop members block top)
@@ -25,15 +25,10 @@ module _ (links : ℕ → ℕ → Bool) (simple : Simple links) (members : ℕ) 
   inside v = (block v == k) || (v == t)
 
   pub inside_from : (v : ℕ) → InBlock block top k v → inside v ≡ true
-  inside_from v (inl own) = or_left (block v == k) (v == t) (eq-eqb (block v) k own)
-  inside_from v (inr is) = or_right (block v == k) (v == t) (eq-eqb v t is)
+  inside_from v h1 = grind (arith, or_left, eq-eqb, or_right)
 
   pub inside_to : (v : ℕ) → inside v ≡ true → InBlock block top k v
-  inside_to v h =
-      elim (or_cases (block v == k) (v == t) h) [
-        | inl own ↦ inl (eqb-true (block v) k own)
-        | inr is ↦ inr (eqb-true v t is)
-      ]
+  inside_to v h = grind (arith, or_cases, eqb-true)
 
   top_inside : inside t ≡ true
   top_inside = inside_from t (inr refl)
@@ -89,28 +84,11 @@ module _ (links : ℕ → ℕ → Bool) (simple : Simple links) (members : ℕ) 
 
   view_up : (v : ℕ) → v < members → inside v ≡ false → view v ≡ view (top v)
   unfolding view
-  view_up v lt out =
-      elim (are.ranks v lt).1 [
-        | inl root ↦ ap (λ (w : ℕ). seen (suc (rank w)) w) (sym root)
-        | inr before ↦ seen_outside (rank v) v out ∙ seen_alike (rank v) (suc (rank (top v))) (top v) (are.ranks v lt).0 before (omega arith)
-      ]
+  view_up v lt out = grind (arith, seen, seen_outside, seen_alike)
 
   -- a member that ranks before the top is outside, and seen at the top
   before_outside : (v : ℕ) → v < members → rank v < rank t → inside v ≡ false
-  before_outside v lt low =
-      elim (cases_Bool (inside v)) [
-        | inl h ↦
-            elim (inside_to v h) [
-              | inl own ↦
-                  let is = own_top v lt own in
-                  elim (are.ranks v lt).1 [
-                    | inl root ↦ absurd (omega (arith, ap rank (sym root ∙ is)))
-                    | inr before ↦ absurd (omega (arith, before, ap rank is))
-                  ]
-              | inr is ↦ absurd (omega (arith, ap rank is))
-            ]
-        | inr out ↦ out
-      ]
+  before_outside v lt low = grind (arith, cases_Bool, inside_to, own_top)
 
   before_seen : (n v : ℕ) → v < members → rank v < rank t → seen n v ≡ t
   before_seen zero v lt low = seen_none v
@@ -123,11 +101,7 @@ module _ (links : ℕ → ℕ → Bool) (simple : Simple links) (members : ℕ) 
 
   view_of_top : view (top t) ≡ t
   unfolding view
-  view_of_top =
-      elim (are.ranks t t_within).1 [
-        | inl root ↦ ap (λ (w : ℕ). seen (suc (rank w)) w) root ∙ seen_inside (rank t) t top_inside
-        | inr before ↦ before_seen (suc (rank (top t))) (top t) (are.ranks t t_within).0 before
-      ]
+  view_of_top = grind (arith, t_within, seen, seen_inside, top_inside, before_seen)
 
   seen_is_inside : (n v : ℕ) → inside (seen n v) ≡ true
   seen_is_inside zero v = ap inside (seen_none v) ∙ top_inside
@@ -204,10 +178,7 @@ module _ (links : ℕ → ℕ → Bool) (simple : Simple links) (members : ℕ) 
   inner_ends v w h = and_parts (inside v) (inside w) (and_parts (links v w) ((inside v) && (inside w)) h).1
 
   pub inner_simple : Simple inner
-  inner_simple = record {
-    both_ways = λ v w h. (let (in_v, in_w) = inner_ends v w h in inner_from w v (simple.both_ways v w (inner_link v w h)) in_w in_v);
-    no_self = λ v h. simple.no_self v (inner_link v v h);
-  }
+  inner_simple = grind (arith, inner_ends, inner_from, inner_link)
 
   pub inner_walk : (v : ℕ) (rest : List ℕ) (w : ℕ) → Walk inner v rest w → Walk links v rest w
   inner_walk v [] w same = same
@@ -286,13 +257,7 @@ module _ (links : ℕ → ℕ → Bool) (simple : Simple links) (members : ℕ) 
 
   -- pinches within
   pub pinch_out : (b a c : ℕ) → IsPinch inner b a c → IsPinch links b a c
-  pinch_out b a c p = record {
-    one = inner_link b a p.one;
-    other = inner_link b c p.other;
-    in_order = p.in_order;
-    not_linked = λ h. p.not_linked (inner_from a c h (inner_ends b a p.one).1 (inner_ends b c p.other).1);
-    around = (let (rest, walk, clear) = p.around in (rest, inner_walk a rest c walk, clear));
-  }
+  pinch_out b a c p = grind (arith, inner_link, inner_from, inner_ends, inner_walk)
 
   pub pinch_in : (b a c : ℕ) → inside b ≡ true → inside a ≡ true → IsPinch links b a c → IsPinch inner b a c
   pinch_in b a c in_b in_a p =
@@ -370,59 +335,81 @@ module _ (links : ℕ → ℕ → Bool) (simple : Simple links) (members : ℕ) 
 
   -- the block of a link has both its ends
   pub of_link : (b a : ℕ) → IsTrue (links b a) → IsBlockOfLink block top b a k → AreWithin block top k b a
-  of_link b a link at =
-      let lt_a = within b a link in
-      let lt_b = within a b (simple.both_ways b a link) in
-      elim at [
-        | inl below ↦ (inr (sym below.0 ∙ (sym (one_top a lt_a).1 ∙ ap top (sym below.1))), inl (sym below.1))
-        | inr above ↦
-            let own : block b ≡ k = sym above.1 in (
-              inl own,
-              elim (are.links b a link) [
-                | inl same ↦ inl (sym same.0 ∙ own)
-                | inr other ↦
-                    elim other [
-                      | inl up ↦ inr (sym up ∙ own_top b lt_b own)
-                      | inr down ↦ absurd (above.0 down)
-                    ]
-              ],
-            )
-      ]
+  of_link b a link at = grind (arith, own_top)
 
   -- and is the only one
   pub block_is : (b a : ℕ) → IsTrue (links b a) → AreWithin block top k b a → IsBlockOfLink block top b a k
-  block_is b a link (in_b, in_a) =
-      let lt_a = within b a link in
-      let lt_b = within a b (simple.both_ways b a link) in
-      let differ = linked_differ links simple b a link in
-      elim in_a [
-        | inl own ↦
-            let up = own_top a lt_a own in
-            elim (cases_eq b t) [
-              | inl is ↦ inl (up ∙ sym is, sym own)
-              | inr apart ↦
-                  elim in_b [
-                    | inl own_b ↦ inr ((λ e. apart (sym e ∙ up)), sym own_b)
-                    | inr is ↦ absurd (apart is)
-                  ]
-            ]
-        | inr at_t ↦
-            elim in_b [
-              | inr is ↦ absurd (differ (is ∙ sym at_t))
-              | inl own ↦
+  block_is b a link (in_b, in_a) = grind (arith, linked_differ, own_top, cases_eq, t_within)
+
+-- Links that no member parts, tried member by member, and pinches that come before a link.
+
+module _ (links : ℕ → ℕ → Bool) where
+  pub joined_one : (z b a d c : ℕ) → Around links z b d ⊎ Around links z b c → AreJoinedWithout links z b a d c
+  joined_one z b a d c h = elim h [ inl h' ↦ (b, d, inl refl, inl refl, h') | inr h' ↦ (b, c, inl refl, inr refl, h') ]
+
+  pub joined_other : (z b a d c : ℕ) → Around links z a d ⊎ Around links z a c → AreJoinedWithout links z b a d c
+  joined_other z b a d c h = elim h [ inl h' ↦ (a, d, inr refl, inl refl, h') | inr h' ↦ (a, c, inr refl, inr refl, h') ]
+
+  ends_at : (z x y d c : ℕ) → (y ≡ d) ⊎ (y ≡ c) → Around links z x y → Around links z x d ⊎ Around links z x c
+  ends_at z x y d c at around = grind arith
+
+  pub joined_by : (z b a d c : ℕ) → AreJoinedWithout links z b a d c → (Around links z b d ⊎ Around links z b c) ⊎ (Around links z a d ⊎ Around links z a c)
+  joined_by z b a d c (x, y, at_x, at_y, around) = grind (arith, ends_at)
+
+  -- a walk between members passes members only
+  module _ (members : ℕ) (within : (a b : ℕ) → IsTrue (links a b) → b < members) where
+    pub on_walk : (x : ℕ) (rest : List ℕ) (y : ℕ) → Walk links x rest y → x < members → (v : ℕ) → Among v (x ∷ rest) → v < members
+    on_walk x [] y walk lt v among = elim among [ inl e ↦ omega (arith, e) | inr none ↦ absurd none ]
+    on_walk x (w ∷ rest) y walk lt v among = elim among [
+      | inl e ↦ omega (arith, e)
+      | inr later ↦ on_walk w rest y walk.1 (within x w walk.0) v later
+    ]
+
+    outside : (x y z : ℕ) → x < members → members ≤ z → Around links members x y → Around links z x y
+    outside x y z lt past (rest, walk, clear) = (rest, walk, λ among. omega (arith, on_walk x rest y walk lt z among))
+
+    pub all_joined : (b a d c : ℕ) → b < members → ((z : ℕ) → z < members → AreJoinedWithout links z b a d c) → Around links members b d ⊎ Around links members b c → AreInOneBlock links b a d c
+    all_joined b a d c lt each last z =
+        elim (cases_lt z members) [
+          | inl inside ↦ each z inside
+          | inr past ↦ joined_one z b a d c (elim last [ inl h ↦ inl (outside b d z lt past h) | inr h ↦ inr (outside b c z lt past h) ])
+        ]
+
+    -- and without a non-member the first end is joined
+    pub joined_last : (b a d c : ℕ) → b < members → IsTrue (links b a) → AreInOneBlock links b a d c → Around links members b d ⊎ Around links members b c
+    joined_last b a d c lt link together =
+        let differ : members ≢ b = λ e. omega (arith, e) in
+        elim (joined_by members b a d c (together members)) [
+          | inl h ↦ h
+          | inr h ↦ elim h [ inl h' ↦ inl (Around-step links members b a d differ link h') | inr h' ↦ inr (Around-step links members b a c differ link h') ]
+        ]
+
+-- the first pinch that begins with a link, if no pinch in its block begins earlier
+pub first_here : (links : ℕ → ℕ → Bool) (at one other : ℕ) → FirstOther links at one other → (upto : ℕ) → at < upto → ¬ HasEarlier links at one upto → FirstInBlock links at one other
+first_here links at one other found upto inside none = record {
+  pinch = found.pinch;
+  first = λ e d f pinch together.
+      elim (cases_lt e at) [
+        | inl before ↦ absurd (none (e, omega arith, (d, pinch.one, (inl before, (f, pinch), together))))
+        | inr past ↦
+            elim (cases_eq at e) [
+              | inr differ ↦ inl (omega arith)
+              | inl same ↦
                   inr (
-                    (λ (down : top a ≡ b).
-                        let below : top t ≡ b = ap top (sym at_t) ∙ down in
-                        let up = own_top b lt_b own in
-                        elim (are.ranks b lt_b).1 [
-                          | inl root ↦ differ (sym root ∙ (up ∙ sym at_t))
-                          | inr before ↦
-                              elim (are.ranks t t_within).1 [
-                                | inl root ↦ differ (sym below ∙ (root ∙ sym at_t))
-                                | inr higher ↦ omega (arith, before, higher, ap rank up, ap rank below)
-                              ]
-                        ]),
-                    sym own,
+                    same,
+                    elim (cases_lt d one) [
+                      | inl before ↦ absurd (none (e, omega (arith, same), (d, pinch.one, (inr (sym same, before), (f, pinch), together))))
+                      | inr past' ↦
+                          elim (cases_eq one d) [
+                            | inr differ ↦ inl (omega arith)
+                            | inl equal ↦
+                                inr (
+                                  equal,
+                                  found.first f (subst (λ (n : ℕ). IsPinch links n one f) (sym same) (subst (λ (n : ℕ). IsPinch links e n f) (sym equal) pinch)),
+                                )
+                          ]
+                    ],
                   )
             ]
-      ]
+      ];
+}

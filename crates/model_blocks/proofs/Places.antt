@@ -1,11 +1,10 @@
 -- Indexes of some members in an ascending list of names, found link by link or name by name.
-use Rattle.std.proofs.Common.{◌≡◌, ◌+◌, ◌<◌, ◌≤◌, ◌↔◌, ◌++◌, ◌&&◌, nat_lt, ℕ, Bool, IsTrue, List, [], ◌∷◌, length, get_or, sym, ap, ◌∙◌, subst, arith, inl, inr}
+use Rattle.std.proofs.Common.{◌≡◌, ◌+◌, ◌<◌, ◌≤◌, ◌↔◌, ◌++◌, nat_lt, ℕ, Bool, IsTrue, List, [], ◌∷◌, length, get_or, sym, ap, ◌∙◌, subst, arith, inl, inr}
 use Rattle.std.specs.Prelude.{Contains}
-use Rattle.std.proofs.lemmas.Bool.{cases_eq, cases_lt}
+use Rattle.std.proofs.lemmas.Bool.{cases_eq, cases_lt, and_from, and_parts, lt-ltb, ltb-true}
 use Rattle.std.proofs.lemmas.Grind.{get_or_default_zero}
 use Rattle.std.proofs.lemmas.List.Elements.{Contains-append_left, Contains-push, Contains-push_cases}
 use Rattle.std.specs.Cmp.{both_ways}
-use Rattle.std.proofs.lemmas.Bool.{and_from, and_parts, lt-ltb, ltb-true}
 use Rattle.std.proofs.lemmas.List.{get_or_append_left, get_or_past, get_or_push, length_push}
 use Rattle.model_blocks.specs.BlockLoops.{placed}
 use Rattle.model_graph.specs.Rows.{IsAscending, IsGraph, linked, links_at}
@@ -73,15 +72,7 @@ module _ (names links : List ℕ) (up_names : IsAscending names) (up_links : IsA
 
   -- a name has one index
   one_place : (i j : ℕ) → i < length names → j < length names → get_or names i 0 ≡ get_or names j 0 → i ≡ j
-  one_place i j in_i in_j same =
-      elim (cases_eq i j) [
-        | inl is ↦ is
-        | inr differ ↦
-            elim (cases_lt i j) [
-              | inl lt ↦ absurd (omega (arith, up_names i j lt in_j, same))
-              | inr le ↦ absurd (omega (arith, up_names j i (omega arith) in_i, same))
-            ]
-      ]
+  one_place i j in_i in_j same = grind (arith, cases_eq, cases_lt)
 
   -- a link that is a name
   pub PlacesOf-pushed : (place : ℕ) → place < length names → get_or names place 0 ≡ get_or links count 0 → PlacesOf names links (count + 1) (places ++ place ∷ [])
@@ -155,17 +146,10 @@ from_row rows i j (k, lt, is) = holds_at (links_at rows i) j k lt (sym (get_or_d
 
 module _ (whole : List (List ℕ)) (graph : IsGraph whole) (names : List ℕ) (rows : List (List ℕ)) (r : RowsOf (linked whole) names (length names) rows) where
   linked_to : (i j : ℕ) → IsTrue (linked rows i j) → IsTrue (placed names (linked whole) i j)
-  linked_to i j h =
-      let lt : i < length names = omega (arith, linked_within rows i j h, r.one_each) in
-      let (in_j, link) = (r.members i j lt).0 (in_row rows i j h) in
-      and_from (nat_lt i (length names) && nat_lt j (length names)) (linked whole (get_or names i 0) (get_or names j 0))
-      (and_from (nat_lt i (length names)) (nat_lt j (length names)) (lt-ltb i (length names) lt) (lt-ltb j (length names) in_j)) link
+  linked_to i j h = grind (arith, linked_within, link, in_row, and_from, nat_lt, get_or, lt-ltb)
 
   parts : (i j : ℕ) → IsTrue (placed names (linked whole) i j) → (i < length names) × (j < length names) × IsTrue (linked whole (get_or names i 0) (get_or names j 0))
-  parts i j h =
-      let (sizes, link) = and_parts (nat_lt i (length names) && nat_lt j (length names)) (linked whole (get_or names i 0) (get_or names j 0)) h in
-      let (one, other) = and_parts (nat_lt i (length names)) (nat_lt j (length names)) sizes in
-      (ltb-true i (length names) one, ltb-true j (length names) other, link)
+  parts i j h = grind (arith, link, and_parts, nat_lt, get_or, ltb-true)
 
   linked_from : (i j : ℕ) → IsTrue (placed names (linked whole) i j) → IsTrue (linked rows i j)
   linked_from i j h = (let (in_i, in_j, link) = parts i j h in from_row rows i j ((r.members i j in_i).1 (in_j, link)))

@@ -1,11 +1,10 @@
 -- The loops of blocks, after a renaming that keeps the order of the members.
-use Rattle.std.proofs.Common.{inl, inr, sym, ap, subst, ◌∙◌, Bool, IsTrue, List, ◌∷◌, map}
+use Rattle.std.proofs.Common.{inl, inr, sym, ap, subst, ◌∙◌, Bool, IsTrue, List, ◌∷◌, map, arith}
 use Rattle.model_graph.specs.Walk.{Among, Simple}
 use Rattle.model_blocks.specs.BlockLoops.{AreInOneBlock, FirstInBlockBy, IsLoopOfBlockBy}
 use Rattle.model_graph.specs.Renaming.{IsRenaming, KeepsOrder}
-use Rattle.model_graph.proofs.RenamedLoops.{Among-of_names, FirstWalk-renamed, HasUnlinked-renamed, IsCycle-renamed, IsPinch-renamed, IsWritten-renamed, earlier_named, walk_owns}
-use Rattle.model_graph.proofs.Renaming.{IsRenaming-swap, Walk-renamed}
-use Rattle.model_graph.proofs.Walks.{link_from}
+use Rattle.model_graph.proofs.Renaming.{Among-of_names, FirstWalk-renamed, HasUnlinked-renamed, IsCycle-renamed, IsPinch-renamed, IsWritten-renamed, earlier_named, walk_owns, IsRenaming-swap, Walk-renamed}
+use Rattle.model_graph.proofs.Members.{link_from}
 
 module _ {A B : Type 0} (linked : A → A → Bool) (joined : B → B → Bool) (name : A → B) (back : B → A)
     (renaming : IsRenaming linked joined name back) (simple : Simple linked) (simple_names : Simple joined)

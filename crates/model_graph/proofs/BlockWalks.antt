@@ -5,8 +5,7 @@ use Rattle.model_graph.specs.Walk.{Among, Simple}
 use Rattle.model_graph.specs.Beyond.{Around}
 use Rattle.model_graph.specs.Pinches.{IsPinch}
 use Rattle.model_graph.specs.Blocks.{AreBlocks, AreFull, OnOneSide, IsInFull, IsCovered}
-use Rattle.model_graph.proofs.Around.{Around-keeps, Around-sym}
-use Rattle.model_graph.proofs.Walks.{linked_differ}
+use Rattle.model_graph.proofs.Members.{linked_differ, Around-keeps, Around-sym}
 
 -- x hangs below b in block k: the n-th member up from x is in k, its top is b, and no member on the way is b
 abbrev pub Hangs : (ℕ → ℕ) → (ℕ → ℕ) → ℕ → ℕ → ℕ → ℕ → Type 0
@@ -16,8 +15,7 @@ Hangs block top b k (suc n) x = (x ≢ b) × Hangs block top b k n (top x)
 module _ (links : ℕ → ℕ → Bool) (simple : Simple links) (members : ℕ) (within : (a b : ℕ) → IsTrue (links a b) → b < members)
     (block top rank : ℕ → ℕ) (are : AreBlocks links members block top rank) where
   not_b : (b k n x : ℕ) → Hangs block top b k n x → x ≢ b
-  not_b b k zero x h = h.0
-  not_b b k (suc n) x h = h.0
+  not_b b k n x h1 = grind arith
 
   -- the links of a member that hangs below b hang there too, except b itself
   hangs_next : (b k n x y : ℕ) → Hangs block top b k n x → IsTrue (links x y) → b ≢ y → (m : ℕ) × Hangs block top b k m y
@@ -89,27 +87,10 @@ module _ (links : ℕ → ℕ → Bool) (simple : Simple links) (members : ℕ) 
 
   -- so both are in one block at b
   pub one_side : (b a c : ℕ) → IsTrue (links b a) → IsTrue (links b c) → Around links b a c → OnOneSide block top b a c
-  one_side b a c link_a link_c around =
-      elim (cases_eq (top a) b) [
-        | inl below ↦ let found = joined_below b a c link_a link_c around below in inl (below, found.1, sym found.0)
-        | inr apart ↦
-            inr (apart, λ (below : top c ≡ b). apart (joined_below b c a link_c link_a (Around-sym links simple b a c around) below).1)
-      ]
+  one_side b a c link_a link_c around = grind (arith, cases_eq, joined_below, Around-sym)
 
   side_trans : (b r a c : ℕ) → OnOneSide block top b r a → OnOneSide block top b a c → OnOneSide block top b r c
-  side_trans b r a c first second =
-      elim first [
-        | inl below ↦
-            elim second [
-              | inl more ↦ inl (below.0, more.1, below.2 ∙ more.2)
-              | inr above ↦ absurd (above.0 below.1)
-            ]
-        | inr above ↦
-            elim second [
-              | inl below ↦ absurd (above.1 below.0)
-              | inr more ↦ inr (above.0, more.1)
-            ]
-      ]
+  side_trans b r a c first second = grind arith
 
   -- if r covers the links of b on one side, a pinch of b on that side is a pinch of r
   pub no_pinch_covered : (b r a c : ℕ) → r < b → ((d f : ℕ) → ¬ IsPinch links r d f) → IsCovered links block top b r → OnOneSide block top b r a → ¬ IsPinch links b a c

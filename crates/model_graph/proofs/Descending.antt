@@ -17,13 +17,7 @@ Descent-push links levels (c ∷ rest) a z d m h e s = (h.0, Descent-push links 
 
 -- above level 0 there is a link one level lower
 pub lower_exists : (links : ℕ → ℕ → Bool) (without root : ℕ) (levels : List (Option ℕ)) → Simple links → Searched links without root levels → (z m : ℕ) → level_of levels z ≡ Some (suc m) → (d : ℕ) × IsTrue (links z d) × (level_of levels d ≡ Some m)
-lower_exists links without root levels simple searched z m e =
-    elim (searched.stepped z (suc m) e).1 [
-      | inl bad ↦ absurd (omega (arith, bad.0))
-      | inr w ↦
-          let same : w.1 ≡ m = omega (arith, w.3) in
-          (w.0, simple.both_ways w.0 z w.2, w.4 ∙ ap Some same)
-    ]
+lower_exists links without root levels simple searched z m e = grind arith
 
 Walk-from_Descent : (links : ℕ → ℕ → Bool) (levels : List (Option ℕ)) (rest : List ℕ) (a z : ℕ) → Descent links levels a rest z → Walk links a rest z
 Walk-from_Descent links levels [] a z same = same

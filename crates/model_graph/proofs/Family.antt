@@ -1,12 +1,13 @@
 -- If links are parted, they keep to the family that a search by levels gives.
-use Rattle.std.proofs.Common.{◌≡◌, ◌≢◌, ◌⊎◌, inl, inr, refl, sym, subst, ap, ℕ, zero, suc, ◌<◌, ◌≤◌, arith, Bool, IsTrue, [], ◌∷◌}
-use Rattle.std.proofs.lemmas.Bool.{cases_Bool, cases_order, both_ways}
+use Rattle.std.proofs.Common.{◌≡◌, ◌≢◌, ◌⊎◌, inl, inr, refl, sym, subst, ap, ℕ, zero, suc, ◌<◌, ◌≤◌, arith, Bool, IsTrue, [], ◌∷◌, ◌∙◌, le_antisymm, Option, List, length, get_or, ◌+◌}
+use Rattle.std.proofs.lemmas.Bool.{cases_Bool, cases_order, both_ways, cases_eq, cases_lt}
 use Rattle.model_graph.specs.Walk.{Simple, Reaches}
 use Rattle.model_graph.specs.Beyond.{Around, Parted}
 use Rattle.model_graph.specs.Family.{IsFamily, IsParent, AreSiblings, KeepsToFamily}
-use Rattle.model_graph.proofs.Members.{CanTell}
-use Rattle.model_graph.proofs.Walks.{link_to, linked_differ, Reaches-trans, Reaches-sym}
-use Rattle.model_graph.proofs.Around.{Around-itself, Around-step, Around-trans, Around-sym, no_around-from_Beyond}
+use Rattle.model_graph.proofs.Members.{CanTell, link_to, linked_differ, Reaches-trans, Reaches-sym, Around-itself, Around-step, Around-trans, Around-sym, no_around-from_Beyond, link_from, Around-keeps, Beyond-from_no_around}
+use Rattle.model_graph.specs.Rows.{links_at, linked, IsGraph}
+use Rattle.model_graph.specs.Forest.{Siblings, FirstSibling}
+use Rattle.model_graph.proofs.PinchSearch.{row_link, row_place, row_rises}
 
 -- members of different levels differ
 pub levels_differ : {A : Type 0} (level : A → ℕ) (a b : A) → level a < level b → a ≢ b
@@ -15,11 +16,7 @@ levels_differ level a b lt e = let same = ap level e in absurd (omega arith)
 -- if all links are parted, two links of b that a walk around b joins are linked
 pub linked_if_joined : {A : Type 0} (linked : A → A → Bool) → Parted linked → (b a c : A) → IsTrue (linked b a) → IsTrue (linked b c) →
     a ≢ c → Around linked b a c → IsTrue (linked a c)
-linked_if_joined linked parted b a c to_a to_c other around =
-    elim (cases_Bool (linked a c)) [
-      | inl joined ↦ joined
-      | inr none ↦ absurd (no_around-from_Beyond linked b c a (parted b a c to_a to_c other (λ joined. both_ways (linked a c) none joined)) around)
-    ]
+linked_if_joined linked parted b a c to_a to_c other around = grind (arith, cases_Bool, no_around-from_Beyond, both_ways)
 
 module _ {A : Type 0} (can : CanTell A) (linked : A → A → Bool) (simple : Simple linked) (level : A → ℕ) (parent : A → A)
     (family : IsFamily linked level parent) where
@@ -89,24 +86,11 @@ module _ {A : Type 0} (can : CanTell A) (linked : A → A → Bool) (simple : Si
 
     -- a link to the level below leads to the parent
     below_parent : (a b : A) → IsTrue (linked a b) → level b ≡ suc (level a) → IsParent level parent a b
-    below_parent a b link at_b =
-        let above : 0 < level b = omega arith in
-        let level_p = family.level_below b above in
-        let b_to_p = family.to_parent b above in
-        (above, one_below (level a) (level_alike (level a)) b (parent b) a b_to_p (simple.both_ways a b link) at_b (omega arith) refl)
+    below_parent a b link at_b = grind (arith, one_below, level_alike)
 
     links_keep : (a b : A) → IsTrue (linked a b) →
         IsParent level parent a b ⊎ (IsParent level parent b a ⊎ AreSiblings level parent a b)
-    links_keep a b link =
-        let near_a = family.near a b link in
-        let near_b = family.near b a (simple.both_ways a b link) in
-        elim (cases_order (level a) (level b)) [
-          | inl e ↦ (let (above, same) = level_alike (level b) a b link e refl in inr (inr (omega arith, above, same)))
-          | inr rest ↦ elim rest [
-            | inl lt ↦ inl (below_parent a b link (omega arith))
-            | inr gt ↦ inr (inl (below_parent b a (simple.both_ways a b link) (omega arith)))
-          ]
-        ]
+    links_keep a b link = grind (arith, cases_order, level_alike, below_parent)
 
     siblings_keep : (a b c : A) → AreSiblings level parent a b → AreSiblings level parent b c →
         IsTrue (linked a b) → IsTrue (linked b c) → a ≢ c → IsTrue (linked a c)
@@ -122,3 +106,194 @@ module _ {A : Type 0} (can : CanTell A) (linked : A → A → Bool) (simple : Si
 
     pub KeepsToFamily-from_Parted : KeepsToFamily linked level parent
     KeepsToFamily-from_Parted = record { links = links_keep; siblings = siblings_keep }
+
+-- Linked siblings: all are linked with each other exactly if each sees the same ones as the least that it sees.
+
+-- x sees y: y is x, or a sibling that x is linked with
+abbrev pub Sees : {A : Type 0} → (A → A → Bool) → (A → ℕ) → (A → A) → A → A → Type 0
+Sees linked level parent x y = (x ≡ y) ⊎ (AreSiblings level parent x y × IsTrue (linked x y))
+
+pub Sees-sym : {A : Type 0} (linked : A → A → Bool) → Simple linked → (level : A → ℕ) (parent : A → A) (x y : A) →
+    Sees linked level parent x y → Sees linked level parent y x
+Sees-sym linked simple level parent x y h = grind arith
+
+module _ (linked : ℕ → ℕ → Bool) (simple : Simple linked) (level parent : ℕ → ℕ) where
+  -- if links keep to the family, Sees is transitive
+  pub Sees-trans : KeepsToFamily linked level parent → (x y z : ℕ) → Sees linked level parent x y → Sees linked level parent y z →
+      Sees linked level parent x z
+  Sees-trans keeps x y z first second = grind (arith, cases_eq)
+
+  -- if each sees exactly what its least sibling sees, linked siblings see the same
+  pub siblings-from_least : (least : ℕ → ℕ) →
+      ((x y : ℕ) → Sees linked level parent x y → least x ≤ y) →
+      ((x y : ℕ) → Sees linked level parent x y → Sees linked level parent (least x) y) →
+      ((x y : ℕ) → Sees linked level parent (least x) y → Sees linked level parent x y) →
+      (a b c : ℕ) → AreSiblings level parent a b → AreSiblings level parent b c →
+      IsTrue (linked a b) → IsTrue (linked b c) → a ≢ c → IsTrue (linked a c)
+  siblings-from_least least below to_least from_least a b c a_b b_c a_to_b b_to_c other =
+      let P : ℕ → Type 0 = λ m. Sees linked level parent m c in
+      let sees : Sees linked level parent a b = inr (a_b, a_to_b) in
+      let same : least b ≡ least a = le_antisymm (no_less b a (Sees-sym linked simple level parent a b sees)) (no_less a b sees) in
+      elim (from_least a c (subst P same (to_least b c (inr (b_c, b_to_c))))) [
+        | inl e ↦ absurd (other e)
+        | inr s ↦ s.1
+      ]
+    where
+      no_less : (x y : ℕ) → Sees linked level parent x y → least x ≤ least y
+      no_less x y h =
+          let back = to_least y x (Sees-sym linked simple level parent x y h) in
+          below x (least y) (Sees-sym linked simple level parent (least y) x back)
+
+-- Links of a row tested one by one against the family.
+
+-- a property at each index of a row holds for each link
+pub for_each_link : (rows : List (List ℕ)) (at : ℕ) (row : List ℕ) (P : ℕ → Type 0) → row ≡ links_at rows at → ((k : ℕ) → k < length row → P (get_or row k 0)) → (b : ℕ) → IsTrue (linked rows at b) → P b
+for_each_link rows at row P is each b link =
+    let p = row_place rows at b row is link in
+    subst P p.2 (each p.0 p.1)
+
+-- an item of a row is a member
+pub link_within : (rows : List (List ℕ)) (at k : ℕ) (row : List ℕ) → IsGraph rows → row ≡ links_at rows at → k < length row → get_or row k 0 < length rows
+link_within rows at k row graph is lt = graph.within at (get_or row k 0) (row_link rows at k row is lt)
+
+pub FirstSibling-here : (rows : List (List ℕ)) (at k : ℕ) (row : List ℕ) (parents : List (Option ℕ)) → IsGraph rows → row ≡ links_at rows at → k < length row →
+    ((i : ℕ) → i < k → ¬ Siblings parents at (get_or row i 0)) → Siblings parents at (get_or row k 0) → FirstSibling (linked rows) parents at (get_or row k 0)
+FirstSibling-here rows at k row parents graph is lt earlier here = record {
+  linked_sibling = (row_link rows at k row is lt, here);
+  first = λ b sibling.
+      let p = row_place rows at b row is sibling.0 in
+      elim (cases_lt p.0 k) [
+        | inl before ↦ absurd (earlier p.0 before (subst (Siblings parents at) (sym p.2) sibling.1))
+        | inr after ↦
+            elim (cases_eq p.0 k) [
+              | inl same ↦ omega (arith, ap (λ j. get_or row j 0) same, p.2)
+              | inr differ ↦ omega (arith, row_rises rows at row graph is k p.0 (omega arith) p.1, p.2)
+            ]
+      ];
+}
+
+-- If links keep to a family, they are parted.
+
+-- x is k generations below z
+abbrev pub IsBelow : {A : Type 0} → (A → ℕ) → (A → A) → A → ℕ → A → Type 0
+IsBelow level parent z zero x = x ≡ z
+IsBelow level parent z (suc k) x = (0 < level x) × IsBelow level parent z k (parent x)
+
+-- equal members are equally far below
+same_below : {A : Type 0} (level : A → ℕ) (parent : A → A) (z : A) (k : ℕ) (x y : A) → x ≡ y →
+    IsBelow level parent z k x → IsBelow level parent z k y
+same_below {A} level parent z k x y e h = let P : A → Type 0 = λ m. IsBelow level parent z k m in subst P e h
+
+module _ {A : Type 0} (can : CanTell A) (linked : A → A → Bool) (simple : Simple linked) (level : A → ℕ) (parent : A → A)
+    (family : IsFamily linked level parent) (keeps : KeepsToFamily linked level parent) where
+  level-below : (z : A) (k : ℕ) (x : A) → IsBelow level parent z k x → level x ≡ k + level z
+  level-below z zero x h = let e = ap level h in omega arith
+  level-below z (suc k) x h = omega (arith, family.level_below x h.0, level-below z k (parent x) h.1)
+
+  level-child : (b a : A) → IsParent level parent b a → level a ≡ suc (level b)
+  level-child b a h = omega (arith, family.level_below a h.0, ap level h.1)
+
+  -- a link around b leads from a descendant of b to another one
+  stays_below : (b x y : A) → IsTrue (linked x y) → b ≢ y → (k : ℕ) → IsBelow level parent b (suc k) x →
+      (j : ℕ) × IsBelow level parent b (suc j) y
+  stays_below b x y link other k h =
+      elim (keeps.links x y link) [
+        | inl child ↦ (suc k, (child.0, same_below level parent b (suc k) x (parent y) (sym child.1) h))
+        | inr rest ↦ elim rest [
+          | inl up ↦ above k h.1 up.1
+          | inr alike ↦ (k, (alike.1, same_below level parent b k (parent x) (parent y) alike.2 h.1))
+        ]
+      ]
+    where
+      above : (k : ℕ) → IsBelow level parent b k (parent x) → parent x ≡ y → (j : ℕ) × IsBelow level parent b (suc j) y
+      above zero h e = absurd (other (sym h ∙ e))
+      above (suc k) h e = (k, same_below level parent b (suc k) (parent x) y e h)
+
+  -- z is a child of b that is a, or is linked with a
+  abbrev IsBeside : A → A → A → Type 0
+  IsBeside b a z = IsParent level parent b z × ((z ≡ a) ⊎ IsTrue (linked a z))
+
+  -- x descends from such a child of b
+  abbrev InBranch : A → A → A → Type 0
+  InBranch b a x = (z : A) × (k : ℕ) × IsBeside b a z × IsBelow level parent z k x
+
+  -- a link between two children of b leads from a branch to the same one
+  stays_beside : (b a z y : A) → IsParent level parent b a → IsBeside b a z → IsParent level parent b y → IsTrue (linked z y) → IsBeside b a y
+  stays_beside b a z y at_a at_z at_y link = (
+    at_y,
+    elim at_z.1 [
+      | inl e ↦ inr (link_from linked z a y e link)
+      | inr a_to_z ↦ elim (can y a) [
+        | inl e ↦ inl e
+        | inr other ↦ (let a_z : AreSiblings level parent a z = (at_a.0, at_z.0.0, at_a.1 ∙ sym at_z.0.1) in
+            let z_y : AreSiblings level parent z y = (at_z.0.0, at_y.0, at_z.0.1 ∙ sym at_y.1) in
+            inr (keeps.siblings a z y a_z z_y a_to_z link (λ e. other (sym e))))
+      ]
+    ],
+  )
+
+  -- a link around b leads from a branch to the same one
+  stays_in_branch : (b a : A) → IsParent level parent b a → (x y : A) → InBranch b a x → IsTrue (linked x y) → b ≢ x → b ≢ y → InBranch b a y
+  stays_in_branch b a at_a x y branch link other_x other =
+      let (z, k, at_z, h) = branch in
+      elim (keeps.links x y link) [
+        | inl child ↦ (z, suc k, at_z, (child.0, same_below level parent z k x (parent y) (sym child.1) h))
+        | inr rest ↦ elim rest [
+          | inl up ↦ above z at_z k h up.1
+          | inr alike ↦ beside z at_z k h alike
+        ]
+      ]
+    where
+      above : (z : A) → IsBeside b a z → (k : ℕ) → IsBelow level parent z k x → parent x ≡ y → InBranch b a y
+      above z at_z zero h e = absurd (other (sym at_z.0.1 ∙ (ap parent (sym h) ∙ e)))
+      above z at_z (suc k) h e = (z, k, at_z, same_below level parent z k (parent x) y e h.1)
+
+      beside : (z : A) → IsBeside b a z → (k : ℕ) → IsBelow level parent z k x → AreSiblings level parent x y → InBranch b a y
+      beside z at_z zero h alike =
+          let at_y : IsParent level parent b y = (alike.1, sym alike.2 ∙ (ap parent h ∙ at_z.0.1)) in
+          (y, zero, stays_beside b a z y at_a at_z at_y (link_from linked x z y h link), refl)
+      beside z at_z (suc k) h alike = (z, suc k, at_z, (alike.1, same_below level parent z k (parent x) (parent y) alike.2 h.1))
+
+  -- two children of b that a walk around b joins are linked
+  children_apart : (b a c : A) → IsParent level parent b a → IsParent level parent b c → a ≢ c → Around linked b a c → IsTrue (linked a c)
+  children_apart b a c at_a at_c other around =
+      let start : InBranch b a a = (a, zero, (at_a, inl refl), refl) in
+      let (z, k, at_z, h) = Around-keeps linked b (InBranch b a) (stays_in_branch b a at_a) a c around start in
+      top z at_z k h
+    where
+      top : (z : A) → IsBeside b a z → (k : ℕ) → IsBelow level parent z k c → IsTrue (linked a c)
+      top z at_z zero h = elim at_z.1 [ inl e ↦ absurd (other (sym (h ∙ e))) | inr link ↦ link_to linked a z c (sym h) link ]
+      top z at_z (suc k) h =
+          absurd (omega (arith, level-below z (suc k) c h, level-child b z at_z.0, level-child b c at_c))
+
+  -- no walk around b leads from a child of b to a member not above b's level
+  child_apart : (b a c : A) → IsParent level parent b a → level c ≤ level b → ¬ Around linked b a c
+  child_apart b a c at_a low around =
+      let P : A → Type 0 = λ m. (j : ℕ) × IsBelow level parent b (suc j) m in
+      let start : P a = (zero, (at_a.0, at_a.1)) in
+      let stays = λ (x y : A) (at_x : P x) (link : IsTrue (linked x y)) (other_x : b ≢ x) (other : b ≢ y). stays_below b x y link other at_x.0 at_x.1 in
+      let (k, h) = Around-keeps linked b P stays a c around start in
+      omega (arith, level-below b (suc k) c h)
+
+  low_if_no_child : (b c : A) → IsParent level parent c b ⊎ AreSiblings level parent b c → level c ≤ level b
+  low_if_no_child b c h = grind (arith, level-child)
+
+  -- two links of b that are no children of b are linked
+  no_children_linked : (b a c : A) → IsTrue (linked b a) → IsTrue (linked b c) → a ≢ c →
+      IsParent level parent a b ⊎ AreSiblings level parent b a → IsParent level parent c b ⊎ AreSiblings level parent b c →
+      IsTrue (linked a c)
+  no_children_linked b a c to_a to_c other at_a at_c = grind (arith, link_to)
+
+  pub Parted-from_KeepsToFamily : Parted linked
+  Parted-from_KeepsToFamily b a c to_a to_c other none =
+      Beyond-from_no_around can linked b c a (λ around.
+      elim (keeps.links b a to_a) [
+        | inl child_a ↦ elim (keeps.links b c to_c) [
+          | inl child_c ↦ none (children_apart b a c child_a child_c other around)
+          | inr at_c ↦ child_apart b a c child_a (low_if_no_child b c at_c) around
+        ]
+        | inr at_a ↦ elim (keeps.links b c to_c) [
+          | inl child_c ↦ child_apart b c a child_c (low_if_no_child b a at_a) (Around-sym linked simple b a c around)
+          | inr at_c ↦ none (no_children_linked b a c to_a to_c other at_a at_c)
+        ]
+      ])

@@ -1,13 +1,101 @@
--- A search by levels keeps its queue in order, and ends with all links settled.
-use Rattle.std.proofs.Common.{◌≡◌, ◌≢◌, ◌+◌, ◌<◌, ◌≤◌, ◌⊎◌, ℕ, suc, IsTrue, Option, Some, None, List, length, get_or, sym, ap, ◌∙◌, subst, arith, inl, inr}
-use Rattle.std.proofs.lemmas.Bool.{cases_lt}
+-- The links of one member get a level if they have none yet, and join the queue.
+use Rattle.std.proofs.Common.{◌≡◌, ◌≢◌, ◌==◌, ◌+◌, ◌<◌, ◌++◌, ◌⊎◌, ℕ, zero, suc, true, false, IsTrue, Option, Some, None, is_some, List, [], ◌∷◌, length, get_or, set, refl, sym, ap, ◌∙◌, subst, arith, inl, inr, ◌≤◌, Bool, MatchOption}
+use Rattle.std.specs.List.{list_any}
+use Rattle.std.proofs.lemmas.Bool.{cases_eq, cases_lt, true≢false, false≢true}
+use Rattle.std.proofs.lemmas.List.{get_or_past, length_push, get_or_push, get_or-set_same, get_or-set_other, length-set, get_or_append_left}
 use Rattle.std.proofs.lemmas.Option.{none-some, same_Some}
+use Rattle.model_graph.specs.Levels.{level_of, Distance, AreLevels}
+use Rattle.model_graph.specs.Visits.{Visited, unlevelled}
+use Rattle.model_graph.proofs.Rows.{holds_at, place_of}
 use Rattle.model_graph.specs.Rows.{links_at, linked, IsGraph}
-use Rattle.model_graph.specs.Levels.{level_of}
-use Rattle.model_graph.specs.Visits.{Visited}
-use Rattle.model_graph.specs.Floods.{Flooding, IsSettledFlood}
-use Rattle.model_graph.proofs.Rows.{place_of}
-use Rattle.model_graph.proofs.Visits.{level_cases}
+use Rattle.model_graph.specs.Floods.{Flooding, IsSettledFlood, Flooded, Searched}
+use Rattle.model_graph.specs.Walk.{Among, Walk}
+use Rattle.model_graph.specs.Beyond.{Around}
+
+pub level_within : (levels : List (Option ℕ)) (i m : ℕ) → level_of levels i ≡ Some m → i < length levels
+level_within levels i m e = grind (arith, cases_lt, none-some, get_or_past)
+
+pub level_cases : (o : Option ℕ) → (o ≡ None) ⊎ ((m : ℕ) × (o ≡ Some m))
+level_cases None = inl refl
+level_cases (Some m) = inr (m, refl)
+
+pub none_from : (o : Option ℕ) → is_some o ≡ false → o ≡ None
+none_from o h1 = grind (arith, true≢false)
+
+pub some_from : (o : Option ℕ) → is_some o ≡ true → (m : ℕ) × (o ≡ Some m)
+some_from o h1 = grind (arith, false≢true)
+
+pub unlevelled-set : (levels : List (Option ℕ)) (i level : ℕ) → i < length levels → level_of levels i ≡ None → unlevelled (set levels i (Some level)) + 1 ≡ unlevelled levels
+unlevelled-set [] i level lt e = absurd (omega arith)
+unlevelled-set (None ∷ levels) zero level lt e = refl
+unlevelled-set (Some m ∷ levels) zero level lt e = absurd (none-some m (sym e))
+unlevelled-set (None ∷ levels) (suc i) level lt e = omega (arith, unlevelled-set levels i level (omega arith) e)
+unlevelled-set (Some m ∷ levels) (suc i) level lt e = unlevelled-set levels i level (omega arith) e
+
+-- a link that is left out, or that already has a level
+pub Visited-passed : (links : List ℕ) (count without level : ℕ) (old new : List (Option ℕ)) (queue longer : List ℕ) → Visited links count without level old new queue longer → (get_or links count 0 ≢ without → (m : ℕ) × (level_of new (get_or links count 0) ≡ Some m)) → Visited links (count + 1) without level old new queue longer
+Visited-passed links count without level old new queue longer v here = grind (arith, cases_eq, get_or)
+
+-- a link that gets the level
+pub Visited-made : (links : List ℕ) (count without level : ℕ) (old new : List (Option ℕ)) (queue longer : List ℕ) (other : ℕ) → Visited links count without level old new queue longer → count < length links → get_or links count 0 ≡ other → other ≢ without → other < length new → level_of new other ≡ None → Visited links (count + 1) without level old (set new other (Some level)) queue (longer ++ other ∷ [])
+Visited-made links count without level old new queue longer other v lt here apart inside none =
+    let differs : (i m : ℕ) → level_of new i ≡ Some m → i ≢ other =
+    λ i m e same. none-some m (sym none ∙ (ap (level_of new) (sym same) ∙ e)) in
+    let unmade : (i : ℕ) → i ≡ other → level_of old i ≡ None =
+    λ i same.
+    elim (level_cases (level_of old i)) [
+      | inl e ↦ e
+      | inr w ↦ absurd (differs i w.0 (v.kept i w.0 w.1) same)
+    ] in
+    record {
+      same_length = length-set new other (Some level) ∙ v.same_length;
+      grows = omega (arith, v.grows, length_push longer other);
+      front = λ k low. get_or_append_left longer (other ∷ []) 0 k (omega (arith, v.grows)) ∙ v.front k low;
+      kept = λ i m e. get_or-set_other new other i (Some level) None (differs i m (v.kept i m e)) ∙ v.kept i m e;
+      made = λ i m e.
+          elim (cases_eq i other) [
+            | inl same ↦ inr (
+              same_Some m level (sym e ∙ (ap (λ j. level_of (set new other (Some level)) j) same ∙ get_or-set_same new other (Some level) None inside)),
+              unmade i same,
+              subst (λ j. IsTrue (list_any (λ link. link == j) links)) (sym same) (holds_at links other count lt here),
+              (λ (bad : i ≡ without). apart (sym same ∙ bad)),
+              (length longer, v.grows, omega (arith, length_push longer other), get_or_push longer other 0 (length longer) refl ∙ sym same),
+            )
+            | inr differ ↦
+                elim (v.made i m (sym (get_or-set_other new other i (Some level) None differ) ∙ e)) [
+                  | inl was ↦ inl was
+                  | inr w ↦ inr (w.0, w.1, w.2, w.3, (w.4.0, w.4.1, omega (arith, w.4.2, length_push longer other), get_or_append_left longer (other ∷ []) 0 w.4.0 w.4.2 ∙ w.4.3))
+                ]
+          ];
+      back = λ k low high.
+          elim (cases_lt k (length longer)) [
+            | inl before ↦
+                let was = v.back k low before in
+                let at = get_or_append_left longer (other ∷ []) 0 k before in (
+                  ap (level_of old) at ∙ was.0,
+                  ap (level_of (set new other (Some level))) at ∙ (get_or-set_other new other (get_or longer k 0) (Some level) None (differs (get_or longer k 0) level was.1) ∙ was.1),
+                )
+            | inr last ↦
+                let at : get_or (longer ++ other ∷ []) k 0 ≡ other = get_or_push longer other 0 k (omega (arith, length_push longer other)) in (
+                  ap (level_of old) at ∙ unmade other refl,
+                  ap (level_of (set new other (Some level))) at ∙ get_or-set_same new other (Some level) None inside,
+                )
+          ];
+      reached = λ k low apart_k.
+          elim (cases_eq (get_or links k 0) other) [
+            | inl same ↦ (level, ap (level_of (set new other (Some level))) same ∙ get_or-set_same new other (Some level) None inside)
+            | inr differ ↦
+                elim (cases_eq k count) [
+                  | inl e ↦ absurd (differ (ap (λ j. get_or links j 0) e ∙ here))
+                  | inr earlier ↦
+                      let was = v.reached k (omega arith) apart_k in
+                      (was.0, get_or-set_other new other (get_or links k 0) (Some level) None differ ∙ was.1)
+                ]
+          ];
+      spent = omega (arith, v.spent, unlevelled-set new other level inside none, length_push longer other);
+    }
+
+-- A search by levels keeps its queue in order, and ends with all links settled.
 
 -- a member has one level
 pub one_level : (levels : List (Option ℕ)) (i m n : ℕ) → level_of levels i ≡ Some m → level_of levels i ≡ Some n → m ≡ n
@@ -135,3 +223,84 @@ Flooding-step rows without root old levels new queue longer head member level gr
             | inr a ↦ omega (arith, a.1)
           ];
     }
+
+-- The levels of one search are the distances from its root.
+
+-- a walk and one link more
+pub Walk-push : {A : Type 0} (links : A → A → Bool) (a b c : A) (rest : List A) → Walk links a rest b → IsTrue (links b c) → Walk links a (rest ++ c ∷ []) c
+Walk-push links a b c [] same link = (subst (λ x. IsTrue (links x c)) (sym same) link, refl)
+Walk-push links a b c (d ∷ rest) walk link = (walk.0, Walk-push links d b c rest walk.1 link)
+
+pub Among-push_cases : {A : Type 0} (x y : A) (xs : List A) → Among x (xs ++ y ∷ []) → Among x xs ⊎ (x ≡ y)
+Among-push_cases x y [] (inl e) = inr e
+Among-push_cases x y [] (inr none) = absurd none
+Among-push_cases x y (z ∷ xs) (inl e) = inl (inl e)
+Among-push_cases x y (z ∷ xs) (inr later) =
+    elim (Among-push_cases x y xs later) [
+      | inl h ↦ inl (inr h)
+      | inr e ↦ inr e
+    ]
+
+pub not_alone : {A : Type 0} (x a : A) → x ≢ a → ¬ Among x (a ∷ [])
+not_alone x a h1 = grind arith
+
+-- a member with a level is reached by a walk of that many links
+reached_by : (links : ℕ → ℕ → Bool) (without root : ℕ) (old levels : List (Option ℕ)) → ((i : ℕ) → level_of old i ≡ None) → root ≢ without → Flooded links without root old levels → (m b : ℕ) → level_of levels b ≡ Some m → (rest : List ℕ) × Walk links root rest b × ¬ Among without (root ∷ rest) × (length rest ≡ m)
+reached_by links without root old levels fresh apart f zero b e =
+    elim (f.made b 0 e) [
+      | inl oldest ↦ absurd (none-some 0 (sym (fresh b) ∙ oldest))
+      | inr s ↦
+          elim s.1 [
+            | inl here ↦ ([], sym here.1, not_alone without root (λ is. apart (sym is)), refl)
+            | inr w ↦ absurd (omega (arith, w.3))
+          ]
+    ]
+reached_by links without root old levels fresh apart f (suc m) b e =
+    elim (f.made b (suc m) e) [
+      | inl oldest ↦ absurd (none-some (suc m) (sym (fresh b) ∙ oldest))
+      | inr s ↦
+          elim s.1 [
+            | inl here ↦ absurd (omega (arith, here.0))
+            | inr w ↦
+                let same : w.1 ≡ m = omega (arith, w.3) in
+                let back = reached_by links without root old levels fresh apart f m w.0 (w.4 ∙ ap Some same) in (
+                  back.0 ++ b ∷ [],
+                  Walk-push links root w.0 b back.0 back.1 w.2,
+                  (λ (bad : Among without (root ∷ back.0 ++ b ∷ [])).
+                      elim (Among-push_cases without b (root ∷ back.0) bad) [
+                        | inl h ↦ back.2 h
+                        | inr is ↦ s.0 (sym is)
+                      ]),
+                  omega (arith, length_push back.0 b, back.3),
+                )
+          ]
+    ]
+
+-- and each walk that does not pass the member left out meets members with levels that rise by one at most
+levels_along : (links : ℕ → ℕ → Bool) (without : ℕ) (levels : List (Option ℕ)) → IsSettledFlood links without levels → (rest : List ℕ) (a b m : ℕ) → level_of levels a ≡ Some m → Walk links a rest b → ¬ Among without rest → (n : ℕ) × (level_of levels b ≡ Some n) × (n ≤ m + length rest)
+levels_along links without levels s [] a b m e same clear = (m, ap (level_of levels) (sym same) ∙ e, omega arith)
+levels_along links without levels s (c ∷ rest) a b m e walk clear =
+    let next = s a c m e walk.0 (λ (bad : c ≡ without). clear (inl (sym bad))) in
+    let last = levels_along links without levels s rest c b next.0 next.1 walk.1 (λ h. clear (inr h)) in
+    (last.0, last.1, omega (arith, next.2, last.2))
+
+pub Searched-from_flooded : (links : ℕ → ℕ → Bool) (without root : ℕ) (old levels : List (Option ℕ)) → ((i : ℕ) → level_of old i ≡ None) → Flooded links without root old levels → Searched links without root levels
+Searched-from_flooded links without root old levels fresh f = grind (arith, none-some)
+
+pub MatchOption-from : {X : Type 0} (o : Option X) (P : Type 0) (Q : X → Type 0) → (o ≡ None → P) → ((x : X) → o ≡ Some x → Q x) → MatchOption o P Q
+MatchOption-from o P Q h1 h2 = grind arith
+
+pub AreLevels-from_flooded : (links : ℕ → ℕ → Bool) (without root : ℕ) (old levels : List (Option ℕ)) → ((i : ℕ) → level_of old i ≡ None) → root ≢ without → Flooded links without root old levels → AreLevels links without root levels
+AreLevels-from_flooded links without root old levels fresh apart f b =
+    let along = levels_along links without levels f.settled in
+    MatchOption-from (level_of levels b) (¬ Around links without root b) (Distance links without root b)
+    (λ none (w : Around links without root b).
+    let found = along w.0 root b 0 f.rooted w.1 (λ h. w.2 (inr h)) in
+    none-some found.0 (sym none ∙ found.1))
+    (λ m e. record {
+      reached = reached_by links without root old levels fresh apart f m b e;
+      fewest = λ rest walk clear.
+          let found = along rest root b 0 f.rooted walk (λ h. clear (inr h)) in
+          let same = one_level levels b found.0 m found.1 e in
+          omega (arith, found.2);
+    })

@@ -8,10 +8,10 @@ use Rattle.model_graph.specs.Family.{IsFamily, IsParent, AreSiblings, KeepsToFam
 use Rattle.model_graph.specs.Rows.{linked, IsGraph}
 use Rattle.model_graph.specs.Levels.{level_of}
 use Rattle.model_graph.specs.Forest.{IsForest, parent_of, IsParentAt, Siblings, LinkedSiblings, AgreesWithFirst, KeepsHere}
-use Rattle.model_graph.proofs.Walks.{Reaches-sym}
 use Rattle.model_graph.proofs.Rows.{linked_within}
-use Rattle.model_graph.proofs.Visits.{level_cases}
 use Rattle.model_graph.proofs.PinchSearch.{Simple-from_graph}
+use Rattle.model_graph.proofs.Members.{Reaches-sym}
+use Rattle.model_graph.proofs.Floods.{level_cases}
 
 -- the level as a number; 0 without a level
 abbrev pub height : List (Option ℕ) → ℕ → ℕ
@@ -42,9 +42,7 @@ pub Siblings-sym : (parents : List (Option ℕ)) (a b : ℕ) → Siblings parent
 Siblings-sym parents a b s = (s.0, s.2, s.1)
 
 pub Siblings-trans : (parents : List (Option ℕ)) (a b c : ℕ) → Siblings parents a b → Siblings parents b c → Siblings parents a c
-Siblings-trans parents a b c s t =
-    let same : t.0 ≡ s.0 = same_Some t.0 s.0 (sym t.1 ∙ s.2) in
-    (s.0, s.1, t.2 ∙ ap Some same)
+Siblings-trans parents a b c s t = grind (arith, same_Some)
 
 Siblings-cases : (parents : List (Option ℕ)) (a b : ℕ) → Siblings parents a b ⊎ (¬ Siblings parents a b)
 Siblings-cases parents a b =
@@ -191,13 +189,7 @@ module _ (rows : List (List ℕ)) (levels parents : List (Option ℕ)) (graph : 
   no_level_past a past = get_or_past levels a None (omega arith)
 
   parent_everywhere : (a : ℕ) → IsParentAt (linked rows) levels a (parent_of parents a)
-  parent_everywhere a =
-      elim (cases_lt a (length rows)) [
-        | inl lt ↦ parents_are a lt
-        | inr past ↦
-            subst (IsParentAt (linked rows) levels a) (sym (get_or_past parents a None (omega arith)))
-            (λ m e. none-some (suc m) (sym (no_level_past a past) ∙ e))
-      ]
+  parent_everywhere a = grind (arith, cases_lt, get_or_past, none-some, no_level_past)
 
   -- the parent of a member above level 0
   parent_above : (a : ℕ) → 0 < height levels a → (p : ℕ) × (parent_of parents a ≡ Some p) × IsParentAt (linked rows) levels a (Some p)
@@ -210,26 +202,16 @@ module _ (rows : List (List ℕ)) (levels parents : List (Option ℕ)) (graph : 
       ]
 
   IsParent-from : (a b : ℕ) → parent_of parents b ≡ Some a → IsParent (height levels) (parent_or_self parents) a b
-  IsParent-from a b e =
-      let at = subst (IsParentAt (linked rows) levels b) e (parent_everywhere b) in
-      let high = height_at levels b (suc at.0) at.1 in
-      (omega arith, parent_at parents b a e)
+  IsParent-from a b e = grind (arith, parent_everywhere, height_at, parent_at)
 
   parent_from : (a b : ℕ) → IsParent (height levels) (parent_or_self parents) a b → parent_of parents b ≡ Some a
-  parent_from a b is =
-      let up = parent_above b is.0 in
-      let same : up.0 ≡ a = sym (parent_at parents b up.0 up.1) ∙ is.1 in
-      up.1 ∙ ap Some same
+  parent_from a b is = grind (arith, parent_above, parent_at)
 
   AreSiblings-from : (a b : ℕ) → Siblings parents a b → AreSiblings (height levels) (parent_or_self parents) a b
-  AreSiblings-from a b s =
-      let of_a = IsParent-from s.0 a s.1 in
-      let of_b = IsParent-from s.0 b s.2 in
-      (of_a.0, of_b.0, of_a.1 ∙ sym of_b.1)
+  AreSiblings-from a b s = grind (arith, IsParent-from)
 
   siblings_from : (a b : ℕ) → AreSiblings (height levels) (parent_or_self parents) a b → Siblings parents a b
-  siblings_from a b s =
-      (parent_or_self parents a, parent_from (parent_or_self parents a) a (s.0, refl), parent_from (parent_or_self parents a) b (s.1, sym s.2))
+  siblings_from a b s = grind (arith, parent_from)
 
   root_level : (a : ℕ) → a < length rows → height levels a ≡ 0 → level_of levels a ≡ Some 0
   root_level a lt low =
@@ -283,21 +265,4 @@ module _ (rows : List (List ℕ)) (levels parents : List (Option ℕ)) (graph : 
   }
 
   pub KeepsHere-from_family : KeepsToFamily (linked rows) (height levels) (parent_or_self parents) → (a : ℕ) → a < length rows → KeepsHere (linked rows) parents a
-  KeepsHere-from_family family a lt = (
-    (λ b link.
-        elim (family.links a b link) [
-          | inl down ↦ inl (parent_from a b down)
-          | inr other ↦
-              elim other [
-                | inl up ↦ inr (inl (parent_from b a up))
-                | inr s ↦ inr (inr (siblings_from a b s))
-              ]
-        ]),
-    (λ r first before.
-        let s = first.linked_sibling in (
-          (λ b at differ.
-              family.siblings r a b (AreSiblings-from r a (Siblings-sym parents a r s.1)) (AreSiblings-from a b at.1) (graph.both_ways a r s.0) at.0 (λ is. differ (sym is))),
-          (λ b at differ.
-              family.siblings a r b (AreSiblings-from a r s.1) (AreSiblings-from r b at.1) s.0 at.0 (λ is. differ (sym is))),
-        )),
-  )
+  KeepsHere-from_family family a lt = grind (arith, parent_from, siblings_from, AreSiblings-from, Siblings-sym)

@@ -1,34 +1,31 @@
 -- Pinches found link by link.
-use Rattle.std.proofs.Common.{◌≡◌, ◌≢◌, ◌<◌, ℕ, Bool, IsTrue, Option, None, List, length, get_or, sym, ap, ◌∙◌, subst, arith, inl, inr}
+use Rattle.std.proofs.Common.{◌≡◌, ◌≢◌, ◌<◌, ℕ, Bool, IsTrue, Option, None, List, length, get_or, sym, ap, ◌∙◌, subst, arith, inl, inr, Some, MatchOption, [], ◌∷◌}
 use Rattle.std.proofs.lemmas.Bool.{cases_eq, cases_lt}
 use Rattle.std.proofs.lemmas.Option.{MatchOption-at_some, MatchOption-at_none}
-use Rattle.model_graph.specs.Walk.{Simple}
+use Rattle.model_graph.specs.Walk.{Simple, Among, Walk, Reaches, Connected}
 use Rattle.model_graph.specs.Beyond.{Around, Parted}
 use Rattle.model_graph.specs.Rows.{links_at, linked, IsGraph}
 use Rattle.model_graph.specs.Levels.{level_of, Distance, AreLevels}
 use Rattle.model_graph.specs.Pinches.{IsPinch, FirstOther, FirstHere}
-use Rattle.model_graph.proofs.Members.{ℕ-can_tell}
-use Rattle.model_graph.proofs.Around.{Around-sym, Beyond-from_no_around}
+use Rattle.model_graph.proofs.Members.{ℕ-can_tell, Around-sym, Beyond-from_no_around, Connected-from_root}
 use Rattle.model_graph.proofs.Rows.{holds_at, place_of}
-use Rattle.model_graph.proofs.Visits.{level_cases}
+use Rattle.model_graph.specs.Reach.{FirstUnreached}
+use Rattle.model_graph.proofs.Floods.{level_cases}
 
 pub Simple-from_graph : (rows : List (List ℕ)) → IsGraph rows → Simple (linked rows)
 Simple-from_graph rows graph = record { both_ways = graph.both_ways; no_self = graph.no_self }
 
 -- each item of a member's row is a link
 pub row_link : (rows : List (List ℕ)) (at k : ℕ) (row : List ℕ) → row ≡ links_at rows at → k < length row → IsTrue (linked rows at (get_or row k 0))
-row_link rows at k row is lt =
-    holds_at (links_at rows at) (get_or row k 0) k (subst (λ (links : List ℕ). k < length links) is lt) (ap (λ (links : List ℕ). get_or links k 0) (sym is))
+row_link rows at k row is lt = grind (arith, holds_at, get_or)
 
 -- each link has an index in the row
 pub row_place : (rows : List (List ℕ)) (at c : ℕ) (row : List ℕ) → row ≡ links_at rows at → IsTrue (linked rows at c) → (k : ℕ) × (k < length row) × (get_or row k 0 ≡ c)
-row_place rows at c row is link =
-    subst (λ (links : List ℕ). (k : ℕ) × (k < length links) × (get_or links k 0 ≡ c)) (sym is) (place_of (links_at rows at) c link)
+row_place rows at c row is link = grind (arith, get_or, place_of)
 
 -- items of a row ascend
 pub row_rises : (rows : List (List ℕ)) (at : ℕ) (row : List ℕ) → IsGraph rows → row ≡ links_at rows at → (i j : ℕ) → i < j → j < length row → get_or row i 0 < get_or row j 0
-row_rises rows at row graph is =
-    subst (λ (links : List ℕ). (i j : ℕ) → i < j → j < length links → get_or links i 0 < get_or links j 0) (sym is) (graph.ascending at)
+row_rises rows at row graph is = grind (arith, get_or)
 
 pub around_from_level : (links : ℕ → ℕ → Bool) (x root b : ℕ) (levels : List (Option ℕ)) → AreLevels links x root levels → level_of levels b ≢ None → Around links x root b
 around_from_level links x root b levels are some =
@@ -40,8 +37,7 @@ around_from_level links x root b levels are some =
     ]
 
 pub level_from_around : (links : ℕ → ℕ → Bool) (x root b : ℕ) (levels : List (Option ℕ)) → AreLevels links x root levels → Around links x root b → level_of levels b ≢ None
-level_from_around links x root b levels are around none =
-    MatchOption-at_none (¬ Around links x root b) (Distance links x root b) none (are b) around
+level_from_around links x root b levels are around none = grind (arith, MatchOption-at_none)
 
 -- the first suitable link makes the first pinch
 pub FirstOther-here : (rows : List (List ℕ)) (at one k : ℕ) (row : List ℕ) (levels : List (Option ℕ)) → IsGraph rows → row ≡ links_at rows at → k < length row → IsTrue (linked rows at one) → AreLevels (linked rows) at one levels →
@@ -69,8 +65,7 @@ FirstOther-here rows at one k row levels graph is lt link are earlier order some
 
 -- an unsuitable link makes no pinch
 pub not_pinch_here : (rows : List (List ℕ)) (at one c : ℕ) (levels : List (Option ℕ)) → AreLevels (linked rows) at one levels → ¬ ((one < c) × (level_of levels c ≢ None) × ¬ IsTrue (linked rows one c)) → ¬ IsPinch (linked rows) at one c
-not_pinch_here rows at one c levels are not_other pinch =
-    not_other (pinch.in_order, level_from_around (linked rows) at one c levels are pinch.around, pinch.not_linked)
+not_pinch_here rows at one c levels are not_other pinch = grind (arith, level_from_around)
 
 -- with no link left, there is no pinch
 pub no_pinch_in_row : (rows : List (List ℕ)) (at one : ℕ) (row : List ℕ) → row ≡ links_at rows at → ((i : ℕ) → i < length row → ¬ IsPinch (linked rows) at one (get_or row i 0)) → (c : ℕ) → ¬ IsPinch (linked rows) at one c
@@ -116,3 +111,37 @@ Parted-from_no_pinch links simple none b a c link_a link_c differ apart =
         around = Around-sym links simple b a c around;
       })
     ])
+
+-- The levels from member 0 decide which walks the whole graph has.
+
+-- a walk from a member passes members only
+pub not_past_members : (rows : List (List ℕ)) → IsGraph rows → (rest : List ℕ) (a b : ℕ) → a < length rows → Walk (linked rows) a rest b → ¬ Among (length rows) (a ∷ rest)
+not_past_members rows graph rest a b lt walk (inl is) = absurd (omega arith)
+not_past_members rows graph [] a b lt walk (inr later) = absurd later
+not_past_members rows graph (c ∷ rest) a b lt walk (inr later) =
+    not_past_members rows graph rest c b (graph.within a c walk.0) walk.1 later
+
+pub around_none : (rows : List (List ℕ)) → IsGraph rows → (a b : ℕ) → a < length rows → Reaches (linked rows) a b → Around (linked rows) (length rows) a b
+around_none rows graph a b lt walk = (walk.0, walk.1, not_past_members rows graph walk.0 a b lt walk.1)
+
+pub level_of_reached : (rows : List (List ℕ)) (levels : List (Option ℕ)) → IsGraph rows → AreLevels (linked rows) (length rows) 0 levels → (b : ℕ) → level_of levels b ≢ None → Reaches (linked rows) 0 b
+level_of_reached rows levels graph are b some =
+    let around = around_from_level (linked rows) (length rows) 0 b levels are some in
+    (around.0, around.1)
+
+pub Connected-from_levels : (rows : List (List ℕ)) (levels : List (Option ℕ)) → IsGraph rows → AreLevels (linked rows) (length rows) 0 levels → ((k : ℕ) → k < length rows → level_of levels k ≢ None) → Connected (λ member. member < length rows) (linked rows)
+Connected-from_levels rows levels graph are all =
+    Connected-from_root (λ member. member < length rows) (linked rows) (Simple-from_graph rows graph) 0 (λ a lt. level_of_reached rows levels graph are a (all a lt))
+
+pub FirstUnreached-from_levels : (rows : List (List ℕ)) (levels : List (Option ℕ)) → IsGraph rows → AreLevels (linked rows) (length rows) 0 levels → 0 < length rows → (u : ℕ) → (u < length rows) × (level_of levels u ≡ None) × ((k : ℕ) → k < u → level_of levels k ≢ None) → FirstUnreached (linked rows) (length rows) u
+FirstUnreached-from_levels rows levels graph are some u h = record {
+  within = h.0;
+  apart = λ walk. level_from_around (linked rows) (length rows) 0 u levels are (around_none rows graph 0 u some walk) h.1;
+  first = λ k lt. level_of_reached rows levels graph are k (h.2 k lt);
+}
+
+pub answered : (rows : List (List ℕ)) (levels : List (Option ℕ)) → IsGraph rows → AreLevels (linked rows) (length rows) 0 levels → 0 < length rows → length levels ≡ length rows → (found : Option ℕ) →
+    MatchOption found ((k : ℕ) → k < length levels → level_of levels k ≢ None) (λ u. (u < length levels) × (level_of levels u ≡ None) × ((k : ℕ) → k < u → level_of levels k ≢ None)) →
+    MatchOption found (Connected (λ member. member < length rows) (linked rows)) (FirstUnreached (linked rows) (length rows))
+answered rows levels graph are some same None all = Connected-from_levels rows levels graph are (λ k lt. all k (omega arith))
+answered rows levels graph are some same (Some u) h = FirstUnreached-from_levels rows levels graph are some u (omega (arith, h.0), h.1, h.2)

@@ -6,8 +6,7 @@ use Rattle.model_graph.specs.Walk.{Among, Different, IsAt, Simple}
 use Rattle.model_graph.specs.Cycle.{Cycle, IsCycle}
 use Rattle.model_graph.specs.Pinches.{IsPinch, FirstPinch}
 use Rattle.model_graph.specs.Loops.{FirstWalk, HasUnlinked, turned, IsWritten, NamedLoop}
-use Rattle.model_graph.proofs.Members.{Among-index, Among-get_or, Among-append_left, Among-append_right, Among-append_cases, Different-push}
-use Rattle.model_graph.proofs.Walks.{walk_ends}
+use Rattle.model_graph.proofs.Members.{Among-index, Among-get_or, Among-append_left, Among-append_right, Among-append_cases, Different-push, walk_ends}
 use Rattle.model_graph.proofs.Turns.{IsCycle-rotated, IsCycle-turned, Cycle-reversed, reverse-cons as reverse_cons}
 
 -- the pinch and the walk around it make a cycle
@@ -20,10 +19,7 @@ Cycle-from_pinch links simple b a c (d ∷ rest) pinch first = record {
 }
 
 pub turned_next : (ring : List ℕ) (k : ℕ) → k < length ring → (turned k ring ≡ get_or ring k 0 ∷ (drop (k + 1) ring ++ take k ring)) × (turned (k + 1) ring ≡ (drop (k + 1) ring ++ take k ring) ++ get_or ring k 0 ∷ [])
-turned_next ring k lt = (
-  ap (λ (xs : List ℕ). xs ++ take k ring) (drop_more ring k 0 lt),
-  ap (λ (xs : List ℕ). drop (k + 1) ring ++ xs) (take_more ring k 0 lt) ∙ sym (append_assoc (drop (k + 1) ring) (take k ring) (get_or ring k 0 ∷ [])),
-)
+turned_next ring k lt = grind (arith, drop_more, take_more, append_assoc, get_or)
 
 turned_past : (ring : List ℕ) (k : ℕ) → length ring ≤ k → turned k ring ≡ ring
 turned_past ring k past = ap (λ (xs : List ℕ). xs ++ take k ring) (drop_all k ring past) ∙ take_all k ring past
@@ -58,20 +54,10 @@ Among-turned x k ring among =
 
 -- the written form of a cycle is a cycle
 pub IsCycle-written : (links : ℕ → ℕ → Bool) → Simple links → (ring loop : List ℕ) → IsWritten ring loop → IsCycle links ring → IsCycle links loop
-IsCycle-written links simple ring loop written cycle =
-    let round = IsCycle-begun_at links ring cycle written.goes_round.0 in
-    elim written.goes_round.1 [
-      | inl same ↦ subst (IsCycle links) (sym same) round
-      | inr same ↦ subst (IsCycle links) (sym same) (IsCycle-reversed links simple (turned written.goes_round.0 ring) round)
-    ]
+IsCycle-written links simple ring loop written cycle = grind (arith, IsCycle-begun_at, IsCycle-reversed)
 
 pub Among-written : (x : ℕ) (ring loop : List ℕ) → IsWritten ring loop → Among x ring → Among x loop
-Among-written x ring loop written among =
-    let round = Among-turned x written.goes_round.0 ring among in
-    elim written.goes_round.1 [
-      | inl same ↦ subst (Among x) (sym same) round
-      | inr same ↦ subst (Among x) (sym same) (Among-reverse x (turned written.goes_round.0 ring) round)
-    ]
+Among-written x ring loop written among = grind (arith, Among-turned, Among-reverse)
 
 -- the written loop of a pinch is a cycle with two members that are not linked
 pub loop_cycle : (links : ℕ → ℕ → Bool) → Simple links → (b a c : ℕ) (rest ring loop : List ℕ) → IsPinch links b a c → FirstWalk links b a c rest → ring ≡ b ∷ a ∷ rest → IsWritten ring loop →
@@ -139,8 +125,7 @@ smallest_first ring loop k is least m x at among =
 
 -- the two neighbours of the first member, as numbers
 sides : (loop : List ℕ) → get_or loop 1 0 < get_or loop (length loop - 1) 0 → (second last : ℕ) → IsAt loop 1 second → IsAt loop (length loop - 1) last → second < last
-sides loop smaller second last at_second at_last =
-    omega (arith, smaller, at_place loop 1 second at_second, at_place loop (length loop - 1) last at_last)
+sides loop smaller second last at_second at_last = grind (arith, at_place)
 
 pub IsWritten-forth : (ring loop : List ℕ) (k : ℕ) → k < length ring → ((j : ℕ) → j < length ring → get_or ring k 0 ≤ get_or ring j 0) → loop ≡ turned k ring → get_or loop 1 0 < get_or loop (length ring - 1) 0 → IsWritten ring loop
 IsWritten-forth ring loop k lt least is smaller =
@@ -178,7 +163,4 @@ IsWritten-back ring forth loop k long different lt least forth_is greater is =
 
 -- the members of a ring are three or more, all different
 pub ring_is_cycle : (links : ℕ → ℕ → Bool) (b a c : ℕ) (rest ring : List ℕ) → Simple links → IsPinch links b a c → FirstWalk links b a c rest → ring ≡ b ∷ a ∷ rest → (3 ≤ length ring) × Different ring
-ring_is_cycle links b a c rest ring simple pinch walk is =
-    let cycle = Cycle-from_pinch links simple b a c rest pinch walk in
-    let long : 2 ≤ length (a ∷ rest) = cycle.long in
-    (omega (arith, ap length is), subst Different (sym is) cycle.different)
+ring_is_cycle links b a c rest ring simple pinch walk is = grind (arith, Cycle-from_pinch)

@@ -3,8 +3,7 @@ use Rattle.std.proofs.Common.{◌≡◌, inl, inr, refl, sym, subst, arith, Bool
 use Rattle.std.proofs.lemmas.List.{reverse-append}
 use Rattle.model_graph.specs.Walk.{Simple, Among, Different, Walk}
 use Rattle.model_graph.specs.Cycle.{Cycle, IsCycle}
-use Rattle.model_graph.proofs.Members.{Among-append_cases, Different-push}
-use Rattle.model_graph.proofs.Walks.{link_to, walk_append}
+use Rattle.model_graph.proofs.Members.{Among-append_cases, Different-push, link_to, walk_append}
 use Rattle.model_graph.proofs.Cycles.{cycle_turned}
 
 -- reversal puts the first member last

@@ -22,7 +22,7 @@ use Rattle.model_steps.specs.Stamps.{is_stamp}
 use Rattle.model_steps.specs.Tossing.{sender_of}
 use Rattle.model_run.specs.Event.{run_event}
 use Rattle.model_run.specs.declared.event.Event.{Event}
-use Rattle.model_run.proofs.States.{tossing-state}
+use Rattle.model_run.proofs.StandingRuns.{tossing-state}
 use Rattle.model_run.specs.Run.{Run, System, after_event, change, changing, coming, delivery, destination, filing, fresh, nth, posting_at, purging_at, receiver, run_of, scanning, scanning_at, start, taking, tossing_at}
 use Rattle.model_replay.specs.Worlds.{Exported, Fits, IsWorldOf, ScanFits, WorldState, own_addresses, after_posting, after_purge, after_scan, after_toss, arrived, exported_from, first_at, made, made_by, scanned_world, state_of, with_change, world_after}
 use Rattle.model_replay.proofs.Changes.{read-nth}

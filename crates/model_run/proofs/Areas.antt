@@ -1,35 +1,40 @@
 -- The area in link files, and the keys of its messages.
-use Rattle.std.proofs.Common.{◌≡◌, inl, inr, refl, sym, subst, ap, ◌∙◌, ℕ, IsTrue, List, [], ◌∷◌, map, Option, Some, None}
-use Rattle.std.specs.Prelude.{Bool, true, false, bytes_eq, option_map, unwrap_or, is_some, ◌&&◌}
-use Rattle.std.specs.List.{list_any}
+use Rattle.std.proofs.Common.{◌≡◌, inl, inr, refl, sym, subst, ap, ◌∙◌, ℕ, IsTrue, List, [], ◌∷◌, map, Option, Some, arith, ◌-◌, nat_lt, ◌≢◌, ◌⊎◌, ◌++◌}
+use Rattle.std.specs.Prelude.{Bool, true, false, bytes_eq, is_some, ◌&&◌, not, find}
+use Rattle.std.specs.List.{AllByRecursion, list_all}
 use Rattle.echo_addr.specs.declared.address.Address.{Address}
-use Rattle.echo_addr.specs.Address.{IsAddress}
+use Rattle.echo_addr.specs.Address.{IsAddress, net_node_of}
 use Rattle.model_graph.specs.Walk.{Among, Different}
-use Rattle.model_graph.proofs.Members.{Among-at}
+use Rattle.model_graph.proofs.Members.{Among-at, Among-append_cases, Among-append_left, Among-append_right, Among-from_Contains, Contains-from_Among}
 use Rattle.model_run.specs.Nets.{Tidy}
-use Rattle.echo_links.specs.Links.{Area, LinkFile, area_of, has_area, is_link, links_of, same_address}
+use Rattle.echo_links.specs.Links.{Area, LinkFile, has_area, is_link, links_of, same_address, IsArea, IsFile, upper}
 use Rattle.echo_filed.specs.declared.key.Key.{Key}
 use Rattle.echo_filed.specs.declared.key.Key.TheVariants.{ById}
-use Rattle.echo_text.specs.Echo.{msgid_of}
+use Rattle.echo_text.specs.Echo.{EchoText}
 use Rattle.echo_text.specs.Ids.{id_of}
-use Rattle.echo_filed.specs.Filed.{Filed, key_of, key_with}
+use Rattle.echo_filed.specs.Filed.{Filed, key_of}
 use Rattle.model_run.specs.Run.{System}
 use Rattle.model_run.specs.Orderly.{tag_of}
-use Rattle.model_run.specs.Tidy as files_are
 use Rattle.model_run.specs.Tidy.{lists, Carries}
 use Rattle.model_run.specs.AreaNets.{net_of}
 use Rattle.model_run.proofs.TosserPremises.{Laws}
-use Rattle.model_run.proofs.Lists.{not_both, and-parts, and-from, any-to, any-from}
-use Rattle.model_run.proofs.RulesLists.{Among-map_to, Among-map_from}
+use Rattle.model_run.proofs.Lists.{not_both, and-parts, and-from, any-to, any-from, Among-map_to, Among-map_from, yes_or_no, Among-filter_from, Among-filter_to}
+use Rattle.std.specs.Char.{to_ascii_uppercase}
+use Rattle.std.specs.Cmp.Lexicographic.{bytes_decides}
+use Rattle.std.proofs.lemmas.Bool.{cond-true, cond-false}
+use Rattle.std.proofs.lemmas.Bool.Decides.{nat_tests}
+use Rattle.echo_text.specs.Lines.{is_tag, is_tag_byte}
+use Rattle.echo_addr.specs.declared.address.NetNode.{NetNode}
+use Rattle.echo_links.proofs.Addresses.{same_address_decides}
+use Rattle.echo_filed.specs.Sets.{entry_set, same_entry}
+use Rattle.echo_filed.proofs.Orders.{entry_set_is_set, same_entry_decides}
+use Rattle.model_steps.specs.Scanning.{exported, is_seen_by, is_sender, targets}
+use Rattle.model_run.specs.Tidy as files_are
 
 -- the area of a message's key is the area of the message
 pub key-tag : (m : Filed) → tag_of (key_of m) ≡ m.echo.tag
 unfolding key_of
-key-tag m = with_id (msgid_of m.echo.kept)
-  where
-    with_id : (o : Option (List ℕ)) → tag_of (key_with m o) ≡ m.echo.tag
-    with_id None = refl
-    with_id (Some id) = refl
+key-tag m = grind arith
 
 -- the key of an id of this address in the area
 abbrev pub Wrote : List ℕ → Address → Key → Type 0
@@ -50,26 +55,12 @@ module _ (laws : Laws) where
 
   -- a key has one writer
   pub one-writer : (tag : List ℕ) (f g : Address) (k : Key) → Wrote tag f k → Wrote tag g k → f ≡ g
-  one-writer tag f g k wrote_f wrote_g =
-      let (serial, e) = wrote_f.1 in
-      let (other, e') = wrote_g.1 in
-      let same : id_of f serial ≡ id_of g other = cc in
-      laws.ids f g serial other wrote_f.0 wrote_g.0 same
+  one-writer tag f g k wrote_f wrote_g = grind arith
 
 -- members of a list without repeated names are equal if their names are
 pub one_name : {X Y : Type 0} (g : X → Y) (xs : List X) → Different (map g xs) → (x y : X) → Among x xs → Among y xs → g x ≡ g y → x ≡ y
 one_name g [] d x y i j e = absurd i
-one_name g (z ∷ xs) d x y i j e =
-    elim i [
-      | inl p ↦ elim j [
-        | inl q ↦ p ∙ sym q
-        | inr t ↦ absurd (d.0 (Among-at (g z) (g y) (map g xs) (ap g (sym p) ∙ e) (Among-map_to g y xs t)))
-      ]
-      | inr s ↦ elim j [
-        | inl q ↦ absurd (d.0 (Among-at (g z) (g x) (map g xs) (ap g (sym q) ∙ sym e) (Among-map_to g x xs s)))
-        | inr t ↦ one_name g xs d.1 x y s t e
-      ]
-    ]
+one_name g (z ∷ xs) d x y i j e = grind (arith, Among-at, Among-map_to, one_name g xs d.1 x y)
 
 pub map-map : {X Y Z : Type 0} (g : Y → Z) (f : X → Y) (xs : List X) → map g (map f xs) ≡ map (λ x. g (f x)) xs
 map-map g f [] = refl
@@ -78,68 +69,137 @@ map-map g f (x ∷ xs) = ap (λ (zs : List _). g (f x) ∷ zs) (map-map g f xs)
 -- a file with a link of an area has the area
 pub link-has_area : (file : LinkFile) (tag : List ℕ) (a : Address) → is_link file tag a ≡ true → has_area file tag ≡ true
 unfolding links_of
-link-has_area file tag a h = found (area_of file tag) h
-  where
-    found : (o : Option Area) → list_any (same_address a) (unwrap_or (option_map (λ area. area.links) o) []) ≡ true → is_some o ≡ true
-    found None h = absurd (not_both false h refl)
-    found (Some area) h = refl
+link-has_area file tag a h = grind (arith, not_both)
 
 module _ (laws : Laws) (files : List LinkFile) (tag : List ℕ) (tidy : files_are.Tidy files tag) where
   abbrev linked : Address → Address → Bool
   linked = lists files tag
 
   lists-carries : (a b : Address) → IsTrue (linked a b) → Carries files tag a
-  lists-carries a b h =
-      let (file, i, t) = any-from (λ file. same_address file.system a && is_link file tag b) files h in
-      let both = and-parts (same_address file.system a) (is_link file tag b) t in
-      any-to (λ file. same_address file.system a && has_area file tag) file files i
-      (and-from (same_address file.system a) (has_area file tag) both.0 (link-has_area file tag b both.1))
+  lists-carries a b h = grind (arith, any-from, and-parts, any-to, and-from, link-has_area)
 
   pub tidy-net : Tidy (net_of files tag)
-  tidy-net = record {
-    no_self = tidy.joined.no_self;
-    both = tidy.joined.both;
-    carriers = lists-carries;
-    apart = tidy.joined.apart;
-    connected = tidy.joined.connected;
-    cycles = tidy.cycles;
-  }
+  tidy-net = grind (arith, lists-carries)
 
   -- the systems of a run with these files
   module _ (ss : List System) (same_files : map (λ s. s.file) ss ≡ files) where
     pub addresses_differ : Different (map address_of ss)
-    addresses_differ =
-        let P : List LinkFile → Type 0 = λ fs. Different (map (λ file. file.system) fs) in
-        let Q : List Address → Type 0 = λ names. Different names in
-        subst Q (map-map (λ (file : LinkFile). file.system) (λ (s : System). s.file) ss) (subst P (sym same_files) tidy.joined.one_file)
+    addresses_differ = grind (arith, map-map)
 
     file-of : (file : LinkFile) → Among file files → (s : System) × Among s ss × (file ≡ s.file)
-    file-of file i =
-        let P : List LinkFile → Type 0 = λ fs. Among file fs in
-        Among-map_from (λ (s : System). s.file) file ss (subst P (sym same_files) i)
+    file-of file i = grind (arith, Among-map_from)
 
     pub file-in : (s : System) → Among s ss → Among s.file files
-    file-in s i =
-        let P : List LinkFile → Type 0 = λ fs. Among s.file fs in
-        subst P same_files (Among-map_to (λ (s : System). s.file) s ss i)
+    file-in s i = grind (arith, Among-map_to)
 
     pub lists-link : (s : System) → Among s ss → (b : Address) → IsTrue (linked (address_of s) b) → is_link s.file tag b ≡ true
-    lists-link s at_s b h =
-        let (file, i, t) = any-from (λ file. same_address file.system (address_of s) && is_link file tag b) files h in
-        let both = and-parts (same_address file.system (address_of s)) (is_link file tag b) t in
-        let (z, j, e) = file-of file i in
-        let same : z ≡ s = one_name address_of ss addresses_differ z s j at_s
-        (ap (λ (f : LinkFile). f.system) (sym e) ∙ laws.addresses.sound file.system (address_of s) both.0) in
-        ap (λ (f : LinkFile). is_link f tag b) (ap (λ (t : System). t.file) (sym same) ∙ sym e) ∙ both.1
+    lists-link s at_s b h = grind (arith, any-from, and-parts, file-of, one_name, addresses_differ)
 
     pub link-lists : (s : System) → Among s ss → (b : Address) → is_link s.file tag b ≡ true → IsTrue (linked (address_of s) b)
-    link-lists s at_s b h = any-to (λ file. same_address file.system (address_of s) && is_link file tag b) s.file files (file-in s at_s)
-        (and-from (same_address (address_of s) (address_of s)) (is_link s.file tag b) (laws.addresses.full (address_of s) (address_of s) refl) h)
+    link-lists s at_s b h = grind (arith, any-to, file-in, and-from)
 
     pub area-carries : (s : System) → Among s ss → has_area s.file tag ≡ true → Carries files tag (address_of s)
-    area-carries s at_s h = any-to (λ file. same_address file.system (address_of s) && has_area file tag) s.file files (file-in s at_s)
-        (and-from (same_address (address_of s) (address_of s)) (has_area s.file tag) (laws.addresses.full (address_of s) (address_of s) refl) h)
+    area-carries s at_s h = grind (arith, any-to, file-in, and-from)
 
     -- no two systems have one address
     pub one-system : (s z : System) → Among s ss → Among z ss → address_of s ≡ address_of z → s ≡ z
     one-system = one_name address_of ss addresses_differ
+
+-- The tag of an area that was read has no small letters. So a posting in it can name the tag itself.
+
+upper-byte : (b : ℕ) → is_tag_byte b ≡ true → to_ascii_uppercase b ≡ b
+upper-byte b h = grind (arith, and-parts, yes_or_no, nat_lt, cond-true, cond-false, not_both, nat_tests)
+
+upper-bytes : (tag : List ℕ) → list_all is_tag_byte tag ≡ true → upper tag ≡ tag
+upper-bytes [] h = refl
+upper-bytes (b ∷ tag) h = grind (arith, and-parts, upper-byte, upper-bytes tag)
+
+found : (areas : List Area) (tag : List ℕ) → AllByRecursion IsArea areas → is_some (find (λ (area : Area). bytes_eq area.tag tag) areas) ≡ true → is_tag tag ≡ true
+found [] tag all h = absurd (not_both false h refl)
+found (area ∷ areas) tag all h =
+    elim (yes_or_no (bytes_eq area.tag tag)) [
+      | inl t ↦ ap is_tag (sym ((bytes_decides area.tag tag).0 t)) ∙ all.0.tag_bytes
+      | inr f ↦ found areas tag all.1
+          (sym (ap (λ (o : Option Area). is_some o) (cond-false (bytes_eq area.tag tag) (Some area) (find (λ (area : Area). bytes_eq area.tag tag) areas) f)) ∙ h)
+    ]
+
+pub upper-same : (file : LinkFile) (tag : List ℕ) → IsFile file → has_area file tag ≡ true → upper tag ≡ tag
+upper-same file tag fits h = grind (arith, found, upper-bytes, and-parts, nat_lt)
+
+-- a file with a link of an area has the area
+pub link-area : (file : LinkFile) (tag : List ℕ) (a : Address) → Among a (links_of file tag) → has_area file tag ≡ true
+unfolding links_of
+link-area file tag a h = grind arith
+
+-- Targets of a message, and the entries of an exported copy.
+
+not-true : (b : Bool) → not b ≡ true → b ≡ false
+not-true b h1 = grind (arith, not_both)
+
+-- an address that is a link is among the links
+pub link-among : (file : LinkFile) (tag : List ℕ) (a : Address) → is_link file tag a ≡ true → Among a (links_of file tag)
+link-among file tag a h = grind (arith, any-from, same_address_decides)
+
+pub among-link : (file : LinkFile) (tag : List ℕ) (a : Address) → Among a (links_of file tag) → is_link file tag a ≡ true
+among-link file tag a h = any-to (same_address a) a (links_of file tag) h ((same_address_decides a a).1 refl)
+
+-- a target is a link that is not in SEEN-BY
+pub target-link : (file : LinkFile) (m : Filed) (a : Address) → Among a (targets file m) → Among a (links_of file m.echo.tag)
+unfolding targets
+target-link file m a h = (Among-filter_from (λ link. not (is_sender m link) && not (is_seen_by m link)) a (links_of file m.echo.tag) h).0
+
+pub target-unseen : (file : LinkFile) (m : Filed) (a : Address) → Among a (targets file m) → is_seen_by m a ≡ false
+unfolding targets
+target-unseen file m a h = grind (arith, not-true, and-parts, Among-filter_from)
+
+-- and such a link is a target, unless it sent the message
+pub target-to : (file : LinkFile) (m : Filed) (a : Address) → Among a (links_of file m.echo.tag) → m.sender ≢ Some a → is_seen_by m a ≡ false → Among a (targets file m)
+unfolding targets
+target-to file m a h other unseen = grind (arith, Among-filter_to, and-from, yes_or_no, same_address_decides)
+
+pub listed-from : (file : LinkFile) (e : EchoText) (n : NetNode) → Among n (exported file e).seen →
+    Among n e.seen ⊎ ((n ≡ net_node_of file.system) ⊎ ((z : Address) × Among z (links_of file e.tag) × (n ≡ net_node_of z)))
+unfolding exported
+listed-from file e n h =
+    let own = map net_node_of (file.system ∷ links_of file e.tag) in
+    let all = e.seen ++ own in
+    elim (Among-append_cases n e.seen own (Among-from_Contains n all (((entry_set_is_set all).members n).0 (Contains-from_Among n (entry_set all) h)))) [
+      | inl old ↦ inl old
+      | inr new ↦ elim new [
+        | inl here ↦ inr (inl here)
+        | inr later ↦ inr (inr (Among-map_from net_node_of n (links_of file e.tag) later))
+      ]
+    ]
+
+pub listed-to : (file : LinkFile) (e : EchoText) (n : NetNode) →
+    Among n e.seen ⊎ ((n ≡ net_node_of file.system) ⊎ ((z : Address) × Among z (links_of file e.tag) × (n ≡ net_node_of z))) →
+    Among n (exported file e).seen
+unfolding exported
+listed-to file e n h =
+    let own = map net_node_of (file.system ∷ links_of file e.tag) in
+    let all = e.seen ++ own in
+    let P : NetNode → Type 0 = λ x. Among x own in
+    let there : Among n all = elim h [
+      | inl old ↦ Among-append_left n e.seen own old
+      | inr new ↦ Among-append_right n e.seen own (elim new [
+        | inl here ↦ inl here
+        | inr link ↦ (let (z, i, same) = link in inr (let Q : NetNode → Type 0 = λ x. Among x (map net_node_of (links_of file e.tag)) in
+            subst Q (sym same) (Among-map_to net_node_of z (links_of file e.tag) i)))
+      ])
+    ] in
+    Among-from_Contains n (entry_set all) (((entry_set_is_set all).members n).1 (Contains-from_Among n all there))
+
+pub exported-path : (file : LinkFile) (e : EchoText) → (exported file e).path ≡ e.path ++ net_node_of file.system ∷ []
+unfolding exported
+exported-path file e = refl
+
+pub exported-tag : (file : LinkFile) (e : EchoText) → (exported file e).tag ≡ e.tag
+unfolding exported
+exported-tag file e = refl
+
+-- a seen address has its entry in SEEN-BY
+pub seen-among : (m : Filed) (a : Address) → is_seen_by m a ≡ true → Among (net_node_of a) m.echo.seen
+seen-among m a h = grind (arith, any-from, same_entry_decides)
+
+pub among-seen : (m : Filed) (a : Address) → Among (net_node_of a) m.echo.seen → is_seen_by m a ≡ true
+among-seen m a h = any-to (same_entry (net_node_of a)) (net_node_of a) m.echo.seen h ((same_entry_decides (net_node_of a) (net_node_of a)).1 refl)

@@ -1,24 +1,40 @@
 -- A base, and its history of filed messages.
 use Rattle.std.proofs.Common.{◌≡◌, ◌≢◌, ◌⊎◌, inl, inr, refl, sym, subst, ap, ◌∙◌, ℕ, zero, suc, ◌≤◌, arith, List, [], ◌∷◌, ◌++◌, length, take, drop, map, Option, Some, None}
-use Rattle.std.specs.Prelude.{true, false, bytes_eq, if◌then◌else◌, unwrap_or, option_map}
+use Rattle.std.specs.Prelude.{true, false, bytes_eq, if◌then◌else◌, unwrap_or, option_map, Bool, filter}
 use Rattle.std.specs.List.{list_any}
 use Rattle.model_graph.specs.Walk.{Among}
 use Rattle.model_graph.proofs.Members.{Among-append_cases}
-use Rattle.echo_text.specs.Echo.{IsEcho, msgid_of}
+use Rattle.echo_text.specs.Echo.{IsEcho, msgid_of, EchoText}
 use Rattle.echo_filed.specs.declared.key.Key.{Key}
 use Rattle.echo_filed.specs.declared.key.Key.TheVariants.{ByContent, ById}
 use Rattle.echo_filed.specs.Filed.{Filed, key_of, key_with, same_key}
 use Rattle.base_file.specs.Base.{is_known}
-use Rattle.model_steps.specs.Posting.{has_id}
-use Rattle.echo_filed.specs.Stubs.{stub_of, stub_with}
+use Rattle.model_steps.specs.Posting.{has_id, posted, posting}
+use Rattle.echo_filed.specs.Stubs.{stub_of}
 use Rattle.model_steps.specs.Purging.{purged}
-use Rattle.model_run.specs.Run.{System, filing, nth}
-use Rattle.model_run.specs.Orderly.{count}
-use Rattle.echo_links.specs.Links.{IsFile}
-use Rattle.model_run.proofs.Counts as counts
+use Rattle.model_run.specs.Run.{System, filing, nth, Run, fresh, posting_at, tossing_at, scanning_at, purging_at, change, receiver, changing, scanning, taking, coming, delivery, part_delivery, after_event, start}
+use Rattle.model_run.specs.Orderly.{count, FiledUnchanged, SameContent}
+use Rattle.echo_links.specs.Links.{IsFile, LinkFile, upper}
 use Rattle.model_run.proofs.TosserPremises.{Laws}
-use Rattle.model_run.proofs.Lists.{any-to, any-from, and-parts}
+use Rattle.model_run.proofs.Lists.{any-to, any-from, and-parts, not_both, Among-filter_from, Among-take, Among-drop, change-all, nth-among, Among-map_from}
 use Rattle.model_run.proofs.Targets.{some_same}
+use Rattle.echo_addr.specs.declared.address.Address.{Address}
+use Rattle.echo_packet.specs.Message.{Message}
+use Rattle.echo_text.specs.Refusal.{text_refusal}
+use Rattle.model_steps.specs.declared.packet.Packet.{Packet}
+use Rattle.model_steps.specs.declared.draft.Draft.{Draft}
+use Rattle.model_steps.specs.declared.stamp.Stamp.{Stamp}
+use Rattle.echo_text.specs.Ids.{id_of}
+use Rattle.model_steps.specs.Tossing.{received, tossing, sender_of}
+use Rattle.model_steps.specs.Scanning.{scanned, packets_of, packet_to, header_to, copy_to, recipients, goes_to}
+use Rattle.model_steps.specs.Stamps.{is_stamp}
+use Rattle.echo_filed.specs.Written.{echo_of}
+use Rattle.model_run.specs.Event.{RunEvent, Posting, Scanning, Delivery, PartDelivery, Purging}
+use Rattle.model_run.specs.Fits.{FilesFit}
+use Rattle.model_steps.proofs.Posted.{posting_posted}
+use Rattle.model_steps.proofs.Received.{tossing_received}
+use Rattle.model_run.specs.Keeping.{content_of}
+use Rattle.model_run.proofs.TosserPremises as counts
 
 -- a message of the base is the filed message, or its stub
 pub record IsKept (b h : Filed) : Type 0 where
@@ -76,9 +92,7 @@ pub Kept-count : (key : Key) (c : ℕ) (base history : List Filed) → Kept c ba
 Kept-count key zero base history k = ap (λ (ms : List Filed). count key ms) k
 Kept-count key (suc c) [] history k = absurd k
 Kept-count key (suc c) (b ∷ base) [] k = absurd k
-Kept-count key (suc c) (b ∷ base) (h ∷ history) k =
-    let P : Key → ℕ = λ own. if same_key own key then 1 else 0 in
-    omega (arith, ap P k.0.key, Kept-count key c base history k.1)
+Kept-count key (suc c) (b ∷ base) (h ∷ history) k = grind (arith, Kept-count key c base history k.1)
 
 -- the base has the key of each filed message
 pub Kept-in : (c : ℕ) (base history : List Filed) → Kept c base history → (h : Filed) → Among h history →
@@ -86,11 +100,7 @@ pub Kept-in : (c : ℕ) (base history : List Filed) → Kept c base history → 
 Kept-in zero base history k m i = (m, (let P : List Filed → Type 0 = λ ms. Among m ms in subst P (sym k) i), refl)
 Kept-in (suc c) [] history k m i = absurd k
 Kept-in (suc c) (b ∷ base) [] k m i = absurd k
-Kept-in (suc c) (b ∷ base) (h ∷ history) k m i =
-    elim i [
-      | inl e ↦ (b, inl refl, k.0.key ∙ ap key_of (sym e))
-      | inr t ↦ (let (n, j, e) = Kept-in c base history k.1 m t in (n, inr j, e))
-    ]
+Kept-in (suc c) (b ∷ base) (h ∷ history) k m i = grind (arith, Kept-in c base history k.1 m)
 
 -- each message of the base was filed with its key
 pub Kept-back : (c : ℕ) (base history : List Filed) → Kept c base history → (b : Filed) → Among b base →
@@ -98,11 +108,7 @@ pub Kept-back : (c : ℕ) (base history : List Filed) → Kept c base history �
 Kept-back zero base history k m i = (m, (let P : List Filed → Type 0 = λ ms. Among m ms in subst P k i), IsKept-itself m)
 Kept-back (suc c) [] history k m i = absurd i
 Kept-back (suc c) (b ∷ base) [] k m i = absurd k
-Kept-back (suc c) (b ∷ base) (h ∷ history) k m i =
-    elim i [
-      | inl e ↦ (h, inl refl, (let P : Filed → Type 0 = λ n. IsKept n h in subst P (sym e) k.0))
-      | inr t ↦ (let (n, j, e) = Kept-back c base history k.1 m t in (n, inr j, e))
-    ]
+Kept-back (suc c) (b ∷ base) (h ∷ history) k m i = grind (arith, Kept-back c base history k.1 m)
 
 -- each message of the base before the cursor was filed before it
 pub Kept-front : (c : ℕ) (base history : List Filed) → Kept c base history → (b : Filed) → Among b (take c base) →
@@ -110,51 +116,27 @@ pub Kept-front : (c : ℕ) (base history : List Filed) → Kept c base history �
 Kept-front zero base history k m i = absurd i
 Kept-front (suc c) [] history k m i = absurd k
 Kept-front (suc c) (b ∷ base) [] k m i = absurd k
-Kept-front (suc c) (b ∷ base) (h ∷ history) k m i =
-    elim i [
-      | inl e ↦ (h, inl refl, (let P : Filed → Type 0 = λ n. IsKept n h in subst P (sym e) k.0))
-      | inr t ↦ (let (n, j, e) = Kept-front c base history k.1 m t in (n, inr j, e))
-    ]
+Kept-front (suc c) (b ∷ base) (h ∷ history) k m i = grind (arith, Kept-front c base history k.1 m)
 
 -- messages at one index of base and history
 pub Kept-at : (c : ℕ) (base history : List Filed) → Kept c base history → (i : ℕ) (b h : Filed) →
     nth i base ≡ Some b → nth i history ≡ Some h → IsKept b h
-Kept-at zero base history k i b h e f =
-    let same : b ≡ h = some_same (sym e ∙ (ap (λ (ms : List Filed). nth i ms) k ∙ f)) in
-    let P : Filed → Type 0 = λ n. IsKept b n in
-    subst P same (IsKept-itself b)
+Kept-at zero base history k i b h e f = grind (arith, some_same, IsKept-itself)
 Kept-at (suc c) [] history k i b h e f = absurd k
 Kept-at (suc c) (b' ∷ base) [] k i b h e f = absurd k
-Kept-at (suc c) (b' ∷ base) (h' ∷ history) k zero b h e f =
-    let P : Filed → Type 0 = λ n. IsKept n h' in
-    let Q : Filed → Type 0 = λ n. IsKept b n in
-    subst Q (some_same f) (subst P (some_same e) k.0)
+Kept-at (suc c) (b' ∷ base) (h' ∷ history) k zero b h e f = grind (arith, some_same)
 Kept-at (suc c) (b' ∷ base) (h' ∷ history) k (suc i) b h e f = Kept-at c base history k.1 i b h e f
 
 stub-sender : (m : Filed) → (stub_of m).sender ≡ m.sender
 unfolding stub_of
-stub-sender m = with_id (msgid_of m.echo.kept)
-  where
-    with_id : (o : Option (List ℕ)) → (stub_with m o).sender ≡ m.sender
-    with_id None = refl
-    with_id (Some id) = refl
+stub-sender m = grind arith
 
 module _ (laws : Laws) where
   purged_kept : (c : ℕ) (base history : List Filed) → Kept c base history → Kept c (map stub_of (take c base) ++ drop c base) history
   purged_kept zero base history k = k
   purged_kept (suc c) [] history k = absurd k
   purged_kept (suc c) (b ∷ base) [] k = absurd k
-  purged_kept (suc c) (b ∷ base) (h ∷ history) k = (
-    record {
-      form = inr (elim k.0.form [
-        | inl same ↦ ap stub_of same
-        | inr stub ↦ ap stub_of stub ∙ laws.stub_again h
-      ]);
-      key = laws.stub_key b ∙ k.0.key;
-      sender = stub-sender b ∙ k.0.sender;
-    },
-    purged_kept c base history k.1,
-  )
+  purged_kept (suc c) (b ∷ base) (h ∷ history) k = grind (arith, stub-sender, purged_kept c base history k.1)
 
   pub Kept-purged : (c : ℕ) (base history : List Filed) → Kept c base history → Kept c (purged base c) history
   unfolding purged
@@ -179,16 +161,11 @@ HasKey key ms = (m : Filed) × Among m ms × (key_of m ≡ key)
 module _ (laws : Laws) (s : System) (ok : SystemOk s) where
   -- a key that the history has is known
   pub known-from_history : (key : Key) → HasKey key s.history → is_known s.base key ≡ true
-  known-from_history key has =
-      let (b, i, e) = Kept-in s.cursor s.base s.history ok.kept has.0 has.1 in
-      any-to (λ m. same_key (key_of m) key) b s.base i (laws.keys.full (key_of b) key (e ∙ has.2))
+  known-from_history key has = grind (arith, Kept-in, any-to)
 
   -- the history has each key that the base knows
   pub known-in_history : (key : Key) → is_known s.base key ≡ true → HasKey key s.history
-  known-in_history key known =
-      let (b, i, t) = any-from (λ m. same_key (key_of m) key) s.base known in
-      let (h, j, e) = Kept-back s.cursor s.base s.history ok.kept b i in
-      (h, j, sym e.key ∙ laws.keys.sound (key_of b) key t)
+  known-in_history key known = grind (arith, any-from, Kept-back)
 
   -- and the id of a message in the history
   has_id-from_key : (m : Filed) (tag id : List ℕ) → key_of m ≡ ById tag id → has_id id m ≡ true
@@ -205,9 +182,7 @@ module _ (laws : Laws) (s : System) (ok : SystemOk s) where
           (and-parts (bytes_eq tag tag) (bytes_eq id x) (laws.keys.full (ById tag id) (ById tag x) (ap (λ (y : List ℕ). ById tag y) same))).1
 
   pub id-from_history : (tag id : List ℕ) → HasKey (ById tag id) s.history → list_any (has_id id) s.base ≡ true
-  id-from_history tag id has =
-      let (b, i, e) = Kept-in s.cursor s.base s.history ok.kept has.0 has.1 in
-      any-to (has_id id) b s.base i (has_id-from_key b tag id (e ∙ has.2))
+  id-from_history tag id has = grind (arith, Kept-in, any-to, has_id-from_key)
 
   count_filed : (m : Filed) (key : Key) → ¬ HasKey (key_of m) s.history → count key (s.history ++ m ∷ []) ≤ 1
   count_filed m key fresh =
@@ -245,3 +220,170 @@ module _ (laws : Laws) (s : System) (ok : SystemOk s) where
     ];
     once = λ key. count_filed m key fresh;
   }
+
+-- Properties of every run, on every net.
+
+-- the invariant of a packet
+pub record PacketOk (p : Packet) : Type 0 where
+  pub zone : p.header.orig_zone ≢ 0
+  pub messages : (q : Message) → Among q p.messages → (text_refusal q.text ≡ None) × IsEcho (echo_of q.text)
+
+pub record RunOk (run : Run) : Type 0 where
+  pub systems : (s : System) → Among s run.systems → SystemOk s
+  pub packets : (p : Packet) → Among p run.packets → PacketOk p
+
+module _ (laws : Laws) where
+  filed_ok : (s : System) (o : Option Filed) → SystemOk s →
+      ((m : Filed) → o ≡ Some m → IsEcho m.echo × (¬ HasKey (key_of m) s.history)) → SystemOk (filing s o)
+  filed_ok s None ok h = ok
+  filed_ok s (Some m) ok h = filing-ok laws s ok m (h m refl).0 (h m refl).1
+
+  pub posted-fresh : (s : System) → SystemOk s → (tag : List ℕ) (draft : Draft) (serial : ℕ) (stamp : Stamp) →
+      list_any (has_id (id_of s.file.system serial)) s.base ≡ false → ¬ HasKey (key_of (posted s.file tag draft serial stamp)) s.history
+  posted-fresh s ok tag draft serial stamp new has =
+      let id = id_of s.file.system serial in
+      let by_id : HasKey (ById (upper tag) id) s.history = (has.0, has.1, has.2 ∙ laws.posted_key s.file tag draft serial stamp ok.file) in
+      not_both (list_any (has_id id) s.base) (id-from_history laws s ok (upper tag) id by_id) new
+
+  pub posting-ok : (tag : List ℕ) (draft : Draft) (serial : ℕ) (stamp : Stamp) (s : System) → SystemOk s → SystemOk (posting_at tag draft serial stamp s)
+  posting-ok tag draft serial stamp s ok = filed_ok s (posting s.file s.base tag draft serial stamp) ok (λ m e.
+      let done = posting_posted s.file s.base tag draft serial stamp m e in
+      let P : Filed → Type 0 = λ n. IsEcho n.echo × (¬ HasKey (key_of n) s.history) in
+      subst P (sym done.is) (
+        laws.posted_text s.file s.base tag draft serial stamp ok.file done.allowed,
+        posted-fresh s ok tag draft serial stamp done.allowed.new,
+      ))
+
+  pub received-echo : (sender : Address) (q : Message) → (received sender q).echo ≡ echo_of q.text
+  unfolding received
+  received-echo sender q = refl
+
+  pub tossed-fresh : (s : System) → SystemOk s → (m : Filed) → is_known s.base (key_of m) ≡ false → ¬ HasKey (key_of m) s.history
+  tossed-fresh s ok m new has = not_both (is_known s.base (key_of m)) (known-from_history laws s ok (key_of m) has) new
+
+  pub tossing_one-ok : (sender : Address) (q : Message) (s : System) → SystemOk s → (text_refusal q.text ≡ None → IsEcho (echo_of q.text)) →
+      SystemOk (filing s (tossing s.file s.base sender q))
+  tossing_one-ok sender q s ok echo = filed_ok s (tossing s.file s.base sender q) ok (λ m e.
+      let (to_file, is) = tossing_received s.file s.base sender q m e in
+      let P : Filed → Type 0 = λ n. IsEcho n.echo × (¬ HasKey (key_of n) s.history) in
+      let Q : EchoText → Type 0 = λ e. IsEcho e in
+      subst P (sym is) (subst Q (sym (received-echo sender q)) (echo to_file.text), tossed-fresh s ok (received sender q) to_file.new))
+
+  pub tossing-ok : (sender : Address) (ms : List Message) (s : System) → SystemOk s →
+      ((q : Message) → Among q ms → text_refusal q.text ≡ None → IsEcho (echo_of q.text)) → SystemOk (tossing_at sender ms s)
+  tossing-ok sender [] s ok h = ok
+  tossing-ok sender (q ∷ ms) s ok h =
+      tossing-ok sender ms (filing s (tossing s.file s.base sender q)) (tossing_one-ok sender q s ok (h q (inl refl))) (λ r i. h r (inr i))
+
+  pub scanning-ok : (s : System) → SystemOk s → SystemOk (scanning_at s)
+  scanning-ok s ok = grind (arith, Kept-scanned)
+
+  pub purging-ok : (s : System) → SystemOk s → SystemOk (purging_at s)
+  purging-ok s ok = grind (arith, Kept-purged)
+
+  -- waiting messages are as they were filed
+  pub waiting-valid : (s : System) → SystemOk s → (m : Filed) → Among m (drop s.cursor s.base) → IsEcho m.echo
+  waiting-valid s ok m h = grind (arith, Among-drop, Kept-waiting)
+
+  copy-ok : (file : LinkFile) (address : Address) (m : Filed) → IsFile file → IsEcho m.echo →
+      (text_refusal (copy_to file address m).text ≡ None) × IsEcho (echo_of (copy_to file address m).text)
+  unfolding copy_to
+  copy-ok file address m fits echo = grind arith
+
+  pub packet-ok : (file : LinkFile) (stamp : Stamp) (waiting : List Filed) (address : Address) → IsFile file →
+      ((m : Filed) → Among m waiting → IsEcho m.echo) → PacketOk (packet_to file stamp waiting address)
+  unfolding packet_to header_to
+  packet-ok file stamp waiting address fits valid = record {
+    zone = (let least = fits.address.zone in λ e. absurd (omega (arith, least, e)));
+    messages = λ q h.
+        let (m, i, e) = Among-map_from (copy_to file address) q (filter (goes_to file address) waiting) h in
+        let P : Message → Type 0 = λ r. (text_refusal r.text ≡ None) × IsEcho (echo_of r.text) in
+        subst P (sym e) (copy-ok file address m fits (valid m (Among-filter_from (goes_to file address) m waiting i).0));
+  }
+
+  pub scanned-from : (file : LinkFile) (base : List Filed) (cursor : ℕ) (stamp : Stamp) (p : Packet) → Among p (scanned file base cursor stamp) →
+      (address : Address) × Among address (recipients file (drop cursor base)) × (p ≡ packet_to file stamp (drop cursor base) address)
+  unfolding scanned packets_of
+  scanned-from file base cursor stamp p h = Among-map_from (packet_to file stamp (drop cursor base)) p (recipients file (drop cursor base)) h
+
+  scanned-ok : (s : System) → SystemOk s → (stamp : Stamp) (p : Packet) → Among p (scanned s.file s.base s.cursor stamp) → PacketOk p
+  scanned-ok s ok stamp p h =
+      let (address, i, e) = scanned-from s.file s.base s.cursor stamp p h in
+      let P : Packet → Type 0 = λ q. PacketOk q in
+      subst P (sym e) (packet-ok s.file stamp (drop s.cursor s.base) address ok.file (waiting-valid s ok))
+
+  pub changing-ok : (run : Run) (i : ℕ) (f : System → System) → ((s : System) → SystemOk s → SystemOk (f s)) → RunOk run → RunOk (changing run i f)
+  changing-ok run i f keeps ok = record { systems = change-all (λ s. SystemOk s) i f keeps run.systems ok.systems; packets = ok.packets }
+
+  taking-ok : (p : Packet) → PacketOk p → (n : ℕ) (s : System) → SystemOk s → SystemOk (taking p n s)
+  taking-ok p ok n s at_s = tossing-ok (sender_of s.file p.header) (take n p.messages) s at_s (λ q h _. (ok.messages q (Among-take n q p.messages h)).1)
+
+  scanning-step : (run : Run) (i : ℕ) (stamp : Stamp) (found : Option System) → ((s : System) → found ≡ Some s → SystemOk s) →
+      RunOk run → RunOk (scanning run i stamp found)
+  scanning-step run i stamp None h ok = ok
+  scanning-step run i stamp (Some s) h ok = scans (is_stamp stamp)
+    where
+      scans : (b : Bool) → RunOk (if b then record {
+        systems = change i scanning_at run.systems;
+        packets = run.packets ++ scanned s.file s.base s.cursor stamp;
+        delivered = run.delivered;
+      } else run)
+      scans true = record {
+        systems = change-all (λ t. SystemOk t) i scanning_at scanning-ok run.systems ok.systems;
+        packets = λ p j. elim (Among-append_cases p run.packets (scanned s.file s.base s.cursor stamp) j) [
+          | inl old ↦ ok.packets p old
+          | inr new ↦ scanned-ok s (h s refl) stamp p new
+        ];
+      }
+      scans false = ok
+
+  coming-step : (run : Run) (k : ℕ) (p : Packet) (found : Option System) → PacketOk p → RunOk run → RunOk (coming run k p found)
+  coming-step run k p None at_p ok = ok
+  coming-step run k p (Some s) at_p ok = record {
+    systems = change-all (λ t. SystemOk t) (receiver run p) (taking p (length p.messages)) (taking-ok p at_p (length p.messages)) run.systems ok.systems;
+    packets = ok.packets;
+  }
+
+  delivery-step : (run : Run) (k : ℕ) (found : Option Packet) → ((p : Packet) → found ≡ Some p → PacketOk p) → RunOk run → RunOk (delivery run k found)
+  delivery-step run k found h1 h2 = grind (arith, coming-step)
+
+  part-step : (run : Run) (n : ℕ) (found : Option Packet) → ((p : Packet) → found ≡ Some p → PacketOk p) → RunOk run → RunOk (part_delivery run n found)
+  part-step run n None h ok = ok
+  part-step run n (Some p) h ok = changing-ok run (receiver run p) (taking p n) (taking-ok p (h p refl) n) ok
+
+  pub event-ok : (run : Run) (event : RunEvent) → RunOk run → RunOk (after_event run event)
+  event-ok run (Posting i tag draft serial stamp) ok = changing-ok run i (posting_at tag draft serial stamp) (posting-ok tag draft serial stamp) ok
+  event-ok run (Scanning i stamp) ok =
+      scanning-step run i stamp (nth i run.systems) (λ s e. ok.systems s (nth-among i s run.systems e)) ok
+  event-ok run (Delivery k) ok = delivery-step run k (nth k run.packets) (λ p e. ok.packets p (nth-among k p run.packets e)) ok
+  event-ok run (PartDelivery k n) ok = part-step run n (nth k run.packets) (λ p e. ok.packets p (nth-among k p run.packets e)) ok
+  event-ok run (Purging i) ok = changing-ok run i purging_at purging-ok ok
+
+  pub fresh-ok : (file : LinkFile) → IsFile file → SystemOk (fresh file)
+  fresh-ok file fits = record { file = fits; kept = refl; valid = λ m j. absurd j; once = λ key. omega arith }
+
+  pub start-ok : (files : List LinkFile) → FilesFit files → RunOk (start files)
+  start-ok files fits = grind (arith, Among-map_from, fresh-ok)
+
+-- on every net each system has filed each message at most once
+pub filed-once : (run : Run) → RunOk run → (s : System) → Among s run.systems → (key : Key) → count key s.base ≤ 1
+filed-once run ok s h key =
+    let at_s = ok.systems s h in
+    omega (arith, at_s.once key, Kept-count key s.cursor s.base s.history at_s.kept)
+
+-- A system filed a message once, unchanged.
+
+-- messages with equal content agree part by part
+pub same-parts : (m o : Filed) → content_of m ≡ content_of o → SameContent m o
+same-parts m o e = grind arith
+
+module _ (laws : Laws) where
+  -- messages that a system filed with one key are equal
+  pub one-message : (s : System) → SystemOk s → (m n : Filed) → Among m s.history → Among n s.history → key_of m ≡ key_of n → m ≡ n
+  one-message s ok m n i j e =
+      let few : counts.count key_of same_key (key_of n) s.history ≤ 1 = omega (arith, count-is (key_of n) s.history, ok.once (key_of n)) in
+      counts.count-names_one key_of same_key laws.keys (key_of n) s.history few m n i j e refl
+
+  pub filed-unchanged : (s : System) → SystemOk s → (o : Filed) → count (key_of o) s.history ≡ 1 →
+      ((m : Filed) → Among m s.history → key_of m ≡ key_of o → SameContent m o) → FiledUnchanged s o
+  filed-unchanged s ok o filed same = grind (arith, Kept-count, Kept-back, one-message)

@@ -1,5 +1,5 @@
 -- A posting spreads in branches, one for each link of the poster; links join two branches only at those links.
-use Rattle.std.proofs.Common.{◌≡◌, ◌≢◌, ◌⊎◌, inl, inr, refl, sym, subst, ap, ◌∙◌, ℕ, zero, suc, ◌≤◌, arith, IsTrue, List, [], ◌∷◌, ◌++◌, length, Some}
+use Rattle.std.proofs.Common.{◌≡◌, ◌≢◌, ◌⊎◌, inl, inr, refl, sym, subst, ap, ◌∙◌, ℕ, zero, suc, ◌≤◌, arith, IsTrue, List, [], ◌∷◌, ◌++◌, length}
 use Rattle.std.specs.Prelude.{Bool, true, false}
 use Rattle.echo_addr.specs.declared.address.Address.{Address}
 use Rattle.echo_addr.specs.declared.address.NetNode.{NetNode}
@@ -33,17 +33,7 @@ module _ (linked : Address → Address → Bool) (Carrier : Address → Type 0) 
 
   -- a message from a system other than the poster keeps its branch
   same_branch : (x : Address) (m : Filed) (c : Came linked Holds x m) → c.from ≢ f → branch x m ≡ branch c.from c.original
-  same_branch x m c other =
-      elim (source linked Carrier f Holds spread c.from c.original c.holds) [
-        | inl here ↦ absurd (other here.0)
-        | inr d ↦ (
-            let own = net_node_of x in
-            let e = net_node_of c.from in
-            let g = net_node_of d.from in
-            ap (λ (es : List NetNode). second own es) (c.path ∙ ap (λ (es : List NetNode). es ++ e ∷ []) d.path)
-            ∙ (second-more own e g d.original.echo.path ∙ ap (λ (es : List NetNode). second e es) (sym d.path))
-            )
-      ]
+  same_branch x m c other = grind (arith, source, second-more)
 
   -- a link of the poster begins a branch
   own_branch : (x : Address) (m : Filed) → IsTrue (linked f x) → Holds x m → branch x m ≡ net_node_of x
@@ -57,15 +47,7 @@ module _ (linked : Address → Address → Bool) (Carrier : Address → Type 0) 
   -- a system other than the poster sends a message within its branch
   sent_on : (u : Address) (n : Filed) → Holds u n → u ≢ f → (y : Address) (k : Filed) → Holds y k → IsTrue (linked u y) →
       is_seen_by n y ≡ false → branch u n ≡ branch y k
-  sent_on u n at_u u_other y k at_y link unseen =
-      let not_sender : n.sender ≢ Some y = λ e.
-      (let (c, from) = came_from linked Carrier f Holds spread u n at_u y e in
-      not_both (is_seen_by n y) (c.seen_to y (inr (inl (ap (λ (a : Address). net_node_of a) (sym from))))) unseen) in
-      let (c, from) = came_from linked Carrier f Holds spread y k at_y u (spread.sole u n y k at_u link unseen not_sender at_y) in
-      let P : Address → Type 0 = λ a. Holds a c.original in
-      let same = spread.one u c.original n (subst P from c.holds) at_u in
-      let Q : Address → Type 0 = λ a. branch a c.original ≡ branch u c.original in
-      sym (same_branch y k c (λ e. u_other (sym from ∙ e)) ∙ (subst Q (sym from) refl ∙ ap (λ (m : Filed). branch u m) same))
+  sent_on u n at_u u_other y k at_y link unseen = grind (arith, came_from, not_both, same_branch)
 
   -- a system in SEEN-BY is a link of the poster, or belongs to the branch
   module _ (y : Address) (k : Filed) (at_y : Holds y k) (y_other : y ≢ f) where
@@ -123,44 +105,20 @@ module _ (linked : Address → Address → Bool) (Carrier : Address → Type 0) 
   -- a link joins two systems of one branch, or two links of the poster
   both_sides : (x : Address) (m : Filed) (y : Address) (k : Filed) → Holds x m → Holds y k → x ≢ f → y ≢ f → IsTrue (linked x y) →
       (IsTrue (linked f x) × IsTrue (linked f y)) ⊎ (branch x m ≡ branch y k)
-  both_sides x m y k at_x at_y x_other y_other link =
-      elim (one_side x m y k at_x at_y x_other y_other link) [
-        | inr same ↦ inr same
-        | inl to_y ↦ elim (one_side y k x m at_y at_x y_other x_other (simple.both_ways x y link)) [
-          | inr same ↦ inr (sym same)
-          | inl to_x ↦ inl (to_x, to_y)
-        ]
-      ]
+  both_sides x m y k at_x at_y x_other y_other link = grind (arith, one_side)
 
 -- d is a or a link of a
 abbrev pub Touches : (Address → Address → Bool) → Address → Address → Type 0
 Touches linked a d = (d ≡ a) ⊎ IsTrue (linked a d)
 
 pub touches-cases : (linked : Address → Address → Bool) (a d : Address) → Touches linked a d ⊎ (¬ Touches linked a d)
-touches-cases linked a d =
-    elim (one_or_two d a) [
-      | inl e ↦ inl (inl e)
-      | inr other ↦ elim (yes_or_no (linked a d)) [
-        | inl t ↦ inl (inr t)
-        | inr f ↦ inr (λ h. elim h [ inl e ↦ other e | inr t ↦ not_both (linked a d) t f ])
-      ]
-    ]
+touches-cases linked a d = grind (arith, one_or_two, yes_or_no, not_both)
 
 -- of two linked links of b, c touches both or neither, if c is in no kite
 pub closed-by : (linked : Address → Address → Bool) (b c : Address) → ¬ IsTrue (linked b b) →
     ((x y : Address) → IsTrue (linked c x) → IsTrue (linked b y) → IsTrue (linked x y) → y ≢ c → ¬ IsTrue (linked c y) → b ≡ x) →
     (x y : Address) → IsTrue (linked b x) → IsTrue (linked b y) → IsTrue (linked x y) → Touches linked c x → Touches linked c y
-closed-by linked b c not_self no_kite x y to_x to_y side touches =
-    elim touches [
-      | inl e ↦ (let P : Address → Type 0 = λ z. IsTrue (linked z y) in inr (subst P e side))
-      | inr near ↦ elim (touches-cases linked c y) [
-        | inl so ↦ so
-        | inr not_so ↦ (
-            let P : Address → Type 0 = λ z. IsTrue (linked b z) in
-            absurd (not_self (subst P (sym (no_kite x y near to_y side (λ e. not_so (inl e)) (λ t. not_so (inr t)))) to_x))
-            )
-      ]
-    ]
+closed-by linked b c not_self no_kite x y to_x to_y side touches = grind (arith, touches-cases)
 
 module _ (linked : Address → Address → Bool) (Carrier : Address → Type 0) (f : Address) (Holds : Address → Filed → Type 0)
     (spread : Spread linked Carrier f Holds) (simple : Simple linked)
@@ -199,8 +157,7 @@ module _ (linked : Address → Address → Bool) (Carrier : Address → Type 0) 
 
   along_walk : (x : Address) (rest : List Address) (c : Address) → Walk linked x rest c → ¬ Among f (x ∷ rest) → IsClose x → IsClose c
   along_walk x [] c w around close = let P : Address → Type 0 = IsClose in subst P w close
-  along_walk x (y ∷ rest) c w around close =
-      along_walk y rest c w.1 (λ h. around (inr h)) (stays_close x y w.0 (λ e. around (inl (sym e))) (λ e. around (inr (inl (sym e)))) close)
+  along_walk x (y ∷ rest) c w around close = grind (arith, stays_close, along_walk y rest c w.1)
 
   -- no walk leads around the poster from one of its links to another that is not linked with it
   pub no_way_around : (c : Address) → IsTrue (linked f a) → IsTrue (linked f c) → ¬ Touches linked a c →

@@ -1,5 +1,5 @@
 -- The contents of the packets of a scan.
-use Rattle.std.proofs.Common.{◌≡◌, ◌≢◌, inl, inr, refl, sym, subst, ap, ◌∙◌, ℕ, List, [], ◌∷◌, ◌++◌, map, Option, Some, None}
+use Rattle.std.proofs.Common.{◌≡◌, ◌≢◌, inl, inr, refl, sym, subst, ap, ℕ, List, [], ◌∷◌, ◌++◌, map, Option, Some, None, arith}
 use Rattle.std.specs.Prelude.{Bool, true, false, filter, not, ◌&&◌, is_none, unwrap_or, option_map}
 use Rattle.std.specs.List.{flat_map}
 use Rattle.echo_addr.specs.declared.address.Address.{Address}
@@ -12,14 +12,13 @@ use Rattle.echo_text.specs.Echo.{EchoText, IsEcho, msgid_of}
 use Rattle.echo_text.specs.Refusal.{text_refusal}
 use Rattle.echo_text.specs.declared.fault.TextFault.{TextFault}
 use Rattle.model_steps.specs.declared.stamp.Stamp.{Stamp}
-use Rattle.echo_links.specs.Links.{LinkFile, is_link, links_of, same_address}
+use Rattle.echo_links.specs.Links.{LinkFile, is_link, links_of, same_address, IsFile}
 use Rattle.echo_filed.specs.Sets.{same_entry}
 use Rattle.echo_filed.specs.Filed.{Filed, key_of, key_with}
 use Rattle.model_steps.specs.Tossing.{received}
 use Rattle.model_steps.specs.Scanning.{packet_to, header_to, copy_to, exported, goes_to, targets, is_sender, is_seen_by, recipients}
 use Rattle.model_run.specs.Run.{destination}
 use Rattle.model_run.specs.Orderly.{copies}
-use Rattle.echo_links.specs.Links.{IsFile}
 use Rattle.model_run.proofs.TosserPremises.{Laws}
 use Rattle.model_run.proofs.Lists.{not_both, yes_or_no, and-parts, and-from, any-to, any-from, filter-yes, Among-filter_from, Among-filter_to}
 use Rattle.model_run.specs.Keeping.{content_of}
@@ -82,11 +81,7 @@ module _ (laws : Laws) (file : LinkFile) where
     all_copied : (address : Address) (ms : List Filed) → ((m : Filed) → Among m ms → IsEcho m.echo) →
         map (received file.system) (filter echomail (map (copy_to file address) ms)) ≡ map (copied file) ms
     all_copied address [] valid = refl
-    all_copied address (m ∷ ms) valid =
-        let (read, same) = received-copy address m (valid m (inl refl)) in
-        let later = all_copied address ms (λ n i. valid n (inr i)) in
-        ap (λ (qs : List Message). map (received file.system) qs) (filter-yes echomail (copy_to file address m) (map (copy_to file address) ms) read)
-        ∙ (let q = same in let l = later in cc)
+    all_copied address (m ∷ ms) valid = grind (arith, received-copy, filter-yes, all_copied address ms)
 
     pub copies-are : (stamp : Stamp) (waiting : List Filed) (address : Address) → ((m : Filed) → Among m waiting → IsEcho m.echo) →
         copies (packet_to file stamp waiting address) ≡ map (copied file) (filter (goes_to file address) waiting)
@@ -162,11 +157,7 @@ module _ (laws : Laws) (file : LinkFile) where
 
   among_flat : {X Y : Type 0} (g : X → List Y) (y : Y) (x : X) (xs : List X) → Among x xs → Among y (g x) → Among y (flat_map g xs)
   among_flat g y x [] h i = absurd h
-  among_flat {X} {Y} g y x (z ∷ xs) h i =
-      elim h [
-        | inl e ↦ (let P : X → Type 0 = λ w. Among y (g w) in Among-append_left y (g z) (flat_map g xs) (subst P e i))
-        | inr t ↦ Among-append_right y (g z) (flat_map g xs) (among_flat g y x xs t i)
-      ]
+  among_flat {X} {Y} g y x (z ∷ xs) h i = grind (arith, Among-append_left, Among-append_right, among_flat g y x xs)
 
   -- a target of a message gets a packet
   pub target-recipient : (waiting : List Filed) (m : Filed) (a : Address) → Among m waiting → Targeted m a → Among a (recipients file waiting)

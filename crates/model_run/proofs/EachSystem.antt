@@ -1,5 +1,5 @@
 -- An invariant of each single system holds in every run.
-use Rattle.std.proofs.Common.{refl, subst, sym, ℕ, List, [], ◌∷◌, length, Option, Some, None}
+use Rattle.std.proofs.Common.{refl, subst, sym, ℕ, List, [], ◌∷◌, length, Option, Some, None, arith}
 use Rattle.std.specs.Prelude.{Bool, true, false, ◌++◌, take, if◌then◌else◌}
 use Rattle.echo_addr.specs.declared.address.Address.{Address}
 use Rattle.model_graph.specs.Walk.{Among}
@@ -14,11 +14,10 @@ use Rattle.model_steps.specs.Stamps.{is_stamp}
 use Rattle.model_steps.specs.Tossing.{sender_of, tossing}
 use Rattle.model_run.specs.Event.{RunEvent, Posting, Scanning, Delivery, PartDelivery, Purging}
 use Rattle.model_run.specs.Run.{System, Run, after_event, change, coming, delivery, filing, fresh, nth, part_delivery, posting_at, purging_at, receiver, run_of, scanning, scanning_at, start, taking, tossing_at}
-use Rattle.model_run.proofs.Lists.{change-all}
+use Rattle.model_run.proofs.Lists.{change-all, Among-map_from}
 use Rattle.model_run.proofs.Bases.{Kept, Kept-filed, Kept-purged, Kept-scanned}
 use Rattle.model_run.proofs.WholeRuns.{along}
 use Rattle.model_run.proofs.TosserPremises.{Laws}
-use Rattle.model_run.proofs.RulesLists.{Among-map_from}
 
 module _ (P : System → Type 0) (filed : (s : System) (o : Option Filed) → P s → P (filing s o))
     (scans : (s : System) → P s → P (scanning_at s)) (purges : (s : System) → P s → P (purging_at s)) where
@@ -27,8 +26,7 @@ module _ (P : System → Type 0) (filed : (s : System) (o : Option Filed) → P 
 
   tosses : (sender : Address) (ms : List Message) (s : System) → P s → P (tossing_at sender ms s)
   tosses sender [] s at = at
-  tosses sender (q ∷ ms) s at =
-      tosses sender ms (filing s (tossing s.file s.base sender q)) (filed s (tossing s.file s.base sender q) at)
+  tosses sender (q ∷ ms) s at = grind (arith, tosses sender ms (filing s (tossing s.file s.base sender q)) (filed s (tossing s.file s.base sender q) at))
 
   takes : (p : Packet) (messages : ℕ) (s : System) → P s → P (taking p messages s)
   takes p messages s at = tosses (sender_of s.file p.header) (take messages p.messages) s at
@@ -75,8 +73,7 @@ abbrev pub IsBaseKept : System → Type 0
 IsBaseKept s = Kept s.cursor s.base s.history
 
 pub filing-kept : (s : System) (o : Option Filed) → IsBaseKept s → IsBaseKept (filing s o)
-filing-kept s None k = k
-filing-kept s (Some m) k = Kept-filed s.cursor s.base s.history m k
+filing-kept s o h1 = grind (arith, Kept-filed)
 
 abbrev pub AllKept : Run → Type 0
 AllKept run = (s : System) → Among s run.systems → Kept s.cursor s.base s.history

@@ -1,6 +1,6 @@
 -- Nets with changing link files, by computation: one that stays in order, and for each premise of the law on such nets
 -- a run that misses it and is not orderly.
-use Rattle.std.proofs.Common.{◌≡◌, ℕ, List, [], ◌∷◌, refl, codes, map}
+use Rattle.std.proofs.Common.{◌≡◌, ℕ, List, [], ◌∷◌, codes, map, arith}
 use Rattle.std.specs.Prelude.{Bool, true, filter}
 use Rattle.std.specs.Fmt.{digits}
 use Rattle.echo_addr.specs.Entries.{entries, pair_of, tokens}
@@ -141,12 +141,4 @@ record Epochs : Type 0 where
 
 epochs : Epochs
 unfolding posted posted_lines posting post_refusal id_of trimmed lines digits date_of scanned packets_of recipients packet_to targets links_of address_set header_to copy_to exported entry_set text_of short_lines received toss_outcome tossing text_refusal echo_of kept_of path_lists seen_lists begins after_word entries tokens pair_of key_of msgid_of
-epochs = record {
-  first_stays = refl;
-  second_came = refl;
-  not_served = refl;
-  sent_twice = refl;
-  not_linked = refl;
-  taken_for_old = refl;
-  and_settled = refl;
-}
+epochs = grind arith

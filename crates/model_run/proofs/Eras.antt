@@ -1,17 +1,148 @@
+-- Every run by the rules is orderly.
+use Rattle.std.proofs.Common.{◌≡◌, ◌≢◌, inl, inr, refl, sym, subst, ap, ◌∙◌, IsTrue, List, [], ◌∷◌, map, None, arith, ◌⊎◌, ◌++◌, append_assoc, Some}
+use Rattle.std.specs.Prelude.{Bool, true, false}
+use Rattle.model_graph.specs.Walk.{Among, Reaches, Different}
+use Rattle.model_graph.specs.Beyond.{IsWay}
+use Rattle.model_graph.proofs.Members.{CanTell, Among-append_left, Among-append_right, Among-append_cases}
+use Rattle.model_graph.proofs.Cycles.{along_ways}
+use Rattle.model_run.specs.Nets.{Net, Tidy}
+use Rattle.model_run.specs.Events.{Filed, Event, Posts, Exports, Comes, filed, copies, Has, Copy, exported, came, copy_to}
+use Rattle.model_run.specs.Rules.{Always, FilesOnce, IsPossible, Keeps, Kept, NewKeys, Rule, SendsOnce, Tells, filing, keeping, sending, telling, keys}
+use Rattle.model_run.specs.RulesOrderly.{Compares, IsSettled, Orderly, place, goal}
+use Rattle.model_run.proofs.Targets.{simple, parted, none_some, Invariant, view_of}
+use Rattle.model_run.proofs.Steps.{Has-cases, posting-keeps, arrival-keeps, coming-keeps, exporting-keeps}
+use Rattle.model_run.proofs.Lists.{Among-map_from, Among-map_to, Different-append}
+use Rattle.std.proofs.lemmas.List.{map-append}
+
+module _ {A N K C : Type 0} (net : Net A N) (Same : C → C → Type 0) where
+  -- a run by the rules
+  abbrev pub ByRules : List (Event A N K C) → Type 0
+  ByRules run = Always (IsPossible net) run × ((rule : Rule) → Kept net Same run rule)
+
+  -- an event by the rules, after these
+  pub record IsByRules (run : List (Event A N K C)) (event : Event A N K C) : Type 0 where
+    pub possible : IsPossible net run event
+    pub files_once : FilesOnce net run event
+    pub keeps : Keeps Same run event
+    pub sends_once : SendsOnce net run event
+    pub tells : Tells net run event
+    pub new_keys : NewKeys run event
+
+  pub one_more : (run : List (Event A N K C)) (event : Event A N K C) → ByRules run → IsByRules run event → ByRules (event ∷ run)
+  one_more run event h e = ((e.possible, h.0), each)
+    where
+      each : (rule : Rule) → Kept net Same (event ∷ run) rule
+      each filing = (e.files_once, h.1 filing)
+      each keeping = (e.keeps, h.1 keeping)
+      each sending = (e.sends_once, h.1 sending)
+      each telling = (e.tells, h.1 telling)
+      each keys = (e.new_keys, h.1 keys)
+
+  earlier-by_rules : (event : Event A N K C) (run : List (Event A N K C)) → ByRules (event ∷ run) → ByRules run
+  earlier-by_rules event run h = (h.0.1, each)
+    where
+      each : (rule : Rule) → Kept net Same run rule
+      each filing = (h.1 filing).1
+      each keeping = (h.1 keeping).1
+      each sending = (h.1 sending).1
+      each telling = (h.1 telling).1
+      each keys = (h.1 keys).1
+
+-- the empty run keeps the rules
+pub nothing-by_rules : {A N : Type 0} (K C : Type 0) (net : Net A N) (Same : C → C → Type 0) → ByRules {K = K} net Same []
+nothing-by_rules K C net Same = grind arith
+
+module _ {A N K C : Type 0} (can : CanTell A) (can_keys : CanTell K) (net : Net A N) (tidy : Tidy net)
+    (Same : C → C → Type 0) (compares : Compares Same) where
+  -- the invariant of the empty run
+  nothing-yet : Invariant {K = K} net Same (view_of [])
+  nothing-yet = grind arith
+
+  true_false : (let no_bit : Bool = false in no_bit ≡ true) → ⊥
+  true_false e = cc
+
+  event-keeps : (event : Event A N K C) (run : List (Event A N K C)) → Invariant net Same (view_of run) → ByRules net Same (event ∷ run) →
+      Invariant net Same (view_of (event ∷ run))
+  event-keeps (Posts at text) run old h =
+      let new = (h.1 keys).0 in
+      posting-keeps can net tidy Same compares (view_of run) old (record { at = at; sender = None; text = text })
+      (λ has. new has.0 has.1 has.3) (λ own. new) refl h.0.0 (h.1 telling).0
+  event-keeps (Exports m to text) run old h =
+      let sends = (h.1 sending).0 in
+      exporting-keeps can net tidy Same compares (view_of run) old m to text sends.is_filed sends.first
+      (λ x. (sends.targets x).0) (λ x. (sends.targets x).1) sends.one_each (h.1 keeping).0 (h.1 telling).0
+  event-keeps (Comes c true) run old h =
+      let (link, new) = (h.1 filing).0.0 refl in
+      let filed_now = arrival-keeps can net tidy Same compares (view_of run) old _ new (λ own. absurd (none_some (sym own))) c h.0.0 refl in
+      coming-keeps can net tidy Same compares _ filed_now c (_, inl refl, refl, refl)
+  event-keeps (Comes c false) run old h =
+      coming-keeps can net tidy Same compares (view_of run) old c (elim (Has-cases can can_keys c.to c.text.key (filed run)) [
+        | inl has ↦ has
+        | inr none ↦ absurd (true_false ((h.1 filing).0.1 ((old.sent c h.0.0).parent.way.link, none)))
+      ])
+
+  pub always : (run : List (Event A N K C)) → ByRules net Same run → Invariant net Same (view_of run)
+  always [] h = nothing-yet
+  always (event ∷ run) h = event-keeps event run (always run (earlier-by_rules net Same event run h)) h
+
+  module _ (run : List (Event A N K C)) (inv : Invariant net Same (view_of run)) where
+    -- no system is sent its own posting
+    never-own : (m : Filed A N K C) → Among m (filed run) → m.sender ≡ None → ¬ Among (place m) (map goal (copies run))
+    never-own m h own sent_back =
+        let (c, i, e) = Among-map_from goal (place m) (copies run) sent_back in
+        let sent = inv.sent c i in
+        let one_poster : sent.poster ≡ m = inv.one_posting sent.poster m sent.posted.is_filed h sent.posted.own own
+        (sent.posted.same_key ∙ sym (ap (λ (p : A × K). p.1) e)) in
+        let P : Filed A N K C → Type 0 = λ p. IsWay net.linked p.at c.to c.from in
+        let Q : A → Type 0 = λ a. IsWay net.linked m.at a c.from in
+        let way : Q m.at = subst Q (sym (ap (λ (p : A × K). p.0) e)) (subst P one_poster sent.parent.way) in
+        elim (way.passed [] refl) [
+          | inl q ↦ (let R : A → Type 0 = λ a. IsTrue (net.linked m.at a) in tidy.no_self m.at (subst R q way.link))
+          | inr t ↦ t
+        ]
+
+    -- if the run has settled, each carrier has the posting
+    module _ (settled : IsSettled run) (p : Filed A N K C) (at_p : Among p (filed run)) (own : p.sender ≡ None) where
+      arrives : (x : A) → IsTrue (net.carries x) → Has x p.text.key (filed run)
+      arrives x at_x =
+          along_ways can net.linked (simple can net tidy) (parted can net tidy) p.at (λ y. Has y p.text.key (filed run))
+          (p, at_p, refl, refl) next x (tidy.connected x p.at at_x (inv.good p at_p).carrier)
+        where
+          next : (y u : A) → y ≢ p.at → Reaches net.linked y p.at → IsWay net.linked p.at y u → Has u p.text.key (filed run) →
+              Has y p.text.key (filed run)
+          next y u other reaches way has =
+              let (m, i, at_u, key) = has in
+              let P : A → Type 0 = λ a. IsTrue (net.linked a y) in
+              let Q : A → Type 0 = λ a. IsWay net.linked p.at y a in
+              let way_m : Q m.at = subst Q (sym at_u) way in
+              let (c, j, to_y, key_c) = inv.passed_on m (settled.all_exported m i) p at_p own (sym key) y (tidy.both y m.at way_m.link) way_m.passed in
+              let (n, k, at_y, key_n) = inv.known c (settled.all_came c j) in
+              (n, k, at_y ∙ to_y, key_n ∙ (key_c ∙ key))
+
+      all-filed : (x : A) → IsTrue (net.carries x) →
+          (m : Filed A N K C) × Among m (filed run) × (m.at ≡ x) × (m.text.key ≡ p.text.key) × Same m.text.content p.text.content
+      all-filed x at_x =
+          let (m, i, at, key) = arrives x at_x in
+          let good = inv.good m i in
+          let one_poster : good.poster ≡ p = inv.one_posting good.poster p good.posted.is_filed at_p good.posted.own own
+          (good.posted.same_key ∙ key) in
+          let P : Filed A N K C → Type 0 = λ q. Same m.text.content q.text.content in
+          (m, i, at, key, subst P one_poster good.posted.same_content)
+
+    orderly : Orderly net Same run
+    orderly = record {
+      filed_once = inv.once;
+      sent_once = inv.sent_once;
+      never_own = never-own;
+      all_filed = λ settled p at_p own. all-filed settled p at_p own;
+    }
+
+  pub every_run-orderly : (run : List (Event A N K C)) → Always (IsPossible net) run → ((rule : Rule) → Kept net Same run rule) →
+      Orderly net Same run
+  every_run-orderly run possible kept = orderly run (always run (possible, kept))
+
 -- A net with changes of links after all has settled: a settled past, and the events since then by the rules of the
 -- present net.
-use Rattle.std.proofs.Common.{◌≡◌, ◌≢◌, ◌⊎◌, inl, inr, refl, sym, subst, ap, ◌∙◌, IsTrue, List, [], ◌∷◌, ◌++◌, append_assoc, map, Some, None}
-use Rattle.std.specs.Prelude.{true, false}
-use Rattle.std.proofs.lemmas.List.{map-append}
-use Rattle.model_graph.specs.Walk.{Among, Different}
-use Rattle.model_graph.proofs.Members.{CanTell, Among-append_left, Among-append_right, Among-append_cases}
-use Rattle.model_run.specs.Nets.{Net, Tidy}
-use Rattle.model_run.specs.Events.{Filed, Copy, Event, Posts, Exports, Comes, filed, exported, copies, came, copy_to, Has}
-use Rattle.model_run.specs.Rules.{Always, IsPossible}
-use Rattle.model_run.specs.RulesOrderly.{Compares, IsSettled, place, goal}
-use Rattle.model_run.proofs.Invariant.{Invariant, view_of}
-use Rattle.model_run.proofs.RulesLists.{Among-map_from, Among-map_to, Different-append}
-use Rattle.model_run.proofs.Runs.{ByRules, always, every_run-orderly, nothing-by_rules}
 
 module _ {A N K C : Type 0} where
   -- each list read off two lists of events, one after the other
@@ -31,8 +162,7 @@ module _ {A N K C : Type 0} where
   pub copies-append : (xs ys : List (Event A N K C)) → copies (xs ++ ys) ≡ copies xs ++ copies ys
   copies-append [] ys = refl
   copies-append (Posts at text ∷ xs) ys = copies-append xs ys
-  copies-append (Exports m to text ∷ xs) ys =
-      ap (λ (cs : List (Copy A N K C)). map (copy_to m text) to ++ cs) (copies-append xs ys) ∙ sym (append_assoc (map (copy_to m text) to) (copies xs) (copies ys))
+  copies-append (Exports m to text ∷ xs) ys = grind (arith, append_assoc, copies-append xs ys)
   copies-append (Comes copy is_filed ∷ xs) ys = copies-append xs ys
 
   pub came-append : (xs ys : List (Event A N K C)) → came (xs ++ ys) ≡ came xs ++ came ys
@@ -46,33 +176,21 @@ module _ {A N K C : Type 0} where
   came-sent net [] h c i = i
   came-sent net (Posts at text ∷ run) h c i = came-sent net run h.1 c i
   came-sent net (Exports m to text ∷ run) h c i = Among-append_right c (map (copy_to m text) to) (copies run) (came-sent net run h.1 c i)
-  came-sent net (Comes copy is_filed ∷ run) h c i =
-      elim i [
-        | inl e ↦ (let P : Copy A N K C → Type 0 = λ d. Among d (copies run) in subst P (sym e) h.0)
-        | inr t ↦ came-sent net run h.1 c t
-      ]
+  came-sent net (Comes copy is_filed ∷ run) h c i = grind (arith, came-sent net run h.1 c)
 
 -- messages filed or sent in two eras, one after the other
 module _ {A N K C : Type 0} (recent past : List (Event A N K C)) where
   pub filed-cases : (m : Filed A N K C) → Among m (filed (recent ++ past)) → Among m (filed recent) ⊎ Among m (filed past)
-  filed-cases m h =
-      let P : List (Filed A N K C) → Type 0 = λ fs. Among m fs in
-      Among-append_cases m (filed recent) (filed past) (subst P (filed-append recent past) h)
+  filed-cases m h = grind (arith, Among-append_cases, filed-append)
 
   pub copies-cases : (c : Copy A N K C) → Among c (copies (recent ++ past)) → Among c (copies recent) ⊎ Among c (copies past)
-  copies-cases c h =
-      let P : List (Copy A N K C) → Type 0 = λ cs. Among c cs in
-      Among-append_cases c (copies recent) (copies past) (subst P (copies-append recent past) h)
+  copies-cases c h = grind (arith, Among-append_cases, copies-append)
 
   pub filed-recent : (m : Filed A N K C) → Among m (filed recent) → Among m (filed (recent ++ past))
-  filed-recent m h =
-      let P : List (Filed A N K C) → Type 0 = λ fs. Among m fs in
-      subst P (sym (filed-append recent past)) (Among-append_left m (filed recent) (filed past) h)
+  filed-recent m h = grind (arith, filed-append, Among-append_left)
 
   pub filed-past : (m : Filed A N K C) → Among m (filed past) → Among m (filed (recent ++ past))
-  filed-past m h =
-      let P : List (Filed A N K C) → Type 0 = λ fs. Among m fs in
-      subst P (sym (filed-append recent past)) (Among-append_right m (filed recent) (filed past) h)
+  filed-past m h = grind (arith, filed-append, Among-append_right)
 
 module _ {A N K C : Type 0} (Same : C → C → Type 0) where
   -- a past in which all was exported and all came
@@ -88,17 +206,7 @@ module _ {A N K C : Type 0} (Same : C → C → Type 0) where
     pub same : (m p : Filed A N K C) → Among m (filed past) → Among p (filed past) → p.sender ≡ None → m.text.key ≡ p.text.key → Same m.text.content p.text.content
 
   pub nothing-rests : Rest []
-  nothing-rests = record {
-    filed_once = tt;
-    sent_once = tt;
-    never_own = λ m h own. absurd h;
-    settled = record { all_exported = λ m h. h; all_came = λ c h. h };
-    was_filed = λ m h. h;
-    was_sent = λ c h. h;
-    known = λ c h. absurd h;
-    poster = λ m h. absurd h;
-    same = λ m p h i own e. absurd h;
-  }
+  nothing-rests = grind arith
 
   -- the events since then: no posting among them has a key of the past
   pub record Since (net : Net A N) (past recent : List (Event A N K C)) : Type 0 where

@@ -1,5 +1,5 @@
 -- The worked example of a first posting, by computation: the message, the packet of its scan, and the next hop.
-use Rattle.std.proofs.Common.{◌≡◌, ℕ, List, [], ◌∷◌, ◌++◌, refl, Some, codes, length, map, replicate}
+use Rattle.std.proofs.Common.{◌≡◌, ℕ, List, [], ◌∷◌, ◌++◌, refl, Some, codes, length, map, replicate, Ok, Err, inr}
 use Rattle.std.specs.Fmt.{digits}
 use Rattle.echo_addr.specs.declared.address.Address.{Address}
 use Rattle.echo_addr.specs.Entries.{entries, pair_of, tokens}
@@ -17,10 +17,18 @@ use Rattle.echo_filed.specs.Sets.{address_set, entry_set}
 use Rattle.model_steps.specs.Stamps.{date_of}
 use Rattle.echo_links.specs.Links.{LinkFile, links_of}
 use Rattle.echo_filed.specs.Written.{echo_of, short_lines, text_of}
-use Rattle.echo_filed.specs.Filed.{Filed}
-use Rattle.model_steps.specs.Posting.{posted, posted_lines}
-use Rattle.model_steps.specs.Tossing.{destination_of, sender_of, received}
-use Rattle.model_steps.specs.Scanning.{copy_to, exported, header_to, packet_to, packets_of, recipients, scanned, targets}
+use Rattle.echo_filed.specs.Filed.{Filed, key_of}
+use Rattle.model_steps.specs.Posting.{posted, posted_lines, PostStep, post_refusal}
+use Rattle.model_steps.specs.Tossing.{destination_of, sender_of, received, outcomes, toss_outcome, tossing, TossStep, tossed}
+use Rattle.model_steps.specs.Scanning.{copy_to, exported, header_to, packet_to, packets_of, recipients, scanned, targets, ScanStep}
+use Rattle.echo_text.specs.Echo.{msgid_of}
+use Rattle.echo_text.specs.Refusal.{text_refusal}
+use Rattle.model_steps.specs.SystemState.{SystemState}
+use Rattle.echo_filed.specs.Stubs.{bare, is_stub, stub_of}
+use Rattle.model_steps.specs.Purging.{PurgeStep, changed, purged}
+use Rattle.model_steps.specs.declared.outcome.Outcome.TheVariants as outcome
+use Rattle.model_steps.specs.declared.fault.PostFault.TheVariants as post
+use Rattle.model_steps.specs.declared.fault.ScanFault.TheVariants as scan
 
 abbrev pub system : ℕ → Address
 system node = record { zone = 1; net = 10; node = node }
@@ -197,3 +205,231 @@ origin_first = refl
 destination_first : destination_of second_file header_without_zones ≡ system 2
 unfolding header_to
 destination_first = refl
+
+-- Control lines in the body of a posting, by computation: they are ordinary lines of the body on each hop.
+
+-- a SEEN-BY line of the next system, and a second MSGID line
+abbrev body_draft : Draft
+body_draft = record draft { body = codes "SEEN-BY: 10/2" ++ 13 ∷ (1 ∷ codes "MSGID: 1:10/9 00000009") }
+
+abbrev body_posting : Filed
+body_posting = posted first_file (codes "TEST") body_draft 1 stamp
+
+abbrev body_kept : List (List ℕ)
+body_kept =
+    (1 ∷ codes "MSGID: 1:10/1 00000001") ∷ (codes "SEEN-BY: 10/2" ∷ ((1 ∷ codes "MSGID: 1:10/9 00000009") ∷ (codes "--- echonet"
+    ∷ (codes " * Origin: Alpha (1:10/1)" ∷ []))))
+
+body_lines : body_posting.echo.kept ≡ body_kept
+unfolding posted posted_lines id_of trimmed lines digits
+body_lines = refl
+
+-- the id is that of the first MSGID line, and the SEEN-BY line of the body excludes no link
+body_id : msgid_of body_posting.echo.kept ≡ Some id_text
+unfolding posted posted_lines id_of trimmed lines digits msgid_of begins after_word
+body_id = refl
+
+body_targets : targets first_file body_posting ≡ system 2 ∷ []
+unfolding posted targets links_of
+body_targets = refl
+
+-- the text in the packet
+abbrev body_out : List ℕ
+body_out =
+    codes "AREA:TEST" ++ 13 ∷ (1 ∷ codes "MSGID: 1:10/1 00000001" ++ 13 ∷ (codes "SEEN-BY: 10/2" ++ 13
+    ∷ (1 ∷ codes "MSGID: 1:10/9 00000009" ++ 13 ∷ (codes "--- echonet" ++ 13 ∷ (codes " * Origin: Alpha (1:10/1)" ++ 13
+    ∷ (codes "SEEN-BY: 10/1 2" ++ 13 ∷ (1 ∷ codes "PATH: 10/1" ++ 13 ∷ [])))))))
+
+exported_body : text_of (exported first_file body_posting.echo) ≡ body_out
+unfolding posted posted_lines id_of trimmed lines digits exported links_of entry_set short_lines text_of
+exported_body = refl
+
+body_size : length body_out ≡ 138
+body_size = refl
+
+-- the next system files it once
+abbrev body_copy : Message
+body_copy = record first_copy { text = body_out }
+
+abbrev body_received : Filed
+body_received = record first_received { echo = record first_received.echo { kept = body_kept } }
+
+copied_body : copy_to first_file (system 2) body_posting ≡ body_copy
+unfolding copy_to posted posted_lines id_of trimmed lines digits exported links_of entry_set short_lines text_of date_of
+copied_body = refl
+
+filed_body : tossing second_file [] (system 1) body_copy ≡ Some body_received
+unfolding tossing toss_outcome received text_refusal echo_of lines begins after_word trimmed kept_of seen_lists path_lists entry_set entries tokens pair_of links_of key_of msgid_of
+filed_body = refl
+
+body_twice : outcomes second_file [] (system 1) (body_copy ∷ (body_copy ∷ [])) ≡ outcome.Filed ∷ (outcome.Known ∷ [])
+unfolding toss_outcome tossing received text_refusal echo_of lines begins after_word trimmed kept_of seen_lists path_lists entry_set entries tokens pair_of links_of key_of msgid_of
+body_twice = refl
+
+-- and so does the last one, with the same lines
+abbrev third_file : LinkFile
+third_file = record {
+  system = system 3;
+  name = codes "Gamma";
+  areas = record { tag = codes "TEST"; links = system 2 ∷ [] } ∷ [];
+}
+
+body_targets_next : targets second_file body_received ≡ system 3 ∷ []
+unfolding targets links_of
+body_targets_next = refl
+
+body_kept_last : (received (system 2) (copy_to second_file (system 3) body_received)).echo.kept ≡ body_kept
+unfolding copy_to exported links_of entry_set short_lines text_of digits received echo_of lines begins after_word trimmed kept_of seen_lists path_lists entries tokens pair_of
+body_kept_last = refl
+
+body_last : outcomes third_file [] (system 2) (copy_to second_file (system 3) body_received ∷ (copy_to second_file (system 3) body_received ∷ [])) ≡
+    outcome.Filed ∷ (outcome.Known ∷ [])
+unfolding copy_to exported links_of entry_set short_lines text_of digits toss_outcome tossing received text_refusal echo_of lines begins after_word trimmed kept_of seen_lists path_lists entries tokens pair_of key_of msgid_of
+body_last = refl
+
+-- Steps by computation: the possible answers of each call, and its effects.
+
+-- a system at a moment
+abbrev at : LinkFile → List Filed → ℕ → SystemState
+at file base cursor = record { file = file; base = base; cursor = cursor }
+
+-- a posting comes to the end of the base, and the cursor stays
+post_files : PostStep {A = Unit {0}} (at first_file (first_posting ∷ []) 1) (codes "test") draft 2 stamp (Ok tt) (at first_file (first_posting ∷ (posting_of 2 ∷ [])) 1)
+unfolding post_refusal posted posted_lines id_of trimmed lines digits msgid_of begins after_word
+post_files = (refl, refl)
+
+post_refuses : PostStep {A = Unit {0}} (at first_file (first_posting ∷ []) 1) (codes "test") draft 1 stamp (Err post.KnownSerial) (at first_file (first_posting ∷ []) 1)
+unfolding post_refusal posted posted_lines id_of trimmed lines digits msgid_of begins after_word
+post_refuses = (refl, refl)
+
+-- out of memory may be the answer instead, and leaves the base too
+post_wants_memory : PostStep {A = Unit {0}} (at first_file (first_posting ∷ []) 1) (codes "test") draft 1 stamp (Err post.Memory) (at first_file (first_posting ∷ []) 1)
+unfolding post_refusal posted posted_lines id_of trimmed lines digits msgid_of begins after_word
+post_wants_memory = (inr refl, refl)
+
+-- a toss files a message once
+toss_files : TossStep {E = Unit {0}} (at second_file [] 0) (system 1) first_copy (Ok outcome.Filed) (at second_file (first_received ∷ []) 0)
+unfolding tossing toss_outcome received text_refusal echo_of lines begins after_word trimmed kept_of seen_lists path_lists entry_set entries tokens pair_of links_of key_of msgid_of
+toss_files = (refl, refl)
+
+toss_knows : TossStep {E = Unit {0}} (at second_file (first_received ∷ []) 0) (system 1) first_copy (Ok outcome.Known) (at second_file (first_received ∷ []) 0)
+unfolding tossing toss_outcome received text_refusal echo_of lines begins after_word trimmed kept_of seen_lists path_lists entry_set entries tokens pair_of links_of key_of msgid_of
+toss_knows = (refl, refl)
+
+-- a scan sets the cursor to the end; with a bad stamp it leaves it
+scan_moves : ScanStep (at first_file (first_posting ∷ []) 0) stamp (Ok (scanned first_file (first_posting ∷ []) 0 stamp)) (at first_file (first_posting ∷ []) 1)
+scan_moves = (refl, refl, refl)
+
+scan_refuses : ScanStep (at first_file (first_posting ∷ []) 0) (record stamp { month = 13 }) (Err scan.BadStamp) (at first_file (first_posting ∷ []) 0)
+scan_refuses = (refl, refl)
+
+-- a purge leaves the id of a scanned message
+purge_leaves : PurgeStep {E = Unit {0}} (at first_file (first_received ∷ (first_posting ∷ [])) 1) (Ok 1) (at first_file (record first_received { echo = bare (codes "TEST") id_text } ∷ (first_posting ∷ [])) 1)
+unfolding changed purged is_stub stub_of msgid_of begins after_word trimmed
+purge_leaves = (refl, refl)
+
+-- Tosses by computation: each outcome, and the first that applies.
+
+-- a system with two areas that 1:10/1 links
+abbrev file : LinkFile
+file = record second_file { areas = record { tag = codes "OTHER"; links = system 1 ∷ [] } ∷ second_file.areas }
+
+-- a message with this text
+abbrev with_text : List ℕ → Message
+with_text bytes = record first_copy { text = bytes }
+
+-- an echomail message of an area with these lines
+abbrev in_area : List ℕ → List ℕ → Message
+in_area tag lines = with_text (codes "AREA:" ++ (tag ++ 13 ∷ lines))
+
+abbrev id_line : List ℕ
+id_line = 1 ∷ codes "MSGID: x 1" ++ 13 ∷ []
+
+-- one id in two areas
+two_areas : outcomes file [] (system 1) (in_area (codes "TEST") id_line ∷ (in_area (codes "OTHER") id_line ∷ [])) ≡ outcome.Filed ∷ (outcome.Filed ∷ [])
+unfolding toss_outcome tossing received text_refusal echo_of lines begins after_word trimmed kept_of seen_lists path_lists entry_set entries tokens pair_of links_of key_of msgid_of
+two_areas = refl
+
+-- without an id the content is the key
+no_id_twice : outcomes file [] (system 1) (in_area (codes "TEST") (codes "Hello") ∷ (in_area (codes "TEST") (codes "Hello") ∷ (in_area (codes "TEST") (codes "Hallo") ∷ []))) ≡
+    outcome.Filed ∷ (outcome.Known ∷ (outcome.Filed ∷ []))
+unfolding toss_outcome tossing received text_refusal echo_of lines begins after_word trimmed kept_of seen_lists path_lists entry_set entries tokens pair_of links_of key_of msgid_of
+no_id_twice = refl
+
+-- the same id with another text is known: it is not filed, and the filed message stays
+id_tells : tossed file (tossed file [] (system 1) (in_area (codes "TEST") id_line ∷ [])) (system 1) (in_area (codes "TEST") (id_line ++ codes "Hello") ∷ []) ≡
+    tossed file [] (system 1) (in_area (codes "TEST") id_line ∷ [])
+unfolding toss_outcome tossing received text_refusal echo_of lines begins after_word trimmed kept_of seen_lists path_lists entry_set entries tokens pair_of links_of key_of msgid_of
+id_tells = refl
+
+not_linked : toss_outcome file [] (system 4) (in_area (codes "TEST") id_line) ≡ outcome.NotLinked
+unfolding toss_outcome received text_refusal echo_of lines begins after_word trimmed kept_of seen_lists path_lists entry_set entries tokens pair_of links_of
+not_linked = refl
+
+strange_origin : toss_outcome file [] (system 40000) (in_area (codes "TEST") id_line) ≡ outcome.NotLinked
+unfolding toss_outcome received text_refusal echo_of lines begins after_word trimmed kept_of seen_lists path_lists entry_set entries tokens pair_of links_of
+strange_origin = refl
+
+-- no area before no link
+no_area : toss_outcome file [] (system 4) (in_area (codes "NONE") id_line) ≡ outcome.NoArea
+unfolding toss_outcome received text_refusal echo_of lines begins after_word trimmed kept_of seen_lists path_lists entry_set entries tokens pair_of links_of
+no_area = refl
+
+not_echo : toss_outcome file [] (system 1) (with_text (codes "Hello")) ≡ outcome.NotEcho
+unfolding toss_outcome received text_refusal echo_of lines begins after_word trimmed
+not_echo = refl
+
+bad_tag : toss_outcome file [] (system 1) (with_text (codes "AREA:")) ≡ outcome.BadTag
+unfolding toss_outcome received text_refusal echo_of lines begins after_word trimmed
+bad_tag = refl
+
+blank_tag : toss_outcome file [] (system 1) (with_text (codes "AREA: " ++ 10 ∷ (13 ∷ []))) ≡ outcome.BadTag
+unfolding toss_outcome received text_refusal echo_of lines begins after_word trimmed
+blank_tag = refl
+
+-- not linked before known
+known_not_linked : toss_outcome file (first_received ∷ []) (system 4) first_copy ≡ outcome.NotLinked
+unfolding toss_outcome received text_refusal echo_of lines begins after_word trimmed kept_of seen_lists path_lists entry_set entries tokens pair_of links_of
+known_not_linked = refl
+
+known : toss_outcome file (first_received ∷ []) (system 1) first_copy ≡ outcome.Known
+unfolding toss_outcome received text_refusal echo_of lines begins after_word trimmed kept_of seen_lists path_lists entry_set entries tokens pair_of links_of key_of msgid_of
+known = refl
+
+filed : tossing file [] (system 1) first_copy ≡ Some first_received
+unfolding tossing toss_outcome received text_refusal echo_of lines begins after_word trimmed kept_of seen_lists path_lists entry_set entries tokens pair_of links_of key_of msgid_of
+filed = refl
+
+-- neither the sender nor a system in SEEN-BY is a target
+sender_left_out : targets file (record first_received { echo = record first_received.echo { seen = [] } }) ≡ system 3 ∷ []
+unfolding targets links_of
+sender_left_out = refl
+
+seen_left_out : targets file (record first_received { echo = record first_received.echo { seen = record { net = 10; node = 3 } ∷ [] } }) ≡ []
+unfolding targets links_of
+seen_left_out = refl
+
+-- zone 0 means the receiver's own zone, even if the sender's differs
+abbrev other_zone : LinkFile
+other_zone = record {
+  system = record { zone = 2; net = 10; node = 2 };
+  name = codes "Beta";
+  areas = record { tag = codes "TEST"; links = record { zone = 2; net = 10; node = 1 } ∷ [] } ∷ [];
+}
+
+other_zone_destination : destination_of other_zone header_without_zones ≡ other_zone.system
+unfolding header_to
+other_zone_destination = refl
+
+other_zone_filed : tossing other_zone [] (sender_of other_zone header_without_zones) first_copy ≡
+    Some (record first_received { sender = Some (record { zone = 2; net = 10; node = 1 }) })
+unfolding header_to tossing toss_outcome received text_refusal echo_of lines begins after_word trimmed kept_of seen_lists path_lists entry_set entries tokens pair_of links_of key_of msgid_of
+other_zone_filed = refl
+
+-- a system that links only the third one
+abbrev third_only : LinkFile
+third_only = record second_file { areas = record { tag = codes "TEST"; links = system 3 ∷ [] } ∷ [] }
+
+third_only_not_linked : toss_outcome third_only [] (sender_of third_only (header_to first_file stamp (system 2))) first_copy ≡ outcome.NotLinked
+unfolding header_to toss_outcome received text_refusal echo_of lines begins after_word trimmed kept_of seen_lists path_lists entry_set entries tokens pair_of links_of
+third_only_not_linked = refl

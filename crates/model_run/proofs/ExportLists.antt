@@ -1,22 +1,31 @@
 -- Lists of exports, and the packets of a run as its exports.
-use Rattle.std.proofs.Common.{◌≡◌, ◌≢◌, inl, inr, refl, sym, ap, ◌∙◌, ℕ, ◌+◌, ◌≤◌, arith, List, [], ◌∷◌, ◌++◌, map, Option, Some, None}
+use Rattle.std.proofs.Common.{◌≡◌, ◌≢◌, inl, inr, refl, sym, ap, ◌∙◌, ℕ, ◌+◌, ◌≤◌, arith, List, [], ◌∷◌, ◌++◌, map, Option, Some, None, subst, length, take, drop, ◌<◌}
 use Rattle.std.specs.Prelude.{Bool, true, false, filter, ◌==◌, if◌then◌else◌}
 use Rattle.std.proofs.lemmas.Bool.{eq-eqb, ne_eqb}
-use Rattle.std.proofs.lemmas.List.{append_assoc, append-nil, map-append}
+use Rattle.std.proofs.lemmas.List.{append_assoc, append-nil, map-append, take-append-drop, take-append-le, take_all}
 use Rattle.std.proofs.lemmas.List.Elements.{filter-append}
 use Rattle.echo_addr.specs.declared.address.Address.{Address}
 use Rattle.echo_filed.specs.declared.key.Key.{Key}
 use Rattle.model_steps.specs.declared.packet.Packet.{Packet}
 use Rattle.model_steps.specs.declared.stamp.Stamp.{Stamp}
-use Rattle.echo_filed.specs.Filed.{Filed}
-use Rattle.model_steps.specs.Scanning.{scanned}
+use Rattle.echo_filed.specs.Filed.{Filed, key_of, same_key}
+use Rattle.model_steps.specs.Scanning.{scanned, copy_to, goes_to, targets}
 use Rattle.model_steps.specs.Stamps.{is_stamp}
 use Rattle.model_run.specs.Event.{RunEvent, Posting, Scanning, Delivery, PartDelivery, Purging}
-use Rattle.model_run.specs.Run.{System, Run, after_event, after_events, change, coming, delivery, nth, part_delivery, receiver, scanning, scanning_at}
-use Rattle.model_run.specs.Orderly.{count, sent_count}
-use Rattle.model_run.specs.Exports.{Export, event_exports, export_of, exports_after, scan_exports, sent_by}
-use Rattle.model_run.proofs.Lists.{yes_or_no, filter-all, filter-no, filter-none, filter-yes}
-use Rattle.model_run.proofs.RulesLists.{Among-map_from}
+use Rattle.model_run.specs.Run.{System, Run, after_event, after_events, change, delivery, nth, part_delivery, scanning, scanning_at, destination, filing, fresh, purging_at, tossing_at, run_of, start, taking}
+use Rattle.model_run.specs.Orderly.{count, sent_count, copies, origin}
+use Rattle.model_run.specs.Exports.{Export, event_exports, export_of, exports_after, scan_exports, sent_by, IsSentCopy, exports}
+use Rattle.model_run.proofs.Lists.{yes_or_no, filter-all, filter-no, filter-none, filter-yes, Among-map_from, any-from, any-to, Among-filter_from, Among-filter_to, Among-drop, nth-among, nth-change, nth-changed, Among-map_to}
+use Rattle.model_graph.specs.Walk.{Among}
+use Rattle.model_graph.proofs.Members.{Among-append_cases, Among-append_left, Among-append_right}
+use Rattle.echo_packet.specs.Message.{Message}
+use Rattle.echo_links.specs.Links.{LinkFile, same_address}
+use Rattle.model_steps.specs.Tossing.{sender_of}
+use Rattle.model_run.proofs.TosserPremises.{Laws}
+use Rattle.model_run.proofs.Bases.{Kept-cursor, Kept-length, SystemOk, count-is, RunOk, event-ok, start-ok}
+use Rattle.model_run.proofs.ScanPackets.{copy-packet, scanned-copy, scanned-count, scanned-origin}
+use Rattle.model_run.specs.Fits.{FilesFit}
+use Rattle.model_run.proofs.TosserPremises as counts
 
 -- the count of a joined list is the sum of the counts
 pub count-append : (k : Key) (ms ns : List Filed) → count k (ms ++ ns) ≡ count k ms + count k ns
@@ -29,12 +38,7 @@ sent-append a k (p ∷ ps) qs = omega (arith, sent-append a k ps qs)
 
 pub count-filter : (k : Key) (p : Filed → Bool) (ms : List Filed) → count k (filter p ms) ≤ count k ms
 count-filter k p [] = omega arith
-count-filter k p (m ∷ ms) =
-    let later = count-filter k p ms in
-    elim (yes_or_no (p m)) [
-      | inl t ↦ omega (arith, later, ap (λ (ns : List Filed). count k ns) (filter-yes p m ms t))
-      | inr f ↦ omega (arith, later, ap (λ (ns : List Filed). count k ns) (filter-no p m ms f))
-    ]
+count-filter k p (m ∷ ms) = grind (arith, yes_or_no, filter-yes, filter-no, count-filter k p ms)
 
 -- the packets that a system made
 pub made-packets : (n i : ℕ) (ps : List Packet) → map (λ (e : Export). e.packet) (map (export_of n i) ps) ≡ ps
@@ -42,56 +46,28 @@ made-packets n i [] = refl
 made-packets n i (p ∷ ps) = ap (λ (qs : List Packet). p ∷ qs) (made-packets n i ps)
 
 pub sent_by-append : (i : ℕ) (all new : List Export) → sent_by i (all ++ new) ≡ sent_by i all ++ sent_by i new
-sent_by-append i all new =
-    ap (λ (es : List Export). map (λ (e : Export). e.packet) es) (filter-append (λ e. e.system == i) all new)
-    ∙ map-append (λ (e : Export). e.packet) (filter (λ e. e.system == i) all) (filter (λ e. e.system == i) new)
+sent_by-append i all new = grind (arith, filter-append, map-append)
 
 pub sent_by-own : (n i : ℕ) (ps : List Packet) → sent_by i (map (export_of n i) ps) ≡ ps
-sent_by-own n i ps =
-    ap (λ (es : List Export). map (λ (e : Export). e.packet) es) (filter-all (λ e. e.system == i) (map (export_of n i) ps)
-    (λ e h. let (p, j, same) = Among-map_from (export_of n i) e ps h in eq-eqb e.system i (ap (λ (x : Export). x.system) same)))
-    ∙ made-packets n i ps
+sent_by-own n i ps = grind (arith, filter-all, Among-map_from, eq-eqb, made-packets)
 
 pub sent_by-other : (n i j : ℕ) (ps : List Packet) → i ≢ j → sent_by j (map (export_of n i) ps) ≡ []
-sent_by-other n i j ps other =
-    ap (λ (es : List Export). map (λ (e : Export). e.packet) es) (filter-none (λ e. e.system == j) (map (export_of n i) ps)
-    (λ e h. let (p, k, same) = Among-map_from (export_of n i) e ps h in
-    ne_eqb e.system j (λ q. other (sym (ap (λ (x : Export). x.system) same) ∙ q))))
+sent_by-other n i j ps other = grind (arith, filter-none, Among-map_from, ne_eqb)
 
 -- the packets of a run are its exports
 scan-packets : (run : Run) (n i : ℕ) (stamp : Stamp) (found : Option System) →
     (scanning run i stamp found).packets ≡ run.packets ++ map (λ (e : Export). e.packet) (scan_exports n i stamp found)
-scan-packets run n i stamp None = sym (append-nil run.packets)
-scan-packets run n i stamp (Some s) = scans (is_stamp stamp)
-  where
-    scans : (b : Bool) → (if b then record {
-      systems = change i scanning_at run.systems;
-      packets = run.packets ++ scanned s.file s.base s.cursor stamp;
-      delivered = run.delivered;
-    } else run).packets ≡
-        run.packets ++ map (λ (e : Export). e.packet) (if b then map (export_of n i) (scanned s.file s.base s.cursor stamp) else [])
-    scans true = ap (λ (ps : List Packet). run.packets ++ ps) (sym (made-packets n i (scanned s.file s.base s.cursor stamp)))
-    scans false = sym (append-nil run.packets)
+scan-packets run n i stamp found = grind (arith, append-nil, made-packets)
 
 delivery-packets : (run : Run) (k : ℕ) (found : Option Packet) → (delivery run k found).packets ≡ run.packets
-delivery-packets run k None = refl
-delivery-packets run k (Some p) = came (nth (receiver run p) run.systems)
-  where
-    came : (o : Option System) → (coming run k p o).packets ≡ run.packets
-    came None = refl
-    came (Some s) = refl
+delivery-packets run k found = grind arith
 
 part-packets : (run : Run) (messages : ℕ) (found : Option Packet) → (part_delivery run messages found).packets ≡ run.packets
-part-packets run messages None = refl
-part-packets run messages (Some p) = refl
+part-packets run messages found = grind arith
 
 event-packets : (run : Run) (n : ℕ) (event : RunEvent) →
     (after_event run event).packets ≡ run.packets ++ map (λ (e : Export). e.packet) (event_exports run n event)
-event-packets run n (Posting i tag draft serial stamp) = sym (append-nil run.packets)
-event-packets run n (Scanning i stamp) = scan-packets run n i stamp (nth i run.systems)
-event-packets run n (Delivery k) = delivery-packets run k (nth k run.packets) ∙ sym (append-nil run.packets)
-event-packets run n (PartDelivery k messages) = part-packets run messages (nth k run.packets) ∙ sym (append-nil run.packets)
-event-packets run n (Purging i) = sym (append-nil run.packets)
+event-packets run n event = grind (arith, append-nil, scan-packets, delivery-packets, part-packets)
 
 pub events-packets : (events : List RunEvent) (run : Run) (n : ℕ) →
     (after_events run events).packets ≡ run.packets ++ map (λ (e : Export). e.packet) (exports_after run n events)
@@ -104,3 +80,374 @@ events-packets (event ∷ later) run n =
     ∙ (ap (λ (ps : List Packet). ps ++ packets_of rest) (event-packets run n event)
     ∙ (append_assoc run.packets (packets_of made) (packets_of rest)
     ∙ ap (λ (ps : List Packet). run.packets ++ ps) (sym (map-append (λ (e : Export). e.packet) made rest))))
+
+-- The packets of one system for its scanned messages, for any received bytes.
+
+-- the scanned messages of a system stay
+pub record SameDone (s z : System) : Type 0 where
+  pub file : z.file ≡ s.file
+  pub done : take z.cursor z.history ≡ take s.cursor s.history
+
+itself : (s : System) → SameDone s s
+itself s = record { file = refl; done = refl }
+
+abbrev pub Within : System → Type 0
+Within s = s.cursor ≤ length s.history
+
+pub within : (s : System) → SystemOk s → Within s
+within s ok = Kept-cursor s.cursor s.base s.history ok.kept
+
+filing-done : (s : System) (o : Option Filed) → Within s → SameDone s (filing s o) × Within (filing s o)
+filing-done s None within = (itself s, within)
+filing-done s (Some m) within = (
+  record { file = refl; done = take-append-le s.cursor s.history (m ∷ []) within },
+  (let long : length (s.history ++ m ∷ []) ≡ length s.history + 1 = length-more s.history in omega arith),
+)
+  where
+    length-more : (ms : List Filed) → length (ms ++ m ∷ []) ≡ length ms + 1
+    length-more [] = refl
+    length-more (n ∷ ms) = omega (arith, length-more ms)
+
+joined : (s t z : System) → SameDone s t → SameDone t z → SameDone s z
+joined s t z a b = record { file = b.file ∙ a.file; done = b.done ∙ a.done }
+
+pub posting-done : (s : System) (o : Option Filed) → Within s → SameDone s (filing s o)
+posting-done s o fits = (filing-done s o fits).0
+
+pub tossing-done : (sender : Address) (ms : List Message) (s : System) → Within s → SameDone s (tossing_at sender ms s)
+tossing-done sender [] s within = itself s
+tossing-done sender (q ∷ ms) s within = grind (arith, within, filing-done, joined, tossing-done sender ms)
+
+pub purging-done : (s : System) → SameDone s (purging_at s)
+purging-done s = record { file = refl; done = refl }
+
+-- all packets of a system with this file, for its scanned messages: each message is in as many packets to an address as it
+-- goes there; each copy in them is that of a scanned message, and each copy for an address is in a packet to it
+pub record MadeOf (file : LinkFile) (done : List Filed) (sent : List Packet) : Type 0 where
+  pub counts : (a : Address) (k : Key) → sent_count a k sent ≡ count k (filter (goes_to file a) done)
+  pub origins : (p : Packet) → Among p sent → origin p ≡ file.system
+  pub copy : (p : Packet) → Among p sent → (c : Filed) → Among c (copies p) →
+      (m : Filed) × Among m done × IsSentCopy file m (destination p) c
+  pub copies_for : (m : Filed) → Among m done → (a : Address) → goes_to file a m ≡ true →
+      (p : Packet) × Among p sent × (destination p ≡ a) × Among (copy_to file a m) p.messages
+
+abbrev pub Made : System → List Packet → Type 0
+Made s sent = MadeOf s.file (take s.cursor s.history) sent
+
+pub made-nothing : (file : LinkFile) → Made (fresh file) []
+made-nothing file = record { counts = λ a k. refl; origins = λ p h. absurd h; copy = λ p h c i. absurd h; copies_for = λ m h a goes. absurd h }
+
+pub made-same : (s z : System) (sent : List Packet) → SameDone s z → Made s sent → Made z sent
+made-same s z sent same made =
+    let P : LinkFile → Type 0 = λ file. MadeOf file (take s.cursor s.history) sent in
+    let Q : List Filed → Type 0 = λ done. MadeOf z.file done sent in
+    subst Q (sym same.done) (subst P (sym same.file) made)
+
+module _ (laws : Laws) where
+  -- no key is both among the scanned messages and the waiting ones
+  pub apart : (s : System) → SystemOk s → (m n : Filed) → Among m (take s.cursor s.history) → Among n (drop s.cursor s.history) → key_of m ≢ key_of n
+  apart s ok m n i j e =
+      let k = key_of n in
+      let done = take s.cursor s.history in
+      let waits = drop s.cursor s.history in
+      omega (
+        arith,
+        counts.count-has key_of same_key laws.keys k done m i e,
+        counts.count-has key_of same_key laws.keys k waits n j refl,
+        count-is k done,
+        count-is k waits,
+        count-append k done waits,
+        ap (λ (ms : List Filed). count k ms) (take-append-drop s.cursor s.history),
+        ok.once k,
+      )
+
+  -- a system scans
+  module _ (s : System) (ok : SystemOk s) (stamp : Stamp) (sent : List Packet) (made : Made s sent) where
+    -- after the scan all messages are scanned
+    all-done : take (length s.base) s.history ≡ s.history
+    all-done = take_all (length s.base) s.history (omega (arith, Kept-length s.cursor s.base s.history ok.kept))
+
+    stays : (m : Filed) → Among m s.history → Among m (take (length s.base) s.history)
+    stays m h = let P : List Filed → Type 0 = λ ms. Among m ms in subst P (sym all-done) h
+
+    done-more : (a : Address) (k : Key) →
+        count k (filter (goes_to s.file a) (take (length s.base) s.history)) ≡
+        count k (filter (goes_to s.file a) (take s.cursor s.history)) + count k (filter (goes_to s.file a) (drop s.cursor s.history))
+    done-more a k =
+        let g = goes_to s.file a in
+        ap (λ (ms : List Filed). count k (filter g ms)) (all-done ∙ sym (take-append-drop s.cursor s.history))
+        ∙ (ap (λ (ms : List Filed). count k ms) (filter-append g (take s.cursor s.history) (drop s.cursor s.history))
+        ∙ count-append k (filter g (take s.cursor s.history)) (filter g (drop s.cursor s.history)))
+
+    pub made-scan : Made (scanning_at s) (sent ++ scanned s.file s.base s.cursor stamp)
+    made-scan =
+        let new = scanned s.file s.base s.cursor stamp in
+        record {
+          counts = λ a k. omega (arith, sent-append a k sent new, made.counts a k, scanned-count laws s ok stamp a k, done-more a k);
+          origins = λ p h. elim (Among-append_cases p sent new h) [
+            | inl old ↦ made.origins p old
+            | inr now ↦ scanned-origin laws s ok stamp p now
+          ];
+          copy = λ p h c i. elim (Among-append_cases p sent new h) [
+            | inl old ↦ (let (m, j, is) = made.copy p old c i in
+                let P : List Filed → Type 0 = λ ms. Among m ms in
+                (m, stays m (subst P (take-append-drop s.cursor s.history) (Among-append_left m (take s.cursor s.history) (drop s.cursor s.history) j)), is))
+            | inr now ↦ (let (m, j, is) = scanned-copy laws s ok stamp p now c i in (m, stays m (Among-drop s.cursor m s.history j), is))
+          ];
+          copies_for = λ m h a goes.
+              let P : List Filed → Type 0 = λ ms. Among m ms in
+              let parts = subst P (all-done ∙ sym (take-append-drop s.cursor s.history)) h in
+              elim (Among-append_cases m (take s.cursor s.history) (drop s.cursor s.history) parts) [
+                | inl old ↦ (let (p, j, to, there) = made.copies_for m old a goes in (p, Among-append_left p sent new j, to, there))
+                | inr now ↦ (let (p, j, to, there) = copy-packet laws s ok stamp m now a goes in (p, Among-append_right p sent new j, to, there))
+              ];
+        }
+
+  -- scanned messages were sent to each target once and to no other address, waiting messages to no address
+  module _ (s : System) (ok : SystemOk s) (sent : List Packet) (made : Made s sent) where
+    abbrev done : List Filed
+    done = take s.cursor s.history
+
+    done-once : (k : Key) → count k done ≤ 1
+    done-once k = omega (arith, ok.once k, count-append k done (drop s.cursor s.history), ap (λ (ms : List Filed). count k ms) (take-append-drop s.cursor s.history))
+
+    pub sent-few : (a : Address) (k : Key) → sent_count a k sent ≤ 1
+    sent-few a k = omega (arith, made.counts a k, count-filter k (goes_to s.file a) done, done-once k)
+
+    module _ (m : Filed) (a : Address) where
+      abbrev went : List Filed
+      went = filter (goes_to s.file a) done
+
+      target-goes : Among a (targets s.file m) → goes_to s.file a m ≡ true
+      target-goes h = any-to (same_address a) a (targets s.file m) h (laws.addresses.full a a refl)
+
+      goes-target : goes_to s.file a m ≡ true → Among a (targets s.file m)
+      goes-target t =
+          let (b, j, e) = any-from (same_address a) (targets s.file m) t in
+          let P : Address → Type 0 = λ x. Among x (targets s.file m) in
+          subst P (sym (laws.addresses.sound a b e)) j
+
+      no-key : ((o : Filed) → Among o went → key_of o ≢ key_of m) → sent_count a (key_of m) sent ≡ 0
+      no-key h = made.counts a (key_of m) ∙ (count-is (key_of m) went ∙ counts.count-none key_of same_key laws.keys (key_of m) went h)
+
+      pub sent-once : Among m done → Among a (targets s.file m) → sent_count a (key_of m) sent ≡ 1
+      sent-once h target =
+          let there = Among-filter_to (goes_to s.file a) m done h (target-goes target) in
+          omega (
+            arith,
+            made.counts a (key_of m),
+            counts.count-has key_of same_key laws.keys (key_of m) went m there refl,
+            count-is (key_of m) went,
+            sent-few a (key_of m),
+          )
+
+      pub sent-to_others : Among m done → ¬ Among a (targets s.file m) → sent_count a (key_of m) sent ≡ 0
+      sent-to_others h not_target = no-key (λ o g e.
+          let (j, t) = Among-filter_from (goes_to s.file a) o done g in
+          let few : counts.count key_of same_key (key_of m) done ≤ 1 = omega (arith, count-is (key_of m) done, done-once (key_of m)) in
+          let same = counts.count-names_one key_of same_key laws.keys (key_of m) done few o m j h e refl in
+          not_target (goes-target (ap (λ (x : Filed). goes_to s.file a x) (sym same) ∙ t)))
+
+      pub waits-unsent : Among m (drop s.cursor s.history) → sent_count a (key_of m) sent ≡ 0
+      waits-unsent h = no-key (λ o g e. apart s ok o m (Among-filter_from (goes_to s.file a) o done g).0 h e)
+
+-- The scan that made each packet, at all times, on every net.
+
+-- an export is among those of its system
+sent-by_own : (e : Export) (all : List Export) → Among e all → Among e.packet (sent_by e.system all)
+sent-by_own e all h =
+    Among-map_to (λ (x : Export). x.packet) e _ (Among-filter_to (λ x. x.system == e.system) e all h (eq-eqb e.system e.system refl))
+
+module _ (laws : Laws) where
+  -- the invariant of a run and its exports so far
+  pub record Logged (run : Run) (n : ℕ) (all : List Export) : Type 0 where
+    pub early : (e : Export) → Among e all → e.event < n
+    pub made : (i : ℕ) (s : System) → nth i run.systems ≡ Some s → Made s (sent_by i all)
+    pub maker : (e : Export) → Among e all → (s : System) × (nth e.system run.systems ≡ Some s)
+    pub one_scan : (e f : Export) → Among e all → Among f all → e.system ≡ f.system →
+        (c d : Filed) → Among c (copies e.packet) → Among d (copies f.packet) → key_of c ≡ key_of d → e.event ≡ f.event
+
+  -- the maker of an export stays
+  maker-changed : (run : Run) (e : Export) → (s : System) × (nth e.system run.systems ≡ Some s) → (i : ℕ) (f : System → System) →
+      (s : System) × (nth e.system (change i f run.systems) ≡ Some s)
+  maker-changed run e maker i f = elim (nth-changed i e.system f maker.0 run.systems maker.1) [
+    | inl other ↦ (maker.0, other.1)
+    | inr here ↦ (f maker.0, here.1)
+  ]
+
+  -- one system changes, and nothing is exported
+  change-logged : (run : Run) (n : ℕ) (all : List Export) → RunOk run → Logged run n all → (i : ℕ) (f : System → System) (delivered : List ℕ) →
+      ((s : System) → Within s → SameDone s (f s)) →
+      Logged (record { systems = change i f run.systems; packets = run.packets; delivered = delivered }) (n + 1) all
+  change-logged run n all ok logged i f delivered keeps = record {
+    early = λ e h. omega (arith, logged.early e h);
+    made = λ j z at. elim (nth-change i j f z run.systems at) [
+      | inl other ↦ logged.made j z other.1
+      | inr here ↦ (let (x, at_x, is) = here.1 in
+          let P : System → Type 0 = λ t. Made t (sent_by j all) in
+          subst P (sym is) (made-same x (f x) (sent_by j all) (keeps x (within x (ok.systems x (nth-among j x run.systems at_x)))) (logged.made j x at_x)))
+    ];
+    maker = λ e h. maker-changed run e (logged.maker e h) i f;
+    one_scan = logged.one_scan;
+  }
+
+  -- nothing happens
+  idle-logged : (run : Run) (n : ℕ) (all : List Export) → Logged run n all → Logged run (n + 1) all
+  idle-logged run n all logged = record {
+    early = λ e h. omega (arith, logged.early e h);
+    made = logged.made;
+    maker = logged.maker;
+    one_scan = logged.one_scan;
+  }
+
+  -- a system scans
+  module _ (run : Run) (n : ℕ) (all : List Export) (ok : RunOk run) (logged : Logged run n all) (i : ℕ) (stamp : Stamp)
+      (s : System) (at_s : nth i run.systems ≡ Some s) where
+    ok_s : SystemOk s
+    ok_s = ok.systems s (nth-among i s run.systems at_s)
+
+    abbrev made_packets : List Packet
+    made_packets = scanned s.file s.base s.cursor stamp
+
+    abbrev new : List Export
+    new = map (export_of n i) made_packets
+
+    abbrev after : Run
+    after = record { systems = change i scanning_at run.systems; packets = run.packets ++ made_packets; delivered = run.delivered }
+
+    is-s : (t : System) → nth i run.systems ≡ Some t → t ≡ s
+    is-s t at = let e : Some t ≡ Some s = sym at ∙ at_s in cc
+
+    made-here : Made (scanning_at s) (sent_by i (all ++ new))
+    made-here =
+        let P : List Packet → Type 0 = λ ps. Made (scanning_at s) ps in
+        subst P (sym (sent_by-append i all new ∙ ap (λ (ps : List Packet). sent_by i all ++ ps) (sent_by-own n i made_packets)))
+        (made-scan laws s ok_s stamp (sent_by i all) (logged.made i s at_s))
+
+    made-there : (j : ℕ) (z : System) → i ≢ j → Made z (sent_by j all) → Made z (sent_by j (all ++ new))
+    made-there j z other made =
+        let P : List Packet → Type 0 = λ ps. Made z ps in
+        subst P (sym (sent_by-append j all new ∙ (ap (λ (ps : List Packet). sent_by j all ++ ps) (sent_by-other n i j made_packets other) ∙ append-nil (sent_by j all)))) made
+
+    -- a message exported now was not exported before
+    new-keys : (e f : Export) → Among e all → Among f new → e.system ≡ f.system →
+        (c d : Filed) → Among c (copies e.packet) → Among d (copies f.packet) → key_of c ≢ key_of d
+    new-keys e f h g same c d at_c at_d q =
+        let (p, j, is) = Among-map_from (export_of n i) f made_packets g in
+        let P : Packet → Type 0 = λ r. Among d (copies r) in
+        let (o, l, sent) = scanned-copy laws s ok_s stamp p j d (subst P (ap (λ (x : Export). x.packet) is) at_d) in
+        let Q : ℕ → Type 0 = λ x. Among e.packet (sent_by x all) in
+        let mine = subst Q (same ∙ ap (λ (x : Export). x.system) is) (sent-by_own e all h) in
+        let (m, k, old) = (logged.made i s at_s).copy e.packet mine c at_c in
+        apart laws s ok_s m o k l (sym old.key ∙ (q ∙ sent.key))
+
+    new-event : (e : Export) → Among e new → e.event ≡ n
+    new-event e h = let (p, j, is) = Among-map_from (export_of n i) e made_packets h in ap (λ (x : Export). x.event) is
+
+    pub scan-logged : Logged after (n + 1) (all ++ new)
+    scan-logged = record {
+      early = λ e h. elim (Among-append_cases e all new h) [
+        | inl old ↦ omega (arith, logged.early e old)
+        | inr now ↦ omega (arith, new-event e now)
+      ];
+      made = λ j z at. elim (nth-change i j scanning_at z run.systems at) [
+        | inl other ↦ made-there j z other.0 (logged.made j z other.1)
+        | inr here ↦ (let (x, at_x, is) = here.1 in
+            let P : ℕ → Type 0 = λ l. nth l run.systems ≡ Some x in
+            let Q : System → Type 0 = λ t. Made t (sent_by j (all ++ new)) in
+            let R : ℕ → Type 0 = λ l. Made (scanning_at s) (sent_by l (all ++ new)) in
+            subst Q (sym (is ∙ ap scanning_at (is-s x (subst P (sym here.0) at_x)))) (subst R here.0 made-here))
+      ];
+      maker = λ e h. maker-changed run e (elim (Among-append_cases e all new h) [
+        | inl old ↦ logged.maker e old
+        | inr now ↦ (let (p, j, is) = Among-map_from (export_of n i) e made_packets now in
+            let P : ℕ → Type 0 = λ l. nth l run.systems ≡ Some s in
+            (s, subst P (sym (ap (λ (x : Export). x.system) is)) at_s))
+      ]) i scanning_at;
+      one_scan = λ e f h g same c d at_c at_d q. elim (Among-append_cases e all new h) [
+        | inl old ↦ elim (Among-append_cases f all new g) [
+          | inl older ↦ logged.one_scan e f old older same c d at_c at_d q
+          | inr now ↦ absurd (new-keys e f old now same c d at_c at_d q)
+        ]
+        | inr now ↦ elim (Among-append_cases f all new g) [
+          | inl old ↦ absurd (new-keys f e old now (sym same) d c at_d at_c (sym q))
+          | inr too ↦ new-event e now ∙ sym (new-event f too)
+        ]
+      ];
+    }
+
+  -- an event that exports nothing
+  abbrev Next : Run → ℕ → List Export → List Export → Type 0
+  Next after n all new = Logged after (n + 1) (all ++ new)
+
+  quiet : (after : Run) (n : ℕ) (all : List Export) → Logged after (n + 1) all → Next after n all []
+  quiet after n all logged = let P : List Export → Type 0 = λ es. Logged after (n + 1) es in subst P (sym (append-nil all)) logged
+
+  scanning-logged : (run : Run) (n : ℕ) (all : List Export) → RunOk run → Logged run n all → (i : ℕ) (stamp : Stamp) (found : Option System) →
+      nth i run.systems ≡ found → Next (scanning run i stamp found) n all (scan_exports n i stamp found)
+  scanning-logged run n all ok logged i stamp None e = quiet run n all (idle-logged run n all logged)
+  scanning-logged run n all ok logged i stamp (Some s) e = scans (is_stamp stamp)
+    where
+      scans : (b : Bool) → Next (if b then record {
+        systems = change i scanning_at run.systems;
+        packets = run.packets ++ scanned s.file s.base s.cursor stamp;
+        delivered = run.delivered;
+      } else run) n all (if b then map (export_of n i) (scanned s.file s.base s.cursor stamp) else [])
+      scans true = scan-logged run n all ok logged i stamp s e
+      scans false = quiet run n all (idle-logged run n all logged)
+
+  taking-done : (p : Packet) (messages : ℕ) (s : System) → Within s → SameDone s (taking p messages s)
+  taking-done p messages s fits = tossing-done (sender_of s.file p.header) (take messages p.messages) s fits
+
+  delivery-logged : (run : Run) (n : ℕ) (all : List Export) → RunOk run → Logged run n all → (k : ℕ) (found : Option Packet) →
+      Logged (delivery run k found) (n + 1) all
+  delivery-logged run n all ok logged k None = idle-logged run n all logged
+  delivery-logged run n all ok logged k (Some p) = grind (arith, idle-logged, change-logged, taking-done)
+
+  part-logged : (run : Run) (n : ℕ) (all : List Export) → RunOk run → Logged run n all → (messages : ℕ) (found : Option Packet) →
+      Logged (part_delivery run messages found) (n + 1) all
+  part-logged run n all ok logged messages None = idle-logged run n all logged
+  part-logged run n all ok logged messages (Some p) = grind (arith, change-logged, taking-done)
+
+  event-logged : (run : Run) (n : ℕ) (all : List Export) → RunOk run → Logged run n all → (event : RunEvent) →
+      Next (after_event run event) n all (event_exports run n event)
+  event-logged run n all ok logged (Posting i tag draft serial stamp) = grind (arith, quiet, change-logged, posting-done)
+  event-logged run n all ok logged (Scanning i stamp) = scanning-logged run n all ok logged i stamp (nth i run.systems) refl
+  event-logged run n all ok logged (Delivery k) = grind (arith, quiet, delivery-logged)
+  event-logged run n all ok logged (PartDelivery k messages) = grind (arith, quiet, part-logged)
+  event-logged run n all ok logged (Purging i) = grind (arith, quiet, change-logged, purging-done)
+
+  events-logged : (events : List RunEvent) (run : Run) (n : ℕ) (all : List Export) → RunOk run → Logged run n all →
+      (m : ℕ) × Logged (after_events run events) m (all ++ exports_after run n events)
+  events-logged [] run n all ok logged =
+      (n, (let P : List Export → Type 0 = λ es. Logged run n es in subst P (sym (append-nil all)) logged))
+  events-logged (event ∷ later) run n all ok logged =
+      let next = event-logged run n all ok logged event in
+      let (m, at_end) = events-logged later (after_event run event) (n + 1) (all ++ event_exports run n event) (event-ok laws run event ok) next in
+      let P : List Export → Type 0 = λ es. Logged (after_events (after_event run event) later) m es in
+      (m, subst P (append_assoc all (event_exports run n event) (exports_after (after_event run event) (n + 1) later)) at_end)
+
+  start-logged : (files : List LinkFile) → Logged (start files) 0 []
+  start-logged files = record {
+    early = λ e h. absurd h;
+    made = λ i s at.
+        let (file, j, e) = Among-map_from fresh s files (nth-among i s (map fresh files) at) in
+        let P : System → Type 0 = λ t. Made t [] in
+        subst P (sym e) (made-nothing file);
+    maker = λ e h. absurd h;
+    one_scan = λ e f h g same c d at_c at_d q. absurd h;
+  }
+
+  pub run-logged : (files : List LinkFile) → FilesFit files → (events : List RunEvent) →
+      (m : ℕ) × Logged (run_of files events) m (exports files events)
+  run-logged files fit events = events-logged events (start files) 0 [] (start-ok laws files fit) (start-logged files)
+
+  -- the maker of an export, and the exported messages
+  pub export-made : (run : Run) (n : ℕ) (all : List Export) → Logged run n all → (e : Export) → Among e all →
+      (s : System) × (nth e.system run.systems ≡ Some s) × (origin e.packet ≡ s.file.system) ×
+      ((copy : Filed) → Among copy (copies e.packet) → (m : Filed) × Among m (take s.cursor s.history) × IsSentCopy s.file m (destination e.packet) copy)
+  export-made run n all logged e h =
+      let (s, at) = logged.maker e h in
+      let made = logged.made e.system s at in
+      let mine = sent-by_own e all h in
+      (s, at, made.origins e.packet mine, made.copy e.packet mine)

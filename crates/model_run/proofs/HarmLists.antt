@@ -1,6 +1,6 @@
 -- Items of lists by their index, and the items after some of them.
-use Rattle.std.proofs.Common.{◌≡◌, inl, inr, refl, sym, subst, ap, ◌∙◌, ℕ, zero, suc, ◌+◌, ◌<◌, arith, List, [], ◌∷◌, ◌++◌, length, map, Some, None}
-use Rattle.std.specs.Prelude.{Bool, false, not}
+use Rattle.std.proofs.Common.{◌≡◌, inl, inr, refl, sym, ap, ℕ, zero, suc, ◌+◌, ◌<◌, arith, List, [], ◌∷◌, ◌++◌, length, map, Some, None}
+use Rattle.std.specs.Prelude.{Bool, false}
 use Rattle.std.specs.List.{position_or_len}
 use Rattle.std.proofs.lemmas.Bool.{cond-true, cond-false}
 use Rattle.model_graph.specs.Walk.{Among}
@@ -50,13 +50,4 @@ nth-changed (suc i) f x (y ∷ xs) h = nth-changed i f x xs h
 -- if no item passes
 pub none_passes : {X : Type 0} (p : X → Bool) (xs : List X) → nth (position_or_len p xs) xs ≡ None → (x : X) → Among x xs → p x ≡ false
 none_passes p [] h x i = absurd i
-none_passes {X} p (y ∷ xs) h x i =
-    let P : ℕ → Type 0 = λ k. nth k (y ∷ xs) ≡ None in
-    elim (yes_or_no (p y)) [
-      | inl t ↦ (let here : position_or_len p (y ∷ xs) ≡ 0 = cond-false (not (p y)) (1 + position_or_len p xs) 0 (ap not t) in
-          absurd (none_some (sym (subst P here h))))
-      | inr f ↦ (let there : position_or_len p (y ∷ xs) ≡ suc (position_or_len p xs) = (
-          let first : position_or_len p (y ∷ xs) ≡ 1 + position_or_len p xs = cond-true (not (p y)) (1 + position_or_len p xs) 0 (ap not f) in
-          omega (arith, first)) in
-          elim i [ inl e ↦ ap p e ∙ f | inr t ↦ none_passes p xs (subst P there h) x t ])
-    ]
+none_passes {X} p (y ∷ xs) h x i = grind (arith, yes_or_no, cond-false, none_some, cond-true, none_passes p xs)

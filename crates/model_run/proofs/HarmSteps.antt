@@ -1,12 +1,11 @@
 -- Runs event by event: invariants, the files that stay, and the messages that a toss may file.
-use Rattle.std.proofs.Common.{◌≡◌, ◌⊎◌, inl, inr, refl, sym, subst, ◌∙◌, List, [], ◌∷◌, ◌++◌, map, Some}
+use Rattle.std.proofs.Common.{◌≡◌, ◌⊎◌, inl, inr, refl, sym, subst, ◌∙◌, List, [], ◌∷◌, ◌++◌, map, Some, arith}
 use Rattle.std.specs.List.{AllByRecursion}
 use Rattle.std.proofs.lemmas.List.{append_assoc, append-nil}
 use Rattle.echo_addr.specs.declared.address.Address.{Address}
 use Rattle.model_graph.specs.Walk.{Among}
 use Rattle.echo_packet.specs.Message.{Message}
 use Rattle.model_steps.specs.declared.outcome.Outcome.{Outcome}
-use Rattle.model_steps.specs.declared.outcome.Outcome.TheVariants as outcome
 use Rattle.echo_links.specs.Links.{LinkFile}
 use Rattle.echo_filed.specs.Filed.{Filed}
 use Rattle.model_steps.specs.Tossing.{received, toss_outcome, tossing, where_filed}
@@ -31,9 +30,7 @@ pub along : (Allowed : RunEvent → Type 0) (P : List RunEvent → Type 0) →
     ((earlier : List RunEvent) (event : RunEvent) → Allowed event → P earlier → P (earlier ++ event ∷ [])) →
     (earlier events : List RunEvent) → AllByRecursion Allowed events → P earlier → P (earlier ++ events)
 along Allowed P keeps earlier [] allowed h = subst P (sym (append-nil earlier)) h
-along Allowed P keeps earlier (event ∷ later) allowed h =
-    subst P (append_assoc earlier (event ∷ []) later)
-    (along Allowed P keeps (earlier ++ event ∷ []) later allowed.1 (keeps earlier event allowed.0 h))
+along Allowed P keeps earlier (event ∷ later) allowed h = grind (arith, append_assoc, along Allowed P keeps (earlier ++ event ∷ []) later allowed.1 (keeps earlier event allowed.0 h))
 
 pub all-append : (Allowed : RunEvent → Type 0) (xs ys : List RunEvent) → AllByRecursion Allowed xs → AllByRecursion Allowed ys → AllByRecursion Allowed (xs ++ ys)
 all-append Allowed [] ys h k = k
@@ -47,12 +44,7 @@ run-files files events = stay events (start files) ∙ fresh-files files
     stay (event ∷ later) run = stay later (after_event run event) ∙ event-files run event
 
 where_filed-is : (o : Outcome) (m n : Filed) → where_filed o m ≡ Some n → n ≡ m
-where_filed-is outcome.Filed m n h = sym (some_same h)
-where_filed-is outcome.Known m n h = absurd (none_some h)
-where_filed-is outcome.NoArea m n h = absurd (none_some h)
-where_filed-is outcome.NotLinked m n h = absurd (none_some h)
-where_filed-is outcome.NotEcho m n h = absurd (none_some h)
-where_filed-is outcome.BadTag m n h = absurd (none_some h)
+where_filed-is o m n h1 = grind (arith, some_same, none_some)
 
 pub tossing-is : (file : LinkFile) (base : List Filed) (sender : Address) (q : Message) (m : Filed) → tossing file base sender q ≡ Some m → m ≡ received sender q
 unfolding tossing

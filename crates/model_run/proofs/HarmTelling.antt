@@ -15,15 +15,17 @@ use Rattle.model_run.specs.Run.{Run, System, filing, fresh, nth, run_of}
 use Rattle.model_run.specs.Orderly.{IsPosting, Settled, count, sent_count}
 use Rattle.model_run.specs.World.{area_count}
 use Rattle.model_run.proofs.TosserLaws.{the_laws}
-use Rattle.model_run.proofs.Lists.{nth-among, yes_or_no}
-use Rattle.model_run.specs.Grave.{AllAreCarriers, HaveOwnAddresses}
+use Rattle.model_run.proofs.Lists.{nth-among, yes_or_no, not_both, nth-cases}
+use Rattle.model_run.specs.Grave.{AllAreCarriers, HaveOwnAddresses, GraveFault}
 use Rattle.model_run.specs.LawsOfRuns.{LawsOfRuns}
-use Rattle.model_run.specs.Postings.{IsMove, trial_draft, trial_moment, trial_posting}
-use Rattle.model_run.proofs.HarmCounts.{has-one}
+use Rattle.model_run.specs.Postings.{IsMove, trial_draft, trial_moment, trial_posting, ComesToRest}
 use Rattle.model_run.proofs.Holders.{Unharmed, posting-own}
 use Rattle.model_run.proofs.HarmLists.{among-nth}
-use Rattle.model_run.proofs.OneMessage.{only-posted, post_of, post_of-tag, posted-at, poster}
-use Rattle.model_run.proofs.Tags.{upper-same}
+use Rattle.model_run.proofs.OneMessage.{only-posted, post_of, post_of-tag, posted-at, poster, has-one}
+use Rattle.model_run.proofs.Areas.{upper-same}
+use Rattle.model_run.proofs.Faults.{not_grave}
+use Rattle.model_run.proofs.Resting.{runs-settle}
+use Rattle.model_run.proofs.Targets.{some_same, none_some}
 
 some_of-area : (tag : List ℕ) (ms : List Filed) → 1 ≤ area_count tag ms → (m : Filed) × Among m ms × (m.echo.tag ≡ tag)
 some_of-area tag [] h = absurd (omega (arith, h))
@@ -94,3 +96,65 @@ module _ (files : List LinkFile) (known : LawsOfRuns files) (tag : List ℕ) (i 
             never_own = subst R (sym named) (subst S same (never z at));
             filed = subst Q (sym named) (λ s h has. let (j, there) = among-nth s run.systems h in filed-some only j s there (filed j s there has));
           }
+
+-- If a posting of each carrier does no harm, no fault is grave.
+
+module _ (files : List LinkFile) (known : LawsOfRuns files) (tag : List ℕ) (one_file : HaveOwnAddresses files) (all_known : AllAreCarriers files tag) where
+  -- these moves after the posting do no harm
+  abbrev pub IsHarmless : (i : ℕ) (moves : List RunEvent) → AllByRecursion IsMove moves → Type 0
+  IsHarmless i moves only = (file : LinkFile) (is : nth i files ≡ Some file) (area : has_area file tag ≡ true) →
+      Unharmed files known tag one_file all_known i file is area moves only
+
+  -- some moves after the posting of a carrier do no harm
+  pub record Trial (i : ℕ) (file : LinkFile) (is : nth i files ≡ Some file) (area : has_area file tag ≡ true) : Type 0 where
+    pub moves : List RunEvent
+    pub only_moves : AllByRecursion IsMove moves
+    pub unharmed : Unharmed files known tag one_file all_known i file is area moves only_moves
+
+  -- the same for any system
+  record Moved (i : ℕ) : Type 0 where
+    moves : List RunEvent
+    rests : ComesToRest files tag i moves
+    harmless : IsHarmless i moves rests.only_moves
+
+  module _ (trials : (i : ℕ) (file : LinkFile) (is : nth i files ≡ Some file) (area : has_area file tag ≡ true) → Trial i file is area) where
+    settled : (i : ℕ) → ((file : LinkFile) → nth i files ≡ Some file → has_area file tag ≡ true → ⊥) → Moved i
+    settled i never =
+        let (more, only, at_rest) = runs-settle files known tag all_known (trial_posting i tag ∷ []) in
+        record {
+          moves = more;
+          rests = record { only_moves = only; settled = at_rest };
+          harmless = λ file is area. absurd (never file is area);
+        }
+
+    carried : (i : ℕ) (found : LinkFile) (at : nth i files ≡ Some found) (area : has_area found tag ≡ true) → Moved i
+    carried i found at has =
+        let trial = trials i found at has in
+        let unharmed = trial.unharmed in
+        record {
+          moves = trial.moves;
+          rests = record { only_moves = trial.only_moves; settled = unharmed.settled };
+          harmless = λ file is area.
+              let P : LinkFile → Type 0 = λ g. (is_g : nth i files ≡ Some g) (area_g : has_area g tag ≡ true) →
+              Unharmed files known tag one_file all_known i g is_g area_g trial.moves trial.only_moves in
+              subst P (some_same (sym at ∙ is)) (λ is_g area_g. record {
+                settled = unharmed.settled;
+                sent_once = unharmed.sent_once;
+                never_own = unharmed.never_own;
+                filed = unharmed.filed;
+              }) is area;
+        }
+
+    moved : (i : ℕ) → Moved i
+    moved i =
+        elim (nth-cases i files) [
+          | inl none ↦ settled i (λ file is area. none_some (sym none ∙ is))
+          | inr found ↦ elim (yes_or_no (has_area found.0 tag)) [
+            | inl t ↦ carried i found.0 found.1 t
+            | inr f ↦ settled i (λ file is area.
+                not_both (has_area file tag) area (ap (λ (g : LinkFile). has_area g tag) (some_same (sym is ∙ found.1)) ∙ f))
+          ]
+        ]
+
+    pub no_fault : ¬ GraveFault files tag
+    no_fault = not_grave files known tag one_file all_known (λ i. (moved i).moves) (λ i. (moved i).rests) (λ i. (moved i).harmless)

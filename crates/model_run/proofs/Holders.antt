@@ -1,5 +1,5 @@
 -- In an orderly run that has settled after one posting, each carrier got the posting from just one link.
-use Rattle.std.proofs.Common.{◌≡◌, ◌≢◌, ◌⊎◌, inl, inr, refl, sym, subst, ap, ◌∙◌, ℕ, zero, suc, ◌≤◌, arith, IsTrue, List, [], ◌∷◌, take, drop, map, Option, Some, None}
+use Rattle.std.proofs.Common.{◌≡◌, ◌≢◌, ◌⊎◌, inl, inr, refl, sym, subst, ap, ◌∙◌, ℕ, ◌≤◌, arith, IsTrue, List, [], ◌∷◌, take, drop, map, Option, Some, None}
 use Rattle.std.specs.Prelude.{Bool, true, false}
 use Rattle.std.specs.List.{AllByRecursion}
 use Rattle.std.proofs.lemmas.Bool.{cases_eq}
@@ -9,33 +9,30 @@ use Rattle.echo_addr.specs.Address.{net_node_of}
 use Rattle.model_graph.specs.Walk.{Among, Different}
 use Rattle.model_graph.proofs.Members.{Among-append_cases}
 use Rattle.model_steps.specs.declared.packet.Packet.{Packet}
-use Rattle.echo_text.specs.Echo.{EchoText, msgid_of}
+use Rattle.echo_text.specs.Echo.{EchoText}
 use Rattle.echo_links.specs.Links.{LinkFile, has_area, is_link, links_of}
 use Rattle.echo_filed.specs.declared.key.Key.{Key}
-use Rattle.echo_filed.specs.Filed.{Filed, key_of, key_with}
+use Rattle.echo_filed.specs.Filed.{Filed, key_of}
 use Rattle.model_steps.specs.Posting.{posted}
 use Rattle.model_steps.specs.Scanning.{is_seen_by}
-use Rattle.model_run.specs.Event.{RunEvent}
-use Rattle.model_run.specs.Run.{Run, System, destination, nth, run_of}
+use Rattle.model_run.specs.Event.{RunEvent, Scanning}
+use Rattle.model_run.specs.Run.{Run, System, destination, nth, run_of, filing, fresh, scanning, scanning_at}
 use Rattle.model_run.specs.Orderly.{IsPosting, Settled, copies, count, origin, sent_count, tag_of}
 use Rattle.model_run.specs.Exports.{Export, IsSentCopy, exports, sent_by}
 use Rattle.model_run.specs.Tidy.{Carries, lists}
 use Rattle.model_run.proofs.Lists.{Among-take, not_both, nth-among}
 use Rattle.model_run.specs.Grave.{AllAreCarriers}
 use Rattle.model_run.specs.Harms.{Harm, SentItsOwn}
-use Rattle.model_run.specs.Postings.{IsMove}
-use Rattle.model_run.proofs.HarmCounts.{counted, counted-one, one-or_zero, sent-part, sent-two}
-use Rattle.model_run.proofs.Entries.{among-link, among-seen, exported-path, listed-from, listed-to, seen-among, target-link, target-to, target-unseen}
+use Rattle.model_run.specs.Postings.{IsMove, trial_posting, post_and_scan, trial_moment}
 use Rattle.model_run.specs.LawsOfRuns.{LawsOfRuns}
-use Rattle.model_run.proofs.HarmLists.{among-nth, nth-map}
-use Rattle.model_run.proofs.OneMessage.{Arrived, OnlyPosted, only-posted, post_of, post_of-tag, poster}
-use Rattle.model_run.specs.Postings.{trial_posting}
-use Rattle.model_run.proofs.Places.{carrier-file, file-carries, file-lists, lists-link, one-system}
+use Rattle.model_run.proofs.HarmLists.{among-nth, nth-map, nth-changed}
+use Rattle.model_run.proofs.OneMessage.{Arrived, OnlyPosted, only-posted, post_of, post_of-tag, poster, counted, counted-one, one-or_zero, sent-part, sent-two, posted-at}
+use Rattle.model_run.proofs.Places.{carrier-file, file-carries, file-lists, lists-link, one-system, lists-file}
 use Rattle.model_run.proofs.Resting.{export-of, file-there, system-there}
 use Rattle.model_run.proofs.Spreads.{Came, Spread}
-use Rattle.model_run.proofs.HarmSteps.{run-files}
-use Rattle.model_run.proofs.Tags.{link-area}
-use Rattle.model_run.proofs.Targets.{some_same}
+use Rattle.model_run.proofs.HarmSteps.{run-files, after_one_more}
+use Rattle.model_run.proofs.Targets.{some_same, none_some}
+use Rattle.model_run.proofs.Areas.{link-area, among-link, among-seen, exported-path, listed-from, listed-to, seen-among, target-link, target-to, target-unseen, link-among}
 
 -- some item has the property, or all have the other one
 some-or_all : {X : Type 0} (P Q : X → Type 0) → ((x : X) → P x ⊎ Q x) → (xs : List X) → ((x : X) × Among x xs × P x) ⊎ ((x : X) → Among x xs → Q x)
@@ -51,26 +48,17 @@ some-or_all P Q decide (y ∷ xs) =
 
 -- for systems with the area
 where_area : {P Q : Type 0} (has : Bool) → P ⊎ Q → ((has ≡ true) × P) ⊎ (has ≡ true → Q)
-where_area true (inl h) = inl (refl, h)
-where_area true (inr h) = inr (λ _. h)
-where_area false either = inr (λ e. absurd (not_both false e refl))
+where_area has h1 = grind (arith, not_both)
 
 more-or_few : (n : ℕ) → (2 ≤ n) ⊎ (n ≤ 1)
-more-or_few zero = inr (omega arith)
-more-or_few (suc zero) = inr (omega arith)
-more-or_few (suc (suc n)) = inl (omega arith)
+more-or_few n = grind arith
 
 zero-or_one : (n : ℕ) → (n ≡ 0) ⊎ (1 ≤ n)
-zero-or_one zero = inl refl
-zero-or_one (suc n) = inr (omega arith)
+zero-or_one n = grind arith
 
 pub key-tag : (m : Filed) → tag_of (key_of m) ≡ m.echo.tag
 unfolding key_of
-key-tag m = of_id (msgid_of m.echo.kept)
-  where
-    of_id : (o : Option (List ℕ)) → tag_of (key_with m o) ≡ m.echo.tag
-    of_id None = refl
-    of_id (Some id) = refl
+key-tag m = grind arith
 
 pub posting-own : (file : LinkFile) (tag : List ℕ) → (post_of file tag).sender ≡ None
 unfolding posted
@@ -275,15 +263,7 @@ module _ (files : List LinkFile) (known : LawsOfRuns files) (tag : List ℕ) (on
       to_links = target-link maker.file original x copy.target
 
       maker-holds : Holds maker.file.system original
-      maker-holds = record {
-        index = sent.export.system;
-        system = maker;
-        at = sent.at;
-        address = refl;
-        area_there = link-area maker.file tag x (among_links x to_links);
-        filed = Among-take maker.cursor original maker.history sent.scanned;
-        key = original-key;
-      }
+      maker-holds = grind (arith, link-area, among_links, to_links, Among-take, original-key)
 
       sent-came : Came (lists files tag) Holds x m
       sent-came = record {
@@ -414,3 +394,47 @@ module _ (files : List LinkFile) (known : LawsOfRuns files) (tag : List ℕ) (on
       came = λ x m a. elim (held-or_came x m a) [ inl posting ↦ inl posting.1 | inr sent ↦ inr (sent-came x m a sent) ];
       sole = sole;
     }
+
+-- A system posts and scans: its posting is sent to each of its links.
+
+module _ (files : List LinkFile) (known : LawsOfRuns files) (tag : List ℕ) (i : ℕ) (file : LinkFile) (is : nth i files ≡ Some file) (area : has_area file tag ≡ true) where
+  abbrev pub scanned-poster : System
+  scanned-poster = scanning_at (filing (fresh file) (Some (post_of file tag)))
+
+  pub scanned-there : nth i (run_of files (post_and_scan i tag)).systems ≡ Some scanned-poster
+  scanned-there =
+      let before = run_of files (trial_posting i tag ∷ []) in
+      let at = posted-at files known tag i file is area in
+      let P : Run → Type 0 = λ run. nth i run.systems ≡ Some scanned-poster in
+      let Q : Option System → Type 0 = λ o. P (scanning before i trial_moment o) in
+      after_one_more P files (trial_posting i tag ∷ []) (Scanning i trial_moment)
+      (subst Q (sym at) (nth-changed i scanning_at (filing (fresh file) (Some (post_of file tag))) before.systems at))
+
+  pub sent-to_link : (a : Address) → is_link file tag a ≡ true →
+      1 ≤ sent_count a (key_of (post_of file tag)) (run_of files (post_and_scan i tag)).packets
+  sent-to_link a link =
+      let events = post_and_scan i tag in
+      let p = post_of file tag in
+      let P : List ℕ → Type 0 = λ t. Among a (links_of file t) in
+      let target = target-to file p a (subst P (sym (post_of-tag files known tag i file is area)) (link-among file tag a link))
+      (λ e. none_some (sym (posting-own file tag) ∙ e)) (posting-seen file tag a) in
+      let one = known.sent events i scanned-poster scanned-there p (inl refl) a target in
+      let all = ap (λ (ps : List Packet). sent_count a (key_of p) ps) (known.packets events) in
+      omega (arith, one, all, sent-part a (key_of p) i (exports files events))
+
+  -- a system that lists itself is sent its own posting
+  pub own-sent : is_link file tag file.system ≡ true → SentItsOwn (run_of files (post_and_scan i tag)) tag
+  own-sent link = record {
+    system = scanned-poster;
+    there = nth-among i scanned-poster (run_of files (post_and_scan i tag)).systems scanned-there;
+    carries = area;
+    message = post_of file tag;
+    filed = inl refl;
+    posting = record { own = posting-own file tag; area = post_of-tag files known tag i file is area };
+    sent = sent-to_link file.system link;
+  }
+
+-- a system that lists itself is sent its posting at once
+pub listed-sent : (files : List LinkFile) → LawsOfRuns files → (tag : List ℕ) (a : Address) → IsTrue (lists files tag a a) →
+    (i : ℕ) × SentItsOwn (run_of files (post_and_scan i tag)) tag
+listed-sent files known tag a lists_itself = grind (arith, lists-file, among-nth, link-area, link-among, own-sent)

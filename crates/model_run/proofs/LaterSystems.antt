@@ -1,5 +1,5 @@
 -- A system keeps its messages over all events.
-use Rattle.std.proofs.Common.{◌≡◌, inl, inr, refl, sym, subst, ap, ◌∙◌, ℕ, arith, List, [], ◌∷◌, ◌++◌, length, Option, Some, None}
+use Rattle.std.proofs.Common.{◌≡◌, inl, inr, refl, sym, subst, ℕ, arith, List, [], ◌∷◌, ◌++◌, length, Option, Some, None}
 use Rattle.std.specs.Prelude.{Bool, true, false, take, if◌then◌else◌}
 use Rattle.std.proofs.lemmas.List.{append_assoc, append-nil}
 use Rattle.echo_addr.specs.declared.address.Address.{Address}
@@ -24,25 +24,14 @@ pub later-itself : (s : System) → IsLater s s
 later-itself s = record { file = refl; cursor = omega arith; filed = ([], sym (append-nil s.history)) }
 
 pub later-still : (s t z : System) → IsLater s t → IsLater t z → IsLater s z
-later-still s t z a b = record {
-  file = b.file ∙ a.file;
-  cursor = omega (arith, a.cursor, b.cursor);
-  filed = (
-    a.filed.0 ++ b.filed.0,
-    b.filed.1 ∙ (ap (λ (ms : List Filed). ms ++ b.filed.0) a.filed.1 ∙ append_assoc s.history a.filed.0 b.filed.0),
-  );
-}
+later-still s t z a b = grind (arith, append_assoc)
 
 pub filing-later : (s : System) (o : Option Filed) → IsLater s (filing s o)
 filing-later s None = later-itself s
 filing-later s (Some m) = record { file = refl; cursor = omega arith; filed = (m ∷ [], refl) }
 
 pub scanning-later : (s : System) → Kept s.cursor s.base s.history → IsLater s (scanning_at s)
-scanning-later s kept = record {
-  file = refl;
-  cursor = omega (arith, Kept-cursor s.cursor s.base s.history kept, Kept-length s.cursor s.base s.history kept);
-  filed = ([], sym (append-nil s.history));
-}
+scanning-later s kept = grind (arith, Kept-cursor, Kept-length, append-nil)
 
 pub purging-later : (s : System) → IsLater s (purging_at s)
 purging-later s = record { file = refl; cursor = omega arith; filed = ([], sym (append-nil s.history)) }

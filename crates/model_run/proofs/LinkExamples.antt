@@ -2,10 +2,10 @@
 use Rattle.std.proofs.Common.{◌≡◌, ℕ, List, [], ◌∷◌, ◌++◌, refl, Some, None, codes, replicate}
 use Rattle.std.specs.Fmt.{digits}
 use Rattle.echo_addr.specs.Address.{refusal as address_refusal}
-use Rattle.echo_links.specs.declared.fault.LinkFault.TheVariants as fault
 use Rattle.model_steps.specs.Posting.{origin_line}
 use Rattle.echo_links.specs.LinkLines.{file_fault, file_lines, file_of, line_fault, words}
 use Rattle.model_run.proofs.Examples.{first_file}
+use Rattle.echo_links.specs.declared.fault.LinkFault.TheVariants as fault
 
 -- a line and its 0A
 abbrev line : List ℕ → List ℕ

@@ -1,22 +1,19 @@
 -- Items of lists by their index, and members of mapped and filtered lists.
-use Rattle.std.proofs.Common.{◌≡◌, ◌≢◌, ◌⊎◌, inl, inr, refl, sym, subst, ap, ◌∙◌, ℕ, zero, suc, ◌+◌, arith, List, [], ◌∷◌, ◌++◌, length, take, drop, map, Some, None}
-use Rattle.std.specs.Prelude.{Bool, true, false, filter, not, ◌&&◌, ◌||◌, ◌==◌, if◌then◌else◌}
+use Rattle.std.proofs.Common.{◌≡◌, ◌≢◌, ◌⊎◌, inl, inr, refl, subst, ap, ◌∙◌, ℕ, zero, suc, ◌+◌, arith, List, [], ◌∷◌, ◌++◌, length, take, drop, map, Some, None}
+use Rattle.std.specs.Prelude.{Bool, true, false, filter, ◌&&◌, ◌||◌}
 use Rattle.std.specs.List.{list_any, position_or_len}
 use Rattle.std.proofs.lemmas.Bool.{cond-true, cond-false, eq-eqb}
 use Rattle.model_graph.specs.Walk.{Among, Different}
 use Rattle.model_run.specs.Run.{nth, change, with_index}
 use Rattle.model_run.proofs.Targets.{none_some}
+use Rattle.model_graph.proofs.Members.{Among-append_cases}
 
 -- a test says yes or no
 pub yes_or_no : (b : Bool) → (b ≡ true) ⊎ (b ≡ false)
-yes_or_no true = inl refl
-yes_or_no false = inr refl
+yes_or_no b = grind arith
 
 pub not_both : (b : Bool) → b ≡ true → b ≡ false → ⊥
-not_both b t f = absurd (bad (sym t ∙ f))
-  where
-    bad : (let yea : Bool = true in yea ≡ false) → ⊥
-    bad e = cc
+not_both b t f = grind arith
 
 -- a list around one of its items
 pub record Split {X : Type 0} (i : ℕ) (x : X) (xs : List X) : Type 0 where
@@ -32,10 +29,7 @@ nth-cases (suc i) (x ∷ xs) = nth-cases i xs
 
 pub change-none : {X : Type 0} (i : ℕ) (f : X → X) (xs : List X) → nth i xs ≡ None → change i f xs ≡ xs
 change-none i f [] h = refl
-change-none zero f (x ∷ xs) h = absurd (some_none h)
-  where
-    some_none : {X : Type 0} {x : X} → Some x ≡ None → ⊥
-    some_none e = cc
+change-none zero f (x ∷ xs) h = grind arith
 change-none (suc i) f (x ∷ xs) h = ap (λ (ys : List _). x ∷ ys) (change-none i f xs h)
 
 pub nth-split : {X : Type 0} (i : ℕ) (x : X) (xs : List X) → nth i xs ≡ Some x → Split i x xs
@@ -67,11 +61,7 @@ nth-change {X} i j f z [] h = absurd (none_some h)
 nth-change zero zero f z (x ∷ xs) h = inr (refl, (x, refl, (let e : Some (f x) ≡ Some z = h in cc)))
 nth-change zero (suc j) f z (x ∷ xs) h = inl (λ e. absurd (omega (arith, e)), h)
 nth-change (suc i) zero f z (x ∷ xs) h = inl (λ e. absurd (omega (arith, e)), h)
-nth-change (suc i) (suc j) f z (x ∷ xs) h =
-    elim (nth-change i j f z xs h) [
-      | inl k ↦ inl (λ e. k.0 (omega (arith, e)), k.1)
-      | inr k ↦ inr (ap suc k.0, k.1)
-    ]
+nth-change (suc i) (suc j) f z (x ∷ xs) h = grind (arith, nth-change i j f z xs h)
 
 -- each old item stays, or is changed
 pub nth-changed : {X : Type 0} (i j : ℕ) (f : X → X) (x : X) (xs : List X) → nth j xs ≡ Some x →
@@ -80,33 +70,12 @@ nth-changed {X} i j f x [] h = absurd (none_some h)
 nth-changed {X} zero zero f x (y ∷ xs) h = inr (refl, (let same : y ≡ x = (let e : Some y ≡ Some x = h in cc) in ap (λ (z : X). Some (f z)) same))
 nth-changed zero (suc j) f x (y ∷ xs) h = inl (λ e. absurd (omega (arith, e)), h)
 nth-changed (suc i) zero f x (y ∷ xs) h = inl (λ e. absurd (omega (arith, e)), h)
-nth-changed (suc i) (suc j) f x (y ∷ xs) h =
-    elim (nth-changed i j f x xs h) [
-      | inl k ↦ inl (λ e. k.0 (omega (arith, e)), k.1)
-      | inr k ↦ inr (ap suc k.0, k.1)
-    ]
+nth-changed (suc i) (suc j) f x (y ∷ xs) h = grind (arith, nth-changed i j f x xs h)
 
 -- the first item that passes, passes
 pub first_passes : {X : Type 0} (p : X → Bool) (x : X) (xs : List X) → nth (position_or_len p xs) xs ≡ Some x → p x ≡ true
 first_passes {X} p x [] h = absurd (none_some h)
-first_passes {X} p x (y ∷ xs) h =
-    elim (yes_or_no (p y)) [
-      | inl t ↦ (let here : position_or_len p (y ∷ xs) ≡ 0 = cond-false (not (p y)) (1 + position_or_len p xs) 0 (negated-true t) in
-          let P : ℕ → Type 0 = λ i. nth i (y ∷ xs) ≡ Some x in
-          let e : Some y ≡ Some x = subst P here h in
-          let same : y ≡ x = cc in
-          ap p (sym same) ∙ t)
-      | inr f ↦ (let first : position_or_len p (y ∷ xs) ≡ 1 + position_or_len p xs = cond-true (not (p y)) (1 + position_or_len p xs) 0 (negated-false f) in
-          let there : position_or_len p (y ∷ xs) ≡ suc (position_or_len p xs) = omega (arith, first) in
-          let P : ℕ → Type 0 = λ i. nth i (y ∷ xs) ≡ Some x in
-          first_passes p x xs (subst P there h))
-    ]
-  where
-    negated-true : {b : Bool} → b ≡ true → not b ≡ false
-    negated-true e = ap not e
-
-    negated-false : {b : Bool} → b ≡ false → not b ≡ true
-    negated-false e = ap not e
+first_passes {X} p x (y ∷ xs) h = grind (arith, yes_or_no, cond-false, cond-true, first_passes p x xs)
 
 pub filter-yes : {X : Type 0} (p : X → Bool) (x : X) (xs : List X) → p x ≡ true → filter p (x ∷ xs) ≡ x ∷ filter p xs
 filter-yes p x xs t = cond-true (p x) (x ∷ filter p xs) (filter p xs) t
@@ -121,34 +90,18 @@ filter-none p (x ∷ xs) h = filter-no p x xs (h x (inl refl)) ∙ filter-none p
 
 pub filter-all : {X : Type 0} (p : X → Bool) (xs : List X) → ((x : X) → Among x xs → p x ≡ true) → filter p xs ≡ xs
 filter-all p [] h = refl
-filter-all p (x ∷ xs) h =
-    filter-yes p x xs (h x (inl refl)) ∙ ap (λ (ys : List _). x ∷ ys) (filter-all p xs (λ y i. h y (inr i)))
+filter-all p (x ∷ xs) h = grind (arith, filter-yes, filter-all p xs)
 
 pub same_list : {X : Type 0} (x : X) (xs ys : List X) → xs ≡ ys → Among x xs → Among x ys
 same_list {X} x xs ys e h = let P : List X → Type 0 = λ zs. Among x zs in subst P e h
 
 pub Among-filter_from : {X : Type 0} (p : X → Bool) (x : X) (xs : List X) → Among x (filter p xs) → Among x xs × (p x ≡ true)
 Among-filter_from p x [] h = absurd h
-Among-filter_from p x (y ∷ xs) h =
-    elim (yes_or_no (p y)) [
-      | inl t ↦ elim (same_list x (filter p (y ∷ xs)) (y ∷ filter p xs) (filter-yes p y xs t) h) [
-        | inl e ↦ (inl e, ap p e ∙ t)
-        | inr i ↦ (let (k, q) = Among-filter_from p x xs i in (inr k, q))
-      ]
-      | inr f ↦ (let (k, q) = Among-filter_from p x xs (same_list x (filter p (y ∷ xs)) (filter p xs) (filter-no p y xs f) h) in (inr k, q))
-    ]
+Among-filter_from p x (y ∷ xs) h = grind (arith, yes_or_no, same_list, filter-yes, filter-no, Among-filter_from p x xs)
 
 pub Among-filter_to : {X : Type 0} (p : X → Bool) (x : X) (xs : List X) → Among x xs → p x ≡ true → Among x (filter p xs)
 Among-filter_to p x [] h q = h
-Among-filter_to p x (y ∷ xs) h q =
-    elim (yes_or_no (p y)) [
-      | inl t ↦ same_list x (y ∷ filter p xs) (filter p (y ∷ xs)) (sym (filter-yes p y xs t))
-          (elim h [ inl e ↦ inl e | inr i ↦ inr (Among-filter_to p x xs i q) ])
-      | inr f ↦ elim h [
-        | inl e ↦ absurd (not_both (p y) (ap p (sym e) ∙ q) f)
-        | inr i ↦ same_list x (filter p xs) (filter p (y ∷ xs)) (sym (filter-no p y xs f)) (Among-filter_to p x xs i q)
-      ]
-    ]
+Among-filter_to p x (y ∷ xs) h q = grind (arith, yes_or_no, same_list, filter-yes, not_both, filter-no, Among-filter_to p x xs)
 
 pub Among-take : {X : Type 0} (n : ℕ) (x : X) (xs : List X) → Among x (take n xs) → Among x xs
 Among-take n x [] h = same_list x (take n []) [] (take_nil n) h
@@ -165,50 +118,33 @@ Among-drop (suc n) x [] h = h
 Among-drop (suc n) x (y ∷ xs) h = inr (Among-drop n x xs h)
 
 pub or-left : (a b : Bool) → a ≡ true → a || b ≡ true
-or-left true b e = refl
-or-left false b e = absurd (not_both false e refl)
+or-left a b h1 = grind (arith, not_both)
 
 pub or-right : (a b : Bool) → b ≡ true → a || b ≡ true
-or-right true b e = refl
-or-right false b e = e
+or-right a b h1 = grind arith
 
 pub or-rest : (a b : Bool) → a ≡ false → a || b ≡ true → b ≡ true
-or-rest true b f e = absurd (not_both true refl f)
-or-rest false b f e = e
+or-rest a b h1 h2 = grind (arith, not_both)
 
 pub and-parts : (a b : Bool) → a && b ≡ true → (a ≡ true) × (b ≡ true)
-and-parts true b e = (refl, e)
-and-parts false b e = absurd (not_both false e refl)
+and-parts a b h1 = grind (arith, not_both)
 
 pub and-from : (a b : Bool) → a ≡ true → b ≡ true → a && b ≡ true
-and-from true b e q = q
-and-from false b e q = absurd (not_both false e refl)
+and-from a b h1 h2 = grind (arith, not_both)
 
 pub any-to : {X : Type 0} (p : X → Bool) (x : X) (xs : List X) → Among x xs → p x ≡ true → list_any p xs ≡ true
 any-to p x [] h q = absurd h
-any-to p x (y ∷ xs) h q =
-    elim h [
-      | inl e ↦ or-left (p y) (list_any p xs) (ap p (sym e) ∙ q)
-      | inr t ↦ or-right (p y) (list_any p xs) (any-to p x xs t q)
-    ]
+any-to p x (y ∷ xs) h q = grind (arith, or-left, or-right, any-to p x xs)
 
 pub any-from : {X : Type 0} (p : X → Bool) (xs : List X) → list_any p xs ≡ true → (x : X) × Among x xs × (p x ≡ true)
 any-from p [] h = absurd (not_both false h refl)
-any-from p (y ∷ xs) h =
-    elim (yes_or_no (p y)) [
-      | inl t ↦ (y, inl refl, t)
-      | inr f ↦ (let (x, i, q) = any-from p xs (or-rest (p y) (list_any p xs) f h) in (x, inr i, q))
-    ]
+any-from p (y ∷ xs) h = grind (arith, yes_or_no, or-rest, any-from p xs)
 
 pub Among-change : {X : Type 0} (i : ℕ) (f : X → X) (z : X) (xs : List X) → Among z (change i f xs) →
     Among z xs ⊎ ((x : X) × Among x xs × (z ≡ f x))
 Among-change i f z [] h = absurd h
 Among-change zero f z (x ∷ xs) h = elim h [ inl e ↦ inr (x, inl refl, e) | inr t ↦ inl (inr t) ]
-Among-change (suc i) f z (x ∷ xs) h =
-    elim h [
-      | inl e ↦ inl (inl e)
-      | inr t ↦ elim (Among-change i f z xs t) [ inl k ↦ inl (inr k) | inr k ↦ (let (y, j, e) = k in inr (y, inr j, e)) ]
-    ]
+Among-change (suc i) f z (x ∷ xs) h = grind (arith, Among-change i f z xs)
 
 pub map-change : {X Y : Type 0} (g : X → Y) (i : ℕ) (f : X → X) → ((x : X) → g (f x) ≡ g x) → (xs : List X) → map g (change i f xs) ≡ map g xs
 map-change g i f same [] = refl
@@ -217,19 +153,11 @@ map-change g (suc i) f same (x ∷ xs) = (let e = map-change g i f same xs in cc
 
 -- an index in the longer list is the new one or an old one
 pub with_index-from : (k j : ℕ) (ks : List ℕ) → Among j (with_index k ks) → (j ≡ k) ⊎ Among j ks
-with_index-from k j ks h = cases (list_any (λ d. d == k) ks) h
-  where
-    cases : (b : Bool) → Among j (if b then ks else k ∷ ks) → (j ≡ k) ⊎ Among j ks
-    cases true h = inr h
-    cases false h = h
+with_index-from k j ks h = grind arith
 
 -- and all stay different
 pub with_index-different : (k : ℕ) (ks : List ℕ) → Different ks → Different (with_index k ks)
-with_index-different k ks d = cases (list_any (λ d. d == k) ks) refl
-  where
-    cases : (b : Bool) → list_any (λ d. d == k) ks ≡ b → Different (if b then ks else k ∷ ks)
-    cases true e = d
-    cases false e = (λ h. not_both (list_any (λ d. d == k) ks) (any-to (λ d. d == k) k ks h (eq-eqb k k refl)) e, d)
+with_index-different k ks d = grind (arith, not_both, any-to, eq-eqb)
 
 pub nth-append : {X : Type 0} (i : ℕ) (x : X) (xs ys : List X) → nth i xs ≡ Some x → nth i (xs ++ ys) ≡ Some x
 nth-append {X} i x [] ys h = absurd (none_some h)
@@ -239,8 +167,22 @@ nth-append (suc i) x (z ∷ xs) ys h = nth-append i x xs ys h
 -- a property of each item that the change keeps holds after the change
 pub change-all : {X : Type 0} (P : X → Type 0) (i : ℕ) (f : X → X) → ((x : X) → P x → P (f x)) → (xs : List X) →
     ((x : X) → Among x xs → P x) → (z : X) → Among z (change i f xs) → P z
-change-all P i f keeps xs all z h =
-    elim (Among-change i f z xs h) [
-      | inl old ↦ all z old
-      | inr new ↦ (let (x, j, e) = new in subst P (sym e) (keeps x (all x j)))
-    ]
+change-all P i f keeps xs all z h = grind (arith, Among-change)
+
+-- Members of lists that were made of others, and lists without repeats.
+
+pub Among-map_to : {X Y : Type 0} (g : X → Y) (x : X) (xs : List X) → Among x xs → Among (g x) (map g xs)
+Among-map_to g x [] h = h
+Among-map_to g x (y ∷ xs) h = elim h [ inl e ↦ inl (ap g e) | inr t ↦ inr (Among-map_to g x xs t) ]
+
+pub Among-map_from : {X Y : Type 0} (g : X → Y) (y : Y) (xs : List X) → Among y (map g xs) → (x : X) × Among x xs × (y ≡ g x)
+Among-map_from g y [] h = absurd h
+Among-map_from g y (x ∷ xs) h = grind (arith, Among-map_from g y xs)
+
+-- two lists with no member in common
+pub Different-append : {X : Type 0} (xs ys : List X) → Different xs → Different ys → ((x : X) → Among x xs → ¬ Among x ys) → Different (xs ++ ys)
+Different-append [] ys d e apart = e
+Different-append (x ∷ xs) ys d e apart = (
+  λ h. elim (Among-append_cases x xs ys h) [ inl l ↦ d.0 l | inr r ↦ apart x (inl refl) r ],
+  Different-append xs ys d.1 e (λ y i. apart y (inr i)),
+)

@@ -1,14 +1,60 @@
--- For each rule a run in which tossers keep all rules but this one, and which is not orderly.
-use Rattle.std.proofs.Common.{◌≡◌, ◌≢◌, ◌↔◌, inl, inr, refl, sym, subst, ap, ◌∙◌, ℕ, arith, List, [], ◌∷◌, Some, None}
-use Rattle.std.specs.Prelude.{true}
-use Rattle.model_graph.specs.Walk.{Among}
-use Rattle.model_graph.proofs.Members.{ℕ-can_tell}
+-- Nets of a few systems that are all linked with each other: they are tidy.
+use Rattle.std.proofs.Common.{◌≡◌, ◌≢◌, inl, inr, refl, sym, ap, ◌∙◌, ℕ, ◌<◌, arith, IsTrue, List, [], ◌∷◌, ◌↔◌, subst, Some, None}
+use Rattle.std.specs.Prelude.{Bool, true, false, not, ◌&&◌, ◌==◌, nat_lt}
+use Rattle.std.proofs.lemmas.Bool.{ltb-true, lt-ltb, and_parts, and_from}
+use Rattle.std.proofs.lemmas.Bool.Decides.{eqb_tells}
+use Rattle.model_graph.specs.Walk.{Among, Simple}
+use Rattle.model_graph.specs.Cycle.{Cycle}
+use Rattle.model_graph.proofs.Members.{ℕ-can_tell, walk_links}
+use Rattle.model_run.specs.Nets.{Net, Tidy}
 use Rattle.model_run.specs.Events.{Text, Filed, Copy, Event, Posts, Exports, Comes, Has, exported, filed}
 use Rattle.model_run.specs.Rules.{IsTarget, IsSentOnce, HasSeenBy, Rule, Kept, Always, IsPossible, ListsAll, filing, keeping, sending, telling, keys}
 use Rattle.model_run.specs.RulesOrderly.{IsMet, IsNeeded, IsSettled}
 use Rattle.model_run.proofs.Targets.{some_same}
 use Rattle.model_run.proofs.Chain.{chain, chain-parts, chain-tidy}
-use Rattle.model_run.proofs.SmallNets.{polygon, polygon-tidy, linked-parts}
+
+-- the systems 0, 1 and so on below n
+abbrev pub polygon : ℕ → Net ℕ ℕ
+polygon n = record {
+  carries = λ a. nat_lt a n;
+  linked = λ a b. nat_lt a n && (nat_lt b n && not (a == b));
+  net_node = λ a. a;
+}
+
+false_true : (let no_bit : Bool = false in no_bit ≡ true) → ⊥
+false_true e = cc
+
+module _ (n : ℕ) where
+  abbrev linked : ℕ → ℕ → Bool
+  linked a b = (polygon n).linked a b
+
+  pub linked-parts : (a b : ℕ) → IsTrue (linked a b) → (a < n) × (b < n) × (a ≢ b)
+  linked-parts a b h = grind (arith, and_parts, ltb-true, eqb_tells, false_true)
+
+  linked-from : (a b : ℕ) → a < n → b < n → a ≢ b → IsTrue (linked a b)
+  linked-from a b below_a below_b other = grind (arith, and_from, lt-ltb, eqb_tells)
+
+  simple : Simple linked
+  simple = grind (arith, linked-parts, linked-from)
+
+  in-cycle : (first : ℕ) (rest : List ℕ) → Cycle linked first rest → (x : ℕ) → Among x (first ∷ rest) → x < n
+  in-cycle first rest cycle x h = grind (arith, linked-parts, walk_links, simple)
+
+  pub polygon-tidy : Tidy (polygon n)
+  polygon-tidy = record {
+    no_self = simple.no_self;
+    both = simple.both_ways;
+    carriers = λ a b h. lt-ltb a n (linked-parts a b h).0;
+    apart = λ a b at_a at_b e. e;
+    connected = λ a b at_a at_b. elim (ℕ-can_tell a b) [
+      | inl e ↦ ([], e)
+      | inr other ↦ (b ∷ [], (linked-from a b (ltb-true a n at_a) (ltb-true b n at_b) other, refl))
+    ];
+    cycles = λ first rest cycle x y h i other.
+        linked-from x y (in-cycle first rest cycle x h) (in-cycle first rest cycle y i) other;
+  }
+
+-- For each rule a run in which tossers keep all rules but this one, and which is not orderly.
 
 -- a message of key 7 with this content and an empty SEEN-BY
 abbrev says : ℕ → Text ℕ ℕ ℕ
@@ -39,41 +85,19 @@ only_target : (x : ℕ) → IsTarget (polygon 2) (posted 0) x → Among x (1 ∷
 only_target x target = let (below, under, other) = linked-parts 2 0 x target.link in inl (omega (arith, under, λ (e : x ≡ 0). other (sym e)))
 
 is_target : (x : ℕ) → Among x (1 ∷ []) → IsTarget (polygon 2) (posted 0) x
-is_target x h =
-    let P : ℕ → Type 0 = λ a. IsTarget (polygon 2) (posted 0) a in
-    elim h [
-      | inl e ↦ subst P (sym e) (record { link = refl; not_sender = λ none. cc; not_seen = λ i. i })
-      | inr none ↦ absurd none
-    ]
+is_target x h = grind arith
 
 sent_once : (earlier : List (Event ℕ ℕ ℕ ℕ)) → Among (posted 0) (filed earlier) → ¬ Has 0 7 (exported earlier) →
     IsSentOnce (polygon 2) earlier (posted 0) (1 ∷ [])
-sent_once earlier is_filed first = record {
-  is_filed = is_filed;
-  first = first;
-  targets = λ x. (is_target x, only_target x);
-  one_each = (λ h. h, tt);
-}
+sent_once earlier is_filed first = grind (arith, is_target, only_target)
 
 -- an empty SEEN-BY misleads no receiver if 1 is the only one
 told : (x : ℕ) → Among x (1 ∷ []) → HasSeenBy (polygon 2) (posted 0) (1 ∷ []) x []
-told x h = record {
-  others = λ l i link. absurd (elim h [
-    | inl e ↦ elim i [
-      | inl q ↦ (linked-parts 2 x l link).2 (e ∙ sym q)
-      | inr none ↦ none
-    ]
-    | inr none ↦ none
-  ]);
-  behind = λ d carrier beyond other i. absurd i;
-}
+told x h = grind (arith, linked-parts)
 
 -- 1 has not filed the posting of 0
 not_at_1 : ¬ Has 1 7 (posted 0 ∷ [])
-not_at_1 has = elim has.1 [
-  | inl e ↦ (let here = ap (λ (m : Filed ℕ ℕ ℕ ℕ). m.at) e in let there = has.2 in absurd (omega (arith, here, there)))
-  | inr none ↦ none
-]
+not_at_1 has = grind arith
 
 -- a copy that comes twice is filed twice
 pub filing-needed : IsNeeded filing
@@ -104,25 +128,7 @@ settling-possible : (content : ℕ) → Always (IsPossible (polygon 2)) (settlin
 settling-possible content = (tt, (inl refl, (tt, (refl, tt))))
 
 settling-kept : (content : ℕ) (rule : Rule) → rule ≢ keeping → Kept (polygon 2) (λ a b. a ≡ b) (settling content) rule
-settling-kept content filing apart = (tt, ((λ yes. (refl, not_at_1), λ new. refl), (tt, (tt, tt))))
-settling-kept content keeping apart = absurd (apart refl)
-settling-kept content sending apart = (
-  record {
-    is_filed = inl refl;
-    first = not_at_1;
-    targets = λ x. (λ h. absurd h, λ target. nobody x target);
-    one_each = tt;
-  },
-  (tt, (sent_once (post 0 ∷ []) (inl refl) (λ has. has.1), (tt, tt))),
-)
-  where
-    nobody : (x : ℕ) → IsTarget (polygon 2) (received content) x → ⊥
-    nobody x target =
-        let (below, under, other) = linked-parts 2 1 x target.link in
-        let zero : x ≡ 0 = omega (arith, under, λ (e : x ≡ 1). other (sym e)) in
-        target.not_sender (ap (λ (a : ℕ). Some a) (sym zero))
-settling-kept content telling apart = (λ x h. absurd h, (tt, (told, (λ d carrier h. absurd h, tt))))
-settling-kept content keys apart = (tt, (tt, (tt, (λ m h. absurd h, tt))))
+settling-kept content rule h1 = grind (arith, not_at_1, sent_once, linked-parts, told)
 
 -- all rules are kept if the content stays
 pub can-be-kept : IsMet

@@ -1,5 +1,5 @@
 -- Worked runs, by computation.
-use Rattle.std.proofs.Common.{◌≡◌, Some, None, ℕ, List, [], ◌∷◌, ◌++◌, refl, codes, length, drop, map}
+use Rattle.std.proofs.Common.{◌≡◌, Some, None, ℕ, List, [], ◌∷◌, ◌++◌, refl, codes, length, drop, map, arith}
 use Rattle.std.specs.Prelude.{Bool, true, false}
 use Rattle.std.specs.Fmt.{digits}
 use Rattle.echo_addr.specs.declared.address.Address.{Address}
@@ -137,18 +137,7 @@ record Runs : Type 0 where
 
 runs : Runs
 unfolding posted posted_lines posting post_refusal id_of trimmed lines digits date_of scanned packets_of recipients packet_to targets links_of address_set header_to copy_to exported entry_set text_of short_lines received toss_outcome tossing text_refusal echo_of kept_of path_lists seen_lists begins after_word entries tokens pair_of key_of msgid_of purged stub_of
-runs = record {
-  chain_shown = refl;
-  came_twice = refl;
-  star_shown = refl;
-  triangle_shown = refl;
-  triangle_once = refl;
-  ring_shown = refl;
-  stopped_shown = refl;
-  tossed_again_shown = refl;
-  purged_at = (refl, refl, refl, refl);
-  purged_shown = refl;
-}
+runs = grind arith
 
 -- the same events in the program's form
 program_events : map run_event (
@@ -197,14 +186,7 @@ record Untidy : Type 0 where
 
 untidy : Untidy
 unfolding posted posted_lines posting post_refusal id_of trimmed lines digits date_of scanned packets_of recipients packet_to targets links_of address_set header_to copy_to exported entry_set text_of short_lines received toss_outcome tossing text_refusal echo_of kept_of path_lists seen_lists begins after_word entries tokens pair_of key_of msgid_of purged stub_of
-untidy = record {
-  not_served = refl;
-  own_sent = refl;
-  not_linked = refl;
-  taken_for_served = refl;
-  no_way = refl;
-  twice = refl;
-}
+untidy = grind arith
 
 -- cases that no run of these systems has, since their ids differ and SEEN-BY lists the sender
 abbrev two_areas : LinkFile
@@ -238,8 +220,4 @@ record Steps : Type 0 where
 
 steps : Steps
 unfolding posted posted_lines posting post_refusal id_of trimmed lines digits date_of targets links_of begins after_word key_of msgid_of
-steps = record {
-  known_serial = refl;
-  other_area = refl;
-  sender_left_out = refl;
-}
+steps = grind arith

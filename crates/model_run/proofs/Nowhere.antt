@@ -1,5 +1,5 @@
 -- A packet to an address without a file never comes.
-use Rattle.std.proofs.Common.{◌≡◌, ◌≢◌, inl, inr, refl, sym, subst, ap, ◌∙◌, ℕ, IsTrue, List, [], ◌∷◌, ◌++◌, length, Option, Some, None}
+use Rattle.std.proofs.Common.{◌≡◌, ◌≢◌, inl, inr, refl, sym, subst, ap, ◌∙◌, ℕ, IsTrue, List, [], ◌∷◌, ◌++◌, length, Option, Some, None, arith}
 use Rattle.std.specs.Prelude.{Bool, true, false, if◌then◌else◌}
 use Rattle.std.specs.List.{AllByRecursion, list_any}
 use Rattle.model_graph.specs.Walk.{Among}
@@ -14,23 +14,19 @@ use Rattle.model_steps.specs.Stamps.{is_stamp}
 use Rattle.model_run.specs.Event.{RunEvent, Posting, Scanning, Delivery, PartDelivery, Purging}
 use Rattle.model_run.specs.Run.{Run, System, after_event, change, changing, coming, delivery, destination, nth, part_delivery, posting_at, purging_at, receiver, run_of, scanning, scanning_at, taking}
 use Rattle.model_run.specs.Orderly.{Orderly, Settled, copies, tag_of}
-use Rattle.model_run.proofs.Lists.{any-to, first_passes, nth-among, with_index-from, nth-append as nth-more}
+use Rattle.model_run.proofs.Lists.{any-to, first_passes, nth-among, with_index-from, nth-append as nth-more, Among-map_to}
 use Rattle.model_run.specs.Grave.{ListsNobody}
 use Rattle.model_run.specs.Harms.{NeverSettles}
 use Rattle.model_run.specs.LawsOfRuns.{LawsOfRuns}
 use Rattle.model_run.specs.Postings.{post_and_scan, trial_moment, trial_posting}
-use Rattle.model_run.proofs.HarmCounts.{sent-packet}
-use Rattle.model_run.proofs.Entries.{link-among}
-use Rattle.model_run.proofs.Holders.{key-tag}
-use Rattle.model_run.proofs.OneMessage.{post_of, post_of-tag}
-use Rattle.model_run.proofs.PostAndScan.{sent-to_link}
+use Rattle.model_run.proofs.Holders.{key-tag, sent-to_link}
+use Rattle.model_run.proofs.OneMessage.{post_of, post_of-tag, sent-packet}
 use Rattle.model_run.proofs.Places.{lists-file}
-use Rattle.model_run.proofs.Tags.{link-area}
 use Rattle.model_run.proofs.HarmLists.{among-nth, nth-middle}
 use Rattle.model_run.proofs.Resting.{file-there}
 use Rattle.model_run.proofs.HarmSteps.{after_one_more, along, run-files}
-use Rattle.model_run.proofs.RulesLists.{Among-map_to}
 use Rattle.model_run.proofs.Targets.{some_same}
+use Rattle.model_run.proofs.Areas.{link-area, link-among}
 
 -- an area that no file has is orderly
 pub nobody-orderly : (files : List LinkFile) (tag : List ℕ) → ¬ IsTrue (list_any (λ (file : LinkFile). has_area file tag) files) →
@@ -115,8 +111,7 @@ module _ (files : List LinkFile) (p : Packet) where
     }
 
     kept-delivered : (k : ℕ) (o : Option Packet) → nth k now.packets ≡ o → Kept (delivery now k o)
-    kept-delivered k None e = kept
-    kept-delivered k (Some q) e = kept-comes k q e (nth (receiver now q) now.systems) refl
+    kept-delivered k o h1 = grind (arith, kept-comes)
 
   kept-event : LawsOfRuns files → (events : List RunEvent) (event : RunEvent) → Kept (run_of files events) → Kept (after_event (run_of files events) event)
   kept-event known events (Posting i tag draft serial stamp) kept = kept-changed (run_of files events) i (posting_at tag draft serial stamp) kept
@@ -143,16 +138,7 @@ split-at {X} x (y ∷ xs) h =
     ]
 
 scanning-delivered : (run : Run) (i : ℕ) (stamp : Stamp) (o : Option System) → (scanning run i stamp o).delivered ≡ run.delivered
-scanning-delivered run i stamp None = refl
-scanning-delivered run i stamp (Some s) = scans (is_stamp stamp)
-  where
-    scans : (b : Bool) → (if b then record {
-      systems = change i scanning_at run.systems;
-      packets = run.packets ++ scanned s.file s.base s.cursor stamp;
-      delivered = run.delivered;
-    } else run).delivered ≡ run.delivered
-    scans true = refl
-    scans false = refl
+scanning-delivered run i stamp o = grind arith
 
 -- after a packet with a message of the area for an address without a file, the area never settles
 never_settles : (files : List LinkFile) (known : LawsOfRuns files) (tag : List ℕ) (events : List RunEvent) (q : Packet) → Kept files q (run_of files events) →

@@ -1,35 +1,37 @@
 -- One system posts, and then messages only move: the holders of the message, and their senders.
-use Rattle.std.proofs.Common.{◌≡◌, ◌⊎◌, inl, inr, refl, sym, subst, ap, ◌∙◌, ℕ, ◌≤◌, ◌==◌, arith, List, [], ◌∷◌, ◌++◌, length, take, map, Option, Some, None}
-use Rattle.std.specs.Prelude.{Bool, true, false, is_none, if◌then◌else◌}
+use Rattle.std.proofs.Common.{◌≡◌, ◌⊎◌, inl, inr, refl, sym, subst, ap, ◌∙◌, ℕ, ◌≤◌, ◌==◌, arith, List, [], ◌∷◌, ◌++◌, length, take, map, Option, Some, None, ◌≢◌, ◌+◌}
+use Rattle.std.specs.Prelude.{Bool, true, false, if◌then◌else◌}
 use Rattle.std.specs.List.{AllByRecursion}
-use Rattle.std.proofs.lemmas.Bool.{cond-false, eqb-true}
+use Rattle.std.proofs.lemmas.Bool.{cond-false, eqb-true, cond-true}
 use Rattle.echo_addr.specs.declared.address.Address.{Address}
 use Rattle.model_graph.specs.Walk.{Among}
 use Rattle.model_graph.proofs.Members.{Among-append_left}
 use Rattle.echo_packet.specs.Message.{Message}
 use Rattle.model_steps.specs.declared.packet.Packet.{Packet}
 use Rattle.model_steps.specs.declared.stamp.Stamp.{Stamp}
-use Rattle.model_steps.specs.declared.fault.PostFault.{PostFault}
 use Rattle.echo_links.specs.Links.{LinkFile, has_area, is_link, same_address, upper}
 use Rattle.echo_links.proofs.Addresses.{same_address_decides}
 use Rattle.echo_filed.specs.Written.{echo_of}
-use Rattle.echo_filed.specs.Filed.{Filed}
+use Rattle.echo_filed.specs.Filed.{Filed, key_of}
 use Rattle.model_steps.specs.Posting.{posted, posting}
 use Rattle.model_steps.specs.Tossing.{received, sender_of, tossing, zone_of}
 use Rattle.model_steps.specs.Scanning.{scanned}
 use Rattle.model_steps.specs.Stamps.{is_stamp}
-use Rattle.model_run.specs.Event.{RunEvent, Posting, Scanning, Delivery, PartDelivery, Purging}
+use Rattle.model_run.specs.Event.{RunEvent}
 use Rattle.model_run.specs.Run.{System, Run, after_event, change, coming, delivery, destination, filing, fresh, nth, posting_at, receiver, run_of, scanning, scanning_at, taking, tossing_at}
-use Rattle.model_run.specs.Orderly.{copies, origin}
+use Rattle.model_run.specs.Orderly.{copies, origin, count, sent_count}
 use Rattle.model_run.proofs.Lists.{Among-take, first_passes, nth-among, nth-change, yes_or_no}
 use Rattle.model_run.specs.Postings.{IsMove, trial_moment, trial_posting, trial_draft}
 use Rattle.model_run.proofs.HarmLists.{nth-changed, nth-map, nth-map_from}
 use Rattle.model_run.specs.LawsOfRuns.{LawsOfRuns}
 use Rattle.model_run.proofs.Resting.{copy-there, export-of, file-there}
 use Rattle.model_run.proofs.HarmSteps.{along, after_one_more, tossing-is, tossing-new}
-use Rattle.model_run.proofs.Tags.{upper-same}
 use Rattle.model_run.proofs.WholeRuns.{taking-file}
 use Rattle.model_run.proofs.Targets.{some_same}
+use Rattle.model_run.proofs.Areas.{upper-same}
+use Rattle.echo_filed.specs.declared.key.Key.{Key}
+use Rattle.echo_filed.proofs.Keys.{same_key_decides}
+use Rattle.model_run.specs.Exports.{Export, sent_by}
 
 -- the message that the system files
 abbrev pub post_of : LinkFile → List ℕ → Filed
@@ -38,15 +40,7 @@ post_of file tag = posted file tag trial_draft 1 trial_moment
 post-accepted : (files : List LinkFile) → LawsOfRuns files → (file : LinkFile) (tag : List ℕ) → has_area file (upper tag) ≡ true →
     posting file [] tag trial_draft 1 trial_moment ≡ Some (post_of file tag)
 unfolding posting
-post-accepted files known file tag h =
-    ap (λ (o : Option PostFault). if is_none o then Some (post_of file tag) else None) (known.allowed file [] tag trial_draft 1 trial_moment (record {
-      area = h;
-      zero = refl;
-      short = refl;
-      moment = refl;
-      reply = refl;
-      new = refl;
-    }))
+post-accepted files known file tag h = grind arith
 
 received-tag : (a : Address) (q : Message) → (received a q).echo.tag ≡ (echo_of q.text).tag
 unfolding received
@@ -66,13 +60,11 @@ pub record OnlyPosted (i : ℕ) (p : Filed) (run : Run) : Type 0 where
   pub whole : (j : ℕ) (s : System) → nth j run.systems ≡ Some s → s.base ≡ s.history
 
 filing-whole : (s : System) (o : Option Filed) → s.base ≡ s.history → (filing s o).base ≡ (filing s o).history
-filing-whole s None e = e
-filing-whole s (Some m) e = ap (λ (ms : List Filed). ms ++ m ∷ []) e
+filing-whole s o h1 = grind arith
 
 tossing-whole : (sender : Address) (ms : List Message) (s : System) → s.base ≡ s.history → (tossing_at sender ms s).base ≡ (tossing_at sender ms s).history
 tossing-whole sender [] s e = e
-tossing-whole sender (q ∷ ms) s e =
-    tossing-whole sender ms (filing s (tossing s.file s.base sender q)) (filing-whole s (tossing s.file s.base sender q) e)
+tossing-whole sender (q ∷ ms) s e = grind (arith, filing-whole, tossing-whole sender ms (filing s (tossing s.file s.base sender q)) (filing-whole s (tossing s.file s.base sender q) e))
 
 -- the run has more packets, or the system stays the one with its file
 arrived-more : (run after : Run) (s z : System) (m : Filed) → ((q : Packet) → Among q run.packets → Among q after.packets) → z.file ≡ s.file →
@@ -106,9 +98,7 @@ module _ (files : List LinkFile) (known : LawsOfRuns files) (i : ℕ) (p : Filed
         not_zero z low = elim (yes_or_no (z == 0)) [ inr f ↦ f | inl t ↦ absurd (omega (arith, eqb-true z 0 t)) ]
 
     origin-is : (file : LinkFile) → sender_of file q.header ≡ origin q
-    origin-is file =
-        let of_zone : ℕ → Address = λ z. record { zone = z; net = q.header.orig_net; node = q.header.orig_node } in
-        ap of_zone (zone-is file)
+    origin-is file = grind (arith, zone-is)
 
     taken-from : (after : Run) → ((x : Packet) → Among x run.packets → Among x after.packets) → (j : ℕ) (s : System) →
         nth j run.systems ≡ Some s → nth (receiver run q) run.systems ≡ Some s →
@@ -200,15 +190,10 @@ module _ (files : List LinkFile) (known : LawsOfRuns files) (i : ℕ) (p : Filed
         }
 
     delivered-so : (k : ℕ) (o : Option Packet) → nth k now.packets ≡ o → OnlyPosted i p (delivery now k o)
-    delivered-so k None e = only
-    delivered-so k (Some q) e = comes k q (nth-among k q now.packets e) (nth (receiver now q) now.systems)
+    delivered-so k o h1 = grind (arith, comes, nth-among)
 
   moved : (events : List RunEvent) (event : RunEvent) → IsMove event → OnlyPosted i p (run_of files events) → OnlyPosted i p (after_event (run_of files events) event)
-  moved events (Posting k tag draft serial stamp) move only = absurd move
-  moved events (PartDelivery k messages) move only = absurd move
-  moved events (Purging k) move only = absurd move
-  moved events (Scanning k stamp) move only = scanned-so events only k stamp (nth k (run_of files events).systems)
-  moved events (Delivery k) move only = delivered-so events only k (nth k (run_of files events).packets) refl
+  moved events event h1 h2 = grind (arith, scanned-so, delivered-so)
 
   moved-all : (events more : List RunEvent) → AllByRecursion IsMove more → OnlyPosted i p (run_of files events) → OnlyPosted i p (run_of files (events ++ more))
   moved-all events more moves only =
@@ -229,32 +214,7 @@ module _ (files : List LinkFile) (known : LawsOfRuns files) (tag : List ℕ) (i 
       (post-accepted files known file tag (ap (λ (t : List ℕ). has_area file t) raised ∙ area))
 
   only-first : OnlyPosted i (post_of file tag) (run_of files (trial_posting i tag ∷ []))
-  only-first = record {
-    from = λ j z at m h. elim (nth-change i j (posting_at tag trial_draft 1 trial_moment) z (map fresh files) at) [
-      | inl other ↦ (let (f, _, same) = nth-map_from fresh j z files other.1 in
-          let P : System → Type 0 = λ t. Among m t.history in
-          absurd (subst P same h))
-      | inr here ↦ (let is_z = the_first z j here.0 here.1 in
-          let P : System → Type 0 = λ t. Among m t.history in
-          inl (sym here.0, elim (subst P is_z h) [ inl e ↦ e | inr t ↦ absurd t ]))
-    ];
-    whole = λ j z at. elim (nth-change i j (posting_at tag trial_draft 1 trial_moment) z (map fresh files) at) [
-      | inl other ↦ (let (f, _, same) = nth-map_from fresh j z files other.1 in
-          let P : System → Type 0 = λ t. t.base ≡ t.history in
-          subst P (sym same) refl)
-      | inr here ↦ (let is_z = the_first z j here.0 here.1 in
-          let P : System → Type 0 = λ t. t.base ≡ t.history in
-          subst P (sym is_z) refl)
-    ];
-  }
-    where
-      the_first : (z : System) (j : ℕ) → i ≡ j → (x : System) × (nth j (map fresh files) ≡ Some x) × (z ≡ posting_at tag trial_draft 1 trial_moment x) →
-          z ≡ filing (fresh file) (Some (post_of file tag))
-      the_first z j e found =
-          let (x, at, same) = found in
-          let P : ℕ → Type 0 = λ l. nth l (map fresh files) ≡ Some x in
-          let is_x : x ≡ fresh file = some_same (sym (subst P (sym e) at) ∙ nth-map fresh i file files is) in
-          same ∙ (ap (λ (t : System). posting_at tag trial_draft 1 trial_moment t) is_x ∙ filed-first)
+  only-first = grind (arith, nth-change, nth-map_from, some_same, nth-map, filed-first)
 
   pub only-posted : (more : List RunEvent) → AllByRecursion IsMove more → OnlyPosted i (post_of file tag) (run_of files (trial_posting i tag ∷ more))
   only-posted more moves = moved-all files known i (post_of file tag) (trial_posting i tag ∷ []) more moves only-first
@@ -269,3 +229,55 @@ module _ (files : List LinkFile) (known : LawsOfRuns files) (tag : List ℕ) (i 
       let (z, there, later) = known.stays (trial_posting i tag ∷ []) more i (filing (fresh file) (Some (post_of file tag))) posted-at in
       let P : List Filed → Type 0 = λ ms. Among (post_of file tag) ms in
       (z, there, later.file, subst P (sym later.filed.1) (inl refl))
+
+-- The number of times a key is filed, and sent by one system and by all.
+
+abbrev weight : Bool → ℕ
+weight b = if b then 1 else 0
+
+pub one-or_zero : (n : ℕ) → (1 ≤ n) ⊎ (n ≡ 0)
+one-or_zero n = grind arith
+
+pub has-one : (key : Key) (ms : List Filed) (m : Filed) → Among m ms → key_of m ≡ key → 1 ≤ count key ms
+has-one key [] m h e = absurd h
+has-one key (x ∷ ms) m h e = grind (arith, same_key_decides, has-one key ms m)
+
+-- a counted message is in the list
+pub counted : (key : Key) (ms : List Filed) → 1 ≤ count key ms → (m : Filed) × Among m ms × (key_of m ≡ key)
+counted key [] h = absurd (omega (arith, h))
+counted key (m ∷ ms) h = grind (arith, yes_or_no, same_key_decides, counted key ms)
+
+-- a sent message is in a packet to the address
+pub sent-packet : (a : Address) (key : Key) (ps : List Packet) → 1 ≤ sent_count a key ps →
+    (q : Packet) × Among q ps × (destination q ≡ a) × ((m : Filed) × Among m (copies q) × (key_of m ≡ key))
+sent-packet a key [] h = absurd (omega (arith, h))
+sent-packet a key (q ∷ ps) h = grind (arith, yes_or_no, cond-false, cond-true, one-or_zero, same_address_decides, counted, sent-packet a key ps)
+
+-- and is one message, if it is counted once
+pub counted-one : (key : Key) (ms : List Filed) → count key ms ≤ 1 → (m n : Filed) → Among m ms → Among n ms → key_of m ≡ key → key_of n ≡ key → m ≡ n
+counted-one key [] few m n h i e q = absurd h
+counted-one key (x ∷ ms) few m n h i e q = grind (arith, same_key_decides, has-one, counted-one key ms (omega (arith, few)) m n)
+
+module _ (a : Address) (key : Key) where
+  -- the number of times one packet holds it
+  abbrev held : Export → ℕ
+  held e = if same_address (destination e.packet) a then count key (copies e.packet) else 0
+
+  sent-own : (i : ℕ) (e : Export) (es : List Export) → (e.system == i) ≡ true →
+      sent_count a key (sent_by i (e ∷ es)) ≡ held e + sent_count a key (sent_by i es)
+  sent-own i e es t = grind (arith, cond-true)
+
+  sent-other : (i : ℕ) (e : Export) (es : List Export) → (e.system == i) ≡ false →
+      sent_count a key (sent_by i (e ∷ es)) ≡ sent_count a key (sent_by i es)
+  sent-other i e es f = grind (arith, cond-false)
+
+  -- the messages sent by one system are part of all sent
+  pub sent-part : (i : ℕ) (es : List Export) → sent_count a key (sent_by i es) ≤ sent_count a key (map (λ (e : Export). e.packet) es)
+  sent-part i [] = omega arith
+  sent-part i (e ∷ es) = grind (arith, yes_or_no, sent-own, sent-other, sent-part i es)
+
+  -- and so are those sent by two systems
+  pub sent-two : (i j : ℕ) → i ≢ j → (es : List Export) →
+      sent_count a key (sent_by i es) + sent_count a key (sent_by j es) ≤ sent_count a key (map (λ (e : Export). e.packet) es)
+  sent-two i j other [] = omega arith
+  sent-two i j other (e ∷ es) = grind (arith, yes_or_no, eqb-true, sent-own, sent-other, sent-two i j other es)

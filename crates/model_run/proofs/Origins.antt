@@ -20,16 +20,14 @@ use Rattle.model_run.specs.Fits.{FilesFit}
 use Rattle.model_steps.specs.Stamps.{is_stamp}
 use Rattle.model_run.specs.Orderly.{copies, origin}
 use Rattle.model_run.proofs.TosserPremises.{Laws}
-use Rattle.model_run.proofs.Lists.{Among-change, Among-filter_from, Among-filter_to, Among-drop, Among-take, nth-among}
+use Rattle.model_run.proofs.Lists.{Among-change, Among-filter_from, Among-filter_to, Among-drop, Among-take, nth-among, Among-map_to, Among-map_from}
 use Rattle.model_steps.proofs.Posted.{posted_own}
 use Rattle.model_steps.proofs.Received.{tossing_received}
-use Rattle.model_run.proofs.Bases.{Kept-waiting, SystemOk}
-use Rattle.model_run.proofs.WellFormed.{RunOk, event-ok, start-ok, scanned-from, waiting-valid}
+use Rattle.model_run.proofs.Bases.{Kept-waiting, SystemOk, RunOk, event-ok, start-ok, scanned-from, waiting-valid}
 use Rattle.model_run.specs.Keeping.{content_of}
 use Rattle.model_run.proofs.Copies.{copied, copied-content, copied-key, copies-are}
 use Rattle.model_run.proofs.StandingTosses.{origin-is}
 use Rattle.model_run.proofs.Filings.{filing-from as filing-new}
-use Rattle.model_run.proofs.RulesLists.{Among-map_to, Among-map_from}
 
 -- a posting of some system has the key and the content of the message
 abbrev pub Origin : List System → Filed → Type 0

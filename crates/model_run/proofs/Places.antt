@@ -1,23 +1,20 @@
 -- A net with one file for each address: the system of an address, and the links that it lists.
-use Rattle.std.proofs.Common.{◌≡◌, refl, sym, subst, ap, ◌∙◌, ℕ, zero, suc, IsTrue, List, [], ◌∷◌, map, Some}
-use Rattle.std.specs.Prelude.{true, ◌&&◌}
+use Rattle.std.proofs.Common.{◌≡◌, refl, sym, subst, ap, ◌∙◌, ℕ, zero, suc, IsTrue, List, [], ◌∷◌, map, Some, arith}
+use Rattle.std.specs.Prelude.{true}
 use Rattle.echo_addr.specs.declared.address.Address.{Address}
 use Rattle.model_graph.specs.Walk.{Among, Different}
-use Rattle.echo_links.specs.Links.{LinkFile, has_area, is_link, links_of, same_address}
+use Rattle.echo_links.specs.Links.{LinkFile, has_area, is_link, links_of}
 use Rattle.echo_links.proofs.Addresses.{same_address_decides}
 use Rattle.model_run.specs.Event.{RunEvent}
 use Rattle.model_run.specs.Run.{System, nth, run_of}
 use Rattle.model_run.specs.Tidy.{Carries, lists}
-use Rattle.model_run.proofs.Lists.{and-from, and-parts, any-from, any-to, nth-among}
-use Rattle.model_run.proofs.Entries.{link-among}
+use Rattle.model_run.proofs.Lists.{and-from, and-parts, any-from, any-to, nth-among, Among-map_to}
 use Rattle.model_run.specs.LawsOfRuns.{LawsOfRuns}
 use Rattle.model_run.proofs.HarmLists.{nth-map}
 use Rattle.model_run.proofs.Resting.{file-there}
-use Rattle.model_run.proofs.Tags.{link-area}
 use Rattle.model_run.proofs.HarmSteps.{run-files}
-use Rattle.model_run.proofs.RulesLists.{Among-map_to}
 use Rattle.model_run.proofs.Targets.{some_same, none_some}
-use Rattle.model_run.proofs.Areas.{one_name as different-same}
+use Rattle.model_run.proofs.Areas.{one_name as different-same, link-area, link-among}
 
 -- in a list of different images an image has one index
 different-index : {X Y : Type 0} (g : X → Y) (xs : List X) → Different (map g xs) → (i j : ℕ) (x y : X) → nth i xs ≡ Some x → nth j xs ≡ Some y → g x ≡ g y → i ≡ j
@@ -33,28 +30,18 @@ different-index g (z ∷ xs) d (suc i) (suc j) x y at_i at_j e = ap suc (differe
 
 -- a file that has the area carries it, and lists its links
 pub file-carries : (files : List LinkFile) (tag : List ℕ) (file : LinkFile) → Among file files → has_area file tag ≡ true → Carries files tag file.system
-file-carries files tag file h area =
-    any-to (λ f. same_address f.system file.system && has_area f tag) file files h
-    (and-from (same_address file.system file.system) (has_area file tag) ((same_address_decides file.system file.system).1 refl) area)
+file-carries files tag file h area = grind (arith, any-to, and-from, same_address_decides)
 
 pub file-lists : (files : List LinkFile) (tag : List ℕ) (file : LinkFile) → Among file files → (a : Address) → is_link file tag a ≡ true → IsTrue (lists files tag file.system a)
-file-lists files tag file h a link =
-    any-to (λ f. same_address f.system file.system && is_link f tag a) file files h
-    (and-from (same_address file.system file.system) (is_link file tag a) ((same_address_decides file.system file.system).1 refl) link)
+file-lists files tag file h a link = grind (arith, any-to, and-from, same_address_decides)
 
 pub carrier-file : (files : List LinkFile) (tag : List ℕ) (a : Address) → Carries files tag a →
     (file : LinkFile) × Among file files × (file.system ≡ a) × (has_area file tag ≡ true)
-carrier-file files tag a h =
-    let (file, i, t) = any-from (λ f. same_address f.system a && has_area f tag) files h in
-    let both = and-parts (same_address file.system a) (has_area file tag) t in
-    (file, i, (same_address_decides file.system a).0 both.0, both.1)
+carrier-file files tag a h = grind (arith, any-from, and-parts, same_address_decides)
 
 pub lists-file : (files : List LinkFile) (tag : List ℕ) (a b : Address) → IsTrue (lists files tag a b) →
     (file : LinkFile) × Among file files × (file.system ≡ a) × (is_link file tag b ≡ true)
-lists-file files tag a b h =
-    let (file, i, t) = any-from (λ f. same_address f.system a && is_link f tag b) files h in
-    let both = and-parts (same_address file.system a) (is_link file tag b) t in
-    (file, i, (same_address_decides file.system a).0 both.0, both.1)
+lists-file files tag a b h = grind (arith, any-from, and-parts, same_address_decides)
 
 module _ (files : List LinkFile) (known : LawsOfRuns files) (one_file : Different (map (λ (file : LinkFile). file.system) files)) (events : List RunEvent) where
   -- a system of a run is known by its address
@@ -69,22 +56,13 @@ module _ (files : List LinkFile) (known : LawsOfRuns files) (one_file : Differen
   -- and lists what its file lists
   pub lists-link : (tag : List ℕ) (s : System) → Among s (run_of files events).systems → (b : Address) → IsTrue (lists files tag s.file.system b) →
       Among b (links_of s.file tag)
-  lists-link tag s h b link =
-      let (file, i, e, t) = lists-file files tag s.file.system b link in
-      let same = different-same (λ (f : LinkFile). f.system) files one_file file s.file i (file-there files known events s h) e in
-      link-among s.file tag b (ap (λ (f : LinkFile). is_link f tag b) (sym same) ∙ t)
+  lists-link tag s h b link = grind (arith, lists-file, different-same, file-there, link-among)
 
 -- the one file of a carrier has the area
 pub carrier-area : (files : List LinkFile) (tag : List ℕ) → Different (map (λ (file : LinkFile). file.system) files) → (file : LinkFile) → Among file files →
     (a : Address) → file.system ≡ a → Carries files tag a → has_area file tag ≡ true
-carrier-area files tag one_file file h a e carries =
-    let (own, i, q, area) = carrier-file files tag a carries in
-    let same = different-same (λ (f : LinkFile). f.system) files one_file file own h i (e ∙ sym q) in
-    ap (λ (f : LinkFile). has_area f tag) same ∙ area
+carrier-area files tag one_file file h a e carries = grind (arith, carrier-file, different-same)
 
 -- a system that lists a link is a carrier
 pub lister-carries : (files : List LinkFile) (tag : List ℕ) (a b : Address) → IsTrue (lists files tag a b) → Carries files tag a
-lister-carries files tag a b link =
-    let (file, h, e, t) = lists-file files tag a b link in
-    let P : Address → Type 0 = λ x. Carries files tag x in
-    subst P e (file-carries files tag file h (link-area file tag b (link-among file tag b t)))
+lister-carries files tag a b link = grind (arith, lists-file, file-carries, link-area, link-among)

@@ -1,5 +1,5 @@
 -- The poster that shows each fault.
-use Rattle.std.proofs.Common.{◌≡◌, ◌≢◌, ◌⊎◌, inl, inr, sym, subst, ◌∙◌, ℕ, IsTrue, List, ◌∷◌}
+use Rattle.std.proofs.Common.{◌≡◌, ◌≢◌, ◌⊎◌, inl, inr, sym, subst, ◌∙◌, ℕ, IsTrue, List, ◌∷◌, arith}
 use Rattle.std.specs.Prelude.{Bool}
 use Rattle.echo_addr.specs.declared.address.Address.{Address}
 use Rattle.model_graph.specs.Walk.{Among, Reaches, Simple}
@@ -66,14 +66,11 @@ module _ (files : List LinkFile) (known : LawsOfRuns files) (tag : List ℕ) (on
       (λ f Has spreads is. is.2 (not_hidden linked Carrier f Has spreads y is.0 at_y is.1)) a at_a (near, other, unlinked)
 
   pub twins-shown : (a b : Address) → AreTwins files tag a b → ¬ IsTrue (linked a b) → (trial : Trial files tag a) → ShowsHarm files tag a trial
-  twins-shown a b twins unlinked =
-      hidden-shown a b twins.first twins.second (inl (sym twins.one_net_node)) (λ e. twins.two (sym e)) unlinked
+  twins-shown a b twins unlinked = grind (arith, hidden-shown)
 
   pub alone-shown : (a b : Address) → AreTwins files tag a b → (alone : IsListedAlone files tag a b) → (trial : Trial files tag alone.by) →
       ShowsHarm files tag alone.by trial
-  alone-shown a b twins alone =
-      hidden-shown alone.by b (lister-carries files tag alone.by a alone.lists_it) twins.second
-      (inr (a, alone.lists_it, sym twins.one_net_node)) (λ e. alone.another.1 (sym e)) alone.not_the_other
+  alone-shown a b twins alone = grind (arith, hidden-shown, lister-carries)
 
   -- the posting of b, or that of one of the two links, shows a pinch
   module _ (joined : Joined files tag) (b a c : Address) (pinch : IsPinched files tag b a c) where

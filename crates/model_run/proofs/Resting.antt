@@ -1,45 +1,110 @@
--- Scans and deliveries bring any run to rest.
-use Rattle.std.proofs.Common.{◌≡◌, ◌≢◌, ◌⊎◌, inl, inr, refl, sym, subst, ap, ◌∙◌, ℕ, zero, suc, ◌<◌, ◌≤◌, ◌==◌, arith, List, [], ◌∷◌, ◌++◌, length, take, drop, map, Option, Some, None}
-use Rattle.std.specs.Prelude.{Bool, true, false, ◌&&◌, filter, is_none, if◌then◌else◌}
-use Rattle.std.specs.List.{AllByRecursion, list_any}
-use Rattle.std.proofs.lemmas.Bool.{cases_eq, eqb-true}
-use Rattle.std.proofs.lemmas.List.{append_assoc, append-nil, drop_all}
+-- The number of some keys that each system lacks: it falls with each filed message.
+use Rattle.std.proofs.Common.{◌≡◌, ◌⊎◌, inl, inr, refl, sym, subst, ap, ◌∙◌, ℕ, zero, suc, ◌+◌, ◌<◌, ◌≤◌, arith, List, [], ◌∷◌, ◌++◌, Option, Some, None, ◌≢◌, length, take, drop, map}
+use Rattle.std.specs.Prelude.{Bool, true, false, if◌then◌else◌, ◌&&◌, filter, is_none}
 use Rattle.echo_addr.specs.declared.address.Address.{Address}
 use Rattle.model_graph.specs.Walk.{Among}
 use Rattle.model_graph.proofs.Members.{Among-append_left, Among-append_right}
 use Rattle.echo_packet.specs.Message.{Message}
+use Rattle.echo_filed.specs.declared.key.Key.{Key}
+use Rattle.echo_filed.specs.Filed.{Filed, key_of, same_key, key_with}
+use Rattle.echo_filed.proofs.Keys.{same_key_decides}
+use Rattle.base_file.specs.Base.{is_known}
+use Rattle.model_steps.specs.Tossing.{received, tossing, sender_of}
+use Rattle.model_run.specs.Run.{System, change, filing, tossing_at, Run, coming, delivery, destination, nth, receiver, run_of, scanning, scanning_at, taking, with_index}
+use Rattle.model_run.proofs.Lists.{any-from, any-to, not_both, Among-change, Among-filter_to, Among-take, and-from, and-parts, nth-among, nth-change, Among-map_to, Among-map_from}
+use Rattle.model_run.proofs.HarmSteps.{tossing-is, after_one_more, all-append, run-files, tossing-new}
+use Rattle.std.specs.List.{AllByRecursion}
+use Rattle.std.proofs.lemmas.Bool.{cases_eq, eqb-true}
+use Rattle.std.proofs.lemmas.List.{append_assoc, append-nil, drop_all}
 use Rattle.echo_text.specs.Refusal.{text_refusal}
 use Rattle.echo_text.specs.declared.fault.TextFault.{TextFault}
 use Rattle.echo_text.specs.Echo.{msgid_of}
 use Rattle.model_steps.specs.declared.packet.Packet.{Packet}
 use Rattle.echo_links.specs.Links.{LinkFile, has_area, is_link, same_address}
 use Rattle.echo_links.proofs.Addresses.{same_address_decides}
-use Rattle.echo_filed.specs.declared.key.Key.{Key}
 use Rattle.echo_filed.specs.Written.{echo_of}
-use Rattle.echo_filed.specs.Filed.{Filed, key_of, key_with}
-use Rattle.base_file.specs.Base.{is_known}
-use Rattle.model_steps.specs.Tossing.{received, sender_of, tossing}
 use Rattle.model_run.specs.Event.{RunEvent, Scanning, Delivery}
-use Rattle.model_run.specs.Run.{System, Run, change, coming, delivery, destination, nth, receiver, run_of, scanning, scanning_at, taking, with_index}
 use Rattle.model_run.specs.Orderly.{Settled, copies, origin}
 use Rattle.model_run.specs.Exports.{Export, exports}
 use Rattle.model_run.specs.Tidy.{lists}
-use Rattle.model_run.proofs.Lists.{Among-change, Among-filter_to, Among-take, and-from, and-parts, any-from, any-to, not_both, nth-among, nth-change}
 use Rattle.model_run.specs.Grave.{AllAreCarriers}
 use Rattle.model_run.specs.Postings.{IsMove, trial_moment}
-use Rattle.model_run.proofs.Entries.{among-link, exported-tag, target-link}
 use Rattle.model_run.proofs.HarmLists.{none_passes, among-nth, nth-index, nth-middle}
 use Rattle.model_run.specs.LawsOfRuns.{LawsOfRuns}
-use Rattle.model_run.proofs.Lacking.{all_lacking, change-fewer, change-same, lacking, tossing-fewer}
-use Rattle.model_run.proofs.HarmSteps.{after_one_more, all-append, run-files, tossing-is, tossing-new}
-use Rattle.model_run.proofs.RulesLists.{Among-map_to, Among-map_from}
 use Rattle.model_run.proofs.Targets.{some_same, none_some}
+use Rattle.model_run.proofs.Areas.{among-link, exported-tag, target-link}
+
+-- 1 for an unknown key
+abbrev pub weight : Bool → ℕ
+weight b = if b then 0 else 1
+
+-- the number of keys that no message of the base has
+abbrev pub lacking : List Key → List Filed → ℕ
+lacking [] base = 0
+lacking (key ∷ keys) base = weight (is_known base key) + lacking keys base
+
+-- the sum over all systems
+abbrev pub all_lacking : List Key → List System → ℕ
+all_lacking keys [] = 0
+all_lacking keys (s ∷ ss) = lacking keys s.base + all_lacking keys ss
+
+-- a known key stays known
+known-more : (base : List Filed) (m : Filed) (key : Key) → is_known base key ≡ true → is_known (base ++ m ∷ []) key ≡ true
+known-more base m key h = grind (arith, any-from, any-to, Among-append_left)
+
+pub known-new : (base : List Filed) (m : Filed) → is_known (base ++ m ∷ []) (key_of m) ≡ true
+known-new base m =
+    any-to (λ n. same_key (key_of n) (key_of m)) m (base ++ m ∷ []) (Among-append_right m base (m ∷ []) (inl refl))
+    ((same_key_decides (key_of m) (key_of m)).1 refl)
+
+less_weight : (b c : Bool) → (b ≡ true → c ≡ true) → weight c ≤ weight b
+less_weight b c h1 = grind (arith, not_both)
+
+lacking-less : (keys : List Key) (base : List Filed) (m : Filed) → lacking keys (base ++ m ∷ []) ≤ lacking keys base
+lacking-less [] base m = omega arith
+lacking-less (key ∷ keys) base m = grind (arith, less_weight, known-more, lacking-less keys base m)
+
+-- fewer, if one of them is filed now
+lacking-fewer : (keys : List Key) (base : List Filed) (m : Filed) → Among (key_of m) keys → is_known base (key_of m) ≡ false →
+    lacking keys (base ++ m ∷ []) < lacking keys base
+lacking-fewer [] base m h new = absurd h
+lacking-fewer (key ∷ keys) base m h new = grind (arith, known-new, lacking-less, less_weight, known-more, lacking-fewer keys base m)
+
+one : (keys : List Key) (sender : Address) (q : Message) (ms : List Message) → ((p : Message) → Among p (q ∷ ms) → Among (key_of (received sender p)) keys) →
+    (s : System) → ((m : Filed) → tossing s.file s.base sender q ≡ Some m → is_known s.base (key_of m) ≡ false) →
+    (o : Option Filed) → tossing s.file s.base sender q ≡ o →
+    ((z : System) → (tossing_at sender ms z ≡ z) ⊎ (lacking keys (tossing_at sender ms z).base < lacking keys z.base)) →
+    (tossing_at sender ms (filing s o) ≡ s) ⊎ (lacking keys (tossing_at sender ms (filing s o)).base < lacking keys s.base)
+one keys sender q ms h1 s h2 o h3 h4 = grind (arith, tossing-is, lacking-fewer)
+
+-- a system that tosses messages with these keys stays unchanged, or lacks fewer
+pub tossing-fewer : (keys : List Key) (sender : Address) (ms : List Message) →
+    ((q : Message) → Among q ms → Among (key_of (received sender q)) keys) →
+    ((s : System) (q : Message) (m : Filed) → tossing s.file s.base sender q ≡ Some m → is_known s.base (key_of m) ≡ false) →
+    (s : System) → (tossing_at sender ms s ≡ s) ⊎ (lacking keys (tossing_at sender ms s).base < lacking keys s.base)
+tossing-fewer keys sender [] in_keys new s = inl refl
+tossing-fewer keys sender (q ∷ ms) in_keys new s = grind (arith, one, tossing-fewer keys sender ms)
+
+-- one system of them changes
+pub change-fewer : (keys : List Key) (f : System → System) (ss : List System) →
+    ((s : System) → Among s ss → (f s ≡ s) ⊎ (lacking keys (f s).base < lacking keys s.base)) → (i : ℕ) →
+    (change i f ss ≡ ss) ⊎ (all_lacking keys (change i f ss) < all_lacking keys ss)
+change-fewer keys f [] each i = inl refl
+change-fewer keys f (s ∷ ss) each zero = grind arith
+change-fewer keys f (s ∷ ss) each (suc i) = grind (arith, change-fewer keys f ss)
+
+pub change-same : (keys : List Key) (f : System → System) → ((s : System) → (f s).base ≡ s.base) → (i : ℕ) (ss : List System) →
+    all_lacking keys (change i f ss) ≡ all_lacking keys ss
+change-same keys f same i [] = refl
+change-same keys f same zero (s ∷ ss) = ap (λ (base : List Filed). lacking keys base + all_lacking keys ss) (same s)
+change-same keys f same (suc i) (s ∷ ss) = ap (λ (n : ℕ). lacking keys s.base + n) (change-same keys f same i ss)
+
+-- Scans and deliveries bring any run to rest.
 
 -- the key of a received message does not depend on its sender
 key-same : (a b : Address) (q : Message) (o : Option (List ℕ)) → key_with (received a q) o ≡ key_with (received b q) o
 unfolding received
-key-same a b q None = refl
-key-same a b q (Some id) = refl
+key-same a b q o = grind arith
 
 received-key : (a b : Address) (q : Message) → key_of (received a q) ≡ key_of (received b q)
 unfolding key_of received
@@ -68,9 +133,7 @@ module _ (files : List LinkFile) (known : LawsOfRuns files) where
 
   -- each packet was made by a scan
   pub export-of : (events : List RunEvent) (p : Packet) → Among p (run_of files events).packets → (e : Export) × Among e (exports files events) × (p ≡ e.packet)
-  export-of events p h =
-      let P : List Packet → Type 0 = λ ps. Among p ps in
-      Among-map_from (λ (e : Export). e.packet) p (exports files events) (subst P (sym (known.packets events)) h)
+  export-of events p h = grind (arith, Among-map_from)
 
   module _ (keys : List Key) where
     -- each filed message has one of these keys
@@ -89,10 +152,7 @@ module _ (files : List LinkFile) (known : LawsOfRuns files) where
         (within s (nth-among e.system s (run_of files events).systems there) m (Among-take s.cursor m s.history j))
 
     pub new-key : (s : System) (sender : Address) (q : Message) (m : Filed) → tossing s.file s.base sender q ≡ Some m → is_known s.base (key_of m) ≡ false
-    new-key s sender q m h =
-        let same = tossing-is s.file s.base sender q m h in
-        let to_file = (known.toss s.file s.base sender q).0 (h ∙ ap (λ (x : Filed). Some x) same) in
-        ap (λ (x : Filed). is_known s.base (key_of x)) same ∙ to_file.new
+    new-key s sender q m h = grind (arith, tossing-is)
 
     -- the effect of a delivery: no system changes, or more is filed
     record Fewer (before after : Run) : Type 0 where
@@ -114,21 +174,10 @@ module _ (files : List LinkFile) (known : LawsOfRuns files) where
       came : (k : ℕ) (p : Packet) → k < n → nth k after.packets ≡ Some p → Among k after.delivered ⊎ GoesNowhere p
 
     pub with_index-new : (k : ℕ) (ks : List ℕ) → Among k (with_index k ks)
-    with_index-new k ks = cases (list_any (λ d. d == k) ks) refl
-      where
-        cases : (b : Bool) → list_any (λ d. d == k) ks ≡ b → Among k (if b then ks else k ∷ ks)
-        cases true e =
-            let (d, i, q) = any-from (λ d. d == k) ks e in
-            let P : ℕ → Type 0 = λ x. Among x ks in
-            subst P (eqb-true d k q) i
-        cases false e = inl refl
+    with_index-new k ks = grind (arith, any-from, eqb-true)
 
     pub with_index-old : (k j : ℕ) (ks : List ℕ) → Among j ks → Among j (with_index k ks)
-    with_index-old k j ks h = cases (list_any (λ d. d == k) ks)
-      where
-        cases : (b : Bool) → Among j (if b then ks else k ∷ ks)
-        cases true = h
-        cases false = inr h
+    with_index-old k j ks h = grind arith
 
     -- a packet comes
     module _ (events : List RunEvent) (within : Within (run_of files events)) (k : ℕ) where
@@ -160,12 +209,7 @@ module _ (files : List LinkFile) (known : LawsOfRuns files) where
         next : (after : List ℕ) → ((j : ℕ) → Among j run.delivered → Among j after) →
             ((q : Packet) → nth k run.packets ≡ Some q → Among k after ⊎ GoesNowhere q) →
             (j : ℕ) (q : Packet) → j < suc k → nth j run.packets ≡ Some q → Among j after ⊎ GoesNowhere q
-        next after more here j q less at =
-            elim (cases_eq j k) [
-              | inr other ↦ earlier after more j q (omega arith) at
-              | inl same ↦ (let P : ℕ → Type 0 = λ i. (nth i run.packets ≡ Some q → Among i after ⊎ GoesNowhere q) in
-                  subst P (sym same) (here q) at)
-            ]
+        next after more here j q less at = grind (arith, cases_eq, earlier)
 
         module _ (p : Packet) (is : nth k run.packets ≡ Some p) where
           each : (s : System) → Among s run.systems →
@@ -204,12 +248,7 @@ module _ (files : List LinkFile) (known : LawsOfRuns files) where
               ]
 
         delivered : (o : Option Packet) → nth k run.packets ≡ o → Fewer before (delivery run k o) ⊎ Rests before (delivery run k o) (suc k)
-        delivered None e = inr (record {
-          systems = rests.systems;
-          packets = rests.packets;
-          came = next run.delivered (λ j h. h) (λ q at. absurd (none_some (sym e ∙ at)));
-        })
-        delivered (Some p) e = comes p e (nth (receiver run p) run.systems) refl
+        delivered o h1 = grind (arith, next, none_some, comes)
 
     -- the first packets come, until something is filed
     record Delivered (events : List RunEvent) (n : ℕ) : Type 0 where
@@ -218,12 +257,7 @@ module _ (files : List LinkFile) (known : LawsOfRuns files) where
       out : Fewer (run_of files events) (run_of files (events ++ more)) ⊎ Rests (run_of files events) (run_of files (events ++ more)) n
 
     deliver : (events : List RunEvent) → Within (run_of files events) → (n : ℕ) → Delivered events n
-    deliver events within zero = record {
-      more = [];
-      moves = tt;
-      out = (let P : List RunEvent → Type 0 = λ es. Fewer (run_of files events) (run_of files es) ⊎ Rests (run_of files events) (run_of files es) 0 in
-          subst P (sym (append-nil events)) (inr (record { systems = refl; packets = refl; came = λ k p less. absurd (omega arith) })));
-    }
+    deliver events within zero = grind (arith, append-nil)
     deliver events within (suc n) =
         let so_far = deliver events within n in
         let now = events ++ so_far.more in
@@ -255,15 +289,7 @@ module _ (files : List LinkFile) (known : LawsOfRuns files) where
     length-change (suc i) f (s ∷ ss) = ap suc (length-change i f ss)
 
     pub scanned-more : (before run : Run) (n : ℕ) → Scanned before run n → (o : Option System) → nth n run.systems ≡ o → Scanned before (scanning run n trial_moment o) (suc n)
-    scanned-more before run n so_far None e = record {
-      within = so_far.within;
-      lacks = so_far.lacks;
-      quiet = λ i s less at. elim (cases_eq i n) [
-        | inr other ↦ so_far.quiet i s (omega arith) at
-        | inl same ↦ (let P : ℕ → Type 0 = λ j. nth j run.systems ≡ Some s in absurd (none_some (sym e ∙ subst P same at)))
-      ];
-      size = so_far.size;
-    }
+    scanned-more before run n so_far None e = grind (arith, cases_eq, none_some)
     scanned-more before run n so_far (Some z) e = record {
       within = λ s h m j. elim (Among-change n scanning_at s run.systems h) [
         | inl old ↦ so_far.within s old m j

@@ -22,21 +22,19 @@ use Rattle.model_run.specs.World.{is_settled, missing, undelivered}
 use Rattle.model_run.proofs.Copies.{packet-destination}
 use Rattle.model_run.proofs.Lists.{Among-drop, Among-take, any-to, not_both, nth-among}
 use Rattle.model_run.proofs.TosserLaws.{the_laws}
-use Rattle.model_run.proofs.WellFormed.{scanned-from}
 use Rattle.model_run.specs.Grave.{AllAreCarriers}
 use Rattle.model_run.specs.LawsOfRuns.{LawsOfRuns}
 use Rattle.model_run.specs.Postings.{trial_moment, trial_posting}
 use Rattle.model_run.specs.Rounds.{deliveries, round_after, scans}
-use Rattle.model_run.proofs.Entries.{among-link, target-link}
-use Rattle.base_file.specs.Base.{is_known}
 use Rattle.model_run.proofs.Holders.{key-tag}
-use Rattle.model_run.proofs.Lacking.{all_lacking, change-fewer, lacking, tossing-fewer, weight}
 use Rattle.model_run.proofs.HarmLists.{among-nth, none_passes, nth-below, nth-index}
 use Rattle.model_run.proofs.OneMessage.{only-posted, post_of, post_of-tag}
 use Rattle.model_run.proofs.Places.{carrier-file, file-lists}
-use Rattle.model_run.proofs.Resting.{Scanned, Within, file-there, new-key, packed-within, scanned-more, system-there, taken-within, with_index-new, with_index-old}
+use Rattle.model_run.proofs.Resting.{Scanned, Within, file-there, new-key, packed-within, scanned-more, system-there, taken-within, with_index-new, with_index-old, all_lacking, change-fewer, lacking, tossing-fewer, weight}
 use Rattle.model_run.proofs.HarmSteps.{after_one_more, run-files}
 use Rattle.model_run.proofs.Targets.{none_some}
+use Rattle.model_run.proofs.Areas.{among-link, target-link}
+use Rattle.model_run.proofs.Bases.{scanned-from}
 
 among-flat : {X Y : Type 0} (g : X → List Y) (y : Y) (xs : List X) → Among y (flat_map g xs) → (x : X) × Among x xs × Among y (g x)
 among-flat g y [] h = absurd h
@@ -86,11 +84,7 @@ all-scanned (s ∷ ss) quiet =
 -- each system lacks at most one key
 few_lack : (key : Key) (ss : List System) → all_lacking (key ∷ []) ss ≤ length ss
 few_lack key [] = omega arith
-few_lack key (s ∷ ss) = omega (arith, few_lack key ss, one (is_known s.base key))
-  where
-    one : (b : Bool) → weight b ≤ 1
-    one true = omega arith
-    one false = omega arith
+few_lack key (s ∷ ss) = grind (arith, few_lack key ss)
 
 module _ (files : List LinkFile) (known : LawsOfRuns files) (tag : List ℕ) (all_known : AllAreCarriers files tag)
     (i : ℕ) (file : LinkFile) (is : nth i files ≡ Some file) (area : has_area file tag ≡ true) where
@@ -171,10 +165,7 @@ module _ (files : List LinkFile) (known : LawsOfRuns files) (tag : List ℕ) (al
       (before ≡ start.systems) ⊎ (all_lacking keys before < all_lacking keys start.systems) →
       (after ≡ before) ⊎ (all_lacking keys after < all_lacking keys before) →
       (after ≡ start.systems) ⊎ (all_lacking keys after < all_lacking keys start.systems)
-  fewer-still start before after (inl same) (inl still) = inl (still ∙ same)
-  fewer-still start before after (inl same) (inr less) = inr (let e = ap (λ (ss : List System). all_lacking keys ss) same in omega (arith, less, e))
-  fewer-still start before after (inr less) (inl still) = inr (let e = ap (λ (ss : List System). all_lacking keys ss) still in omega (arith, less, e))
-  fewer-still start before after (inr less) (inr lesser) = inr (omega (arith, less, lesser))
+  fewer-still start before after h1 h2 = grind arith
 
   module _ (start : Run) (events : List RunEvent) (k : ℕ) (so_far : AllCame start (run_of files events) k) where
     abbrev then_ : Run
@@ -316,8 +307,4 @@ module _ (files : List LinkFile) (known : LawsOfRuns files) (tag : List ℕ) (al
 
   -- more rounds than systems are enough
   pub rounds-settle : (events : List RunEvent) (n : ℕ) → length files < n → Progress events n → is_settled (run_of files events) ≡ true
-  rounds-settle events n many so_far =
-      elim so_far.out [
-        | inl settled ↦ settled
-        | inr few ↦ absurd (omega (arith, few, many))
-      ]
+  rounds-settle events n many so_far = grind arith

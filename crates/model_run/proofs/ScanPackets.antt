@@ -1,6 +1,6 @@
 -- The packets of one scan, on every net.
 use Rattle.std.proofs.Common.{◌≡◌, ◌≢◌, inl, inr, refl, sym, subst, ap, ◌∙◌, ℕ, arith, List, [], ◌∷◌, drop, map}
-use Rattle.std.specs.Prelude.{true, false, filter, if◌then◌else◌, Some}
+use Rattle.std.specs.Prelude.{true, false, filter, Some}
 use Rattle.std.specs.List.{list_any}
 use Rattle.std.proofs.lemmas.Bool.{cond-true, cond-false}
 use Rattle.echo_addr.specs.declared.address.Address.{Address}
@@ -10,17 +10,15 @@ use Rattle.echo_filed.specs.declared.key.Key.{Key}
 use Rattle.model_steps.specs.declared.packet.Packet.{Packet}
 use Rattle.model_steps.specs.declared.stamp.Stamp.{Stamp}
 use Rattle.echo_links.specs.Links.{LinkFile, same_address}
-use Rattle.echo_filed.specs.Filed.{Filed, same_key}
+use Rattle.echo_filed.specs.Filed.{Filed}
 use Rattle.model_steps.specs.Scanning.{copy_to, exported, goes_to, header_to, packet_to, packets_of, recipients, scanned}
 use Rattle.model_run.specs.Run.{System, destination}
 use Rattle.model_run.specs.Orderly.{SameContent, copies, count, origin, sent_count}
 use Rattle.model_run.specs.Exports.{IsSentCopy}
 use Rattle.model_run.proofs.TosserPremises.{Laws}
-use Rattle.model_run.proofs.Lists.{not_both, yes_or_no, any-from, any-to, filter-none, Among-filter_from, Among-filter_to}
-use Rattle.model_run.proofs.Bases.{Kept-waiting, SystemOk}
-use Rattle.model_run.proofs.WellFormed.{scanned-from, waiting-valid}
+use Rattle.model_run.proofs.Lists.{not_both, yes_or_no, any-from, any-to, filter-none, Among-filter_from, Among-filter_to, Among-map_to, Among-map_from}
+use Rattle.model_run.proofs.Bases.{Kept-waiting, SystemOk, scanned-from, waiting-valid}
 use Rattle.model_run.proofs.Copies.{Targeted, copied, copied-key, copies-are, goes-from, goes-to, packet-destination, target-recipient, targets-to, recipients-differ}
-use Rattle.model_run.proofs.RulesLists.{Among-map_to, Among-map_from}
 
 packet-origin : (file : LinkFile) (stamp : Stamp) (waiting : List Filed) (address : Address) → origin (packet_to file stamp waiting address) ≡ file.system
 unfolding packet_to header_to
@@ -47,9 +45,7 @@ packet-has file stamp waiting address m h goes =
 -- copies have the keys of their messages
 count-copied : (file : LinkFile) (k : Key) (ms : List Filed) → count k (map (copied file) ms) ≡ count k ms
 count-copied file k [] = refl
-count-copied file k (m ∷ ms) =
-    let size : Key → ℕ = λ own. if same_key own k then 1 else 0 in
-    omega (arith, ap size (copied-key file m), count-copied file k ms)
+count-copied file k (m ∷ ms) = grind (arith, copied-key, count-copied file k ms)
 
 module _ (laws : Laws) (s : System) (ok : SystemOk s) (stamp : Stamp) where
   abbrev waits : List Filed
@@ -151,16 +147,7 @@ module _ (laws : Laws) (s : System) (ok : SystemOk s) (stamp : Stamp) where
 
   to-one : (a : Address) (k : Key) (rs : List Address) → Different rs → Among a rs → sent_among a k rs ≡ count k (copies (packet_to s.file stamp waits a))
   to-one a k [] d h = absurd h
-  to-one a k (r ∷ rs) d h =
-      elim h [
-        | inr t ↦ to-other a k r rs (λ e. d.0 (Among-at r a rs e t)) ∙ to-one a k rs d.1 t
-        | inl e ↦ (let p = packet_to s.file stamp waits r in
-            let yes : same_address (destination p) a ≡ true = laws.addresses.full (destination p) a (packet-destination laws s.file stamp waits r ∙ sym e) in
-            let rest = to-none a k rs (λ t. d.0 (Among-at r a rs (sym e) t)) in
-            let here : sent_among a k (r ∷ rs) ≡ count k (copies p) =
-            omega (arith, rest, cond-true (same_address (destination p) a) (count k (copies p)) 0 yes) in
-            here ∙ ap (λ (b : Address). count k (copies (packet_to s.file stamp waits b))) (sym e))
-      ]
+  to-one a k (r ∷ rs) d h = grind (arith, to-other, Among-at, packet-destination, to-none, cond-true, to-one a k rs d.1)
 
   none-goes : (a : Address) → ¬ Among a (recipients s.file waits) → filter (goes_to s.file a) waits ≡ []
   none-goes a h = filter-none (goes_to s.file a) waits (λ m i. elim (yes_or_no (goes_to s.file a m)) [

@@ -1,6 +1,6 @@
 -- A scan exports the waiting messages, one at a time.
 use Rattle.std.proofs.Common.{◌≡◌, ◌≢◌, ◌⊎◌, ◌↔◌, inl, inr, refl, sym, subst, ap, ◌∙◌, ℕ, ◌+◌, arith, List, [], ◌∷◌, ◌++◌, append_assoc, length, take, drop, map, Some}
-use Rattle.std.specs.Prelude.{Bool, false, bytes_eq, filter, ◌&&◌}
+use Rattle.std.specs.Prelude.{Bool, bytes_eq, filter, ◌&&◌}
 use Rattle.std.proofs.lemmas.Bool.{cond-false}
 use Rattle.std.proofs.lemmas.List.{take-append-drop, take_all}
 use Rattle.echo_addr.specs.declared.address.Address.{Address}
@@ -13,24 +13,22 @@ use Rattle.model_steps.specs.Scanning.{goes_to, scanned, targets}
 use Rattle.echo_links.specs.Links.{same_address}
 use Rattle.echo_filed.specs.declared.key.Key.{Key}
 use Rattle.echo_filed.specs.Sets.{address_set}
-use Rattle.echo_filed.specs.Filed.{Filed, key_of, same_key}
+use Rattle.echo_filed.specs.Filed.{Filed, same_key}
 use Rattle.model_run.specs.Events.{Exports, Text, copy_to}
-use Rattle.model_run.specs.Events as rules
 use Rattle.model_run.specs.Run.{System, Run, change, destination, nth, scanning_at}
 use Rattle.model_run.specs.Orderly.{count, origin, sent_count, tag_of}
 use Rattle.model_run.specs.Keeping.{Content, IsFiledIn, IsHistory, IsSent, copy_count, filed_as, said, sent_as}
-use Rattle.model_run.proofs.Counts.{one_if}
-use Rattle.model_run.proofs.TosserPremises.{Laws}
-use Rattle.model_run.proofs.Lists.{yes_or_no, not_both, and-parts, filter-yes, filter-no, nth-append, Among-drop, Among-filter_from, Among-filter_to, same_list as Among-in}
+use Rattle.model_run.proofs.TosserPremises.{Laws, one_if}
+use Rattle.model_run.proofs.Lists.{yes_or_no, not_both, and-parts, filter-yes, filter-no, nth-append, Among-drop, Among-filter_from, Among-filter_to, same_list as Among-in, Among-map_to, Among-map_from}
 use Rattle.model_run.proofs.Bases.{Kept-length, SystemOk}
 use Rattle.model_run.proofs.Areas.{address_of, bytes-equal, bytes-same, key-tag}
 use Rattle.model_run.proofs.Copies.{copied, copied-key, copied-tag, goes-from, goes-to, targets-from, targets-to}
-use Rattle.model_run.proofs.DeliveredOnce.{IsDeliveredOnce}
 use Rattle.model_run.proofs.ScanPackets.{scanned-copied, scanned-count, scanned-origin, target-packet}
 use Rattle.model_run.proofs.ExportLists.{sent-append}
 use Rattle.model_run.proofs.Histories.{RCopy, REvent, RFiled, filed-after, filed-before, filed-new}
-use Rattle.model_run.proofs.RulesLists.{Among-map_to, Among-map_from}
 use Rattle.model_run.proofs.Targets.{some_same}
+use Rattle.model_run.proofs.WholeRuns.{IsDeliveredOnce}
+use Rattle.model_run.specs.Events as rules
 
 -- the number of copies to an address, for joined lists, and for one message
 copy_count-append : (x : Address) (k : Key) (cs ds : List RCopy) → copy_count x k (cs ++ ds) ≡ copy_count x k cs + copy_count x k ds
@@ -53,14 +51,7 @@ module _ (laws : Laws) (m : RFiled) (text : Text NetNode Key Content) (x : Addre
 
   pub sent-there : (to : List Address) → Different to → Among x to → copy_count x k (map copy to) ≡ one_if (same_key text.key k)
   sent-there [] d h = absurd h
-  sent-there (y ∷ to) d h = elim h [
-    | inr t ↦ omega (arith, other-goal y (λ e. d.0 (Among-at y x to e t)), sent-there to d.1 t)
-    | inl e ↦ (let P : Address → Type 0 = λ a. one_if (same_address a x && same_key text.key k) ≡ one_if (same_key text.key k) in
-        omega (arith, subst P e itself, sent-nowhere to (λ t. d.0 (Among-at y x to (sym e) t))))
-  ]
-    where
-      itself : one_if (same_address x x && same_key text.key k) ≡ one_if (same_key text.key k)
-      itself = ap (λ (b : Bool). one_if (b && same_key text.key k)) (laws.addresses.full x x refl)
+  sent-there (y ∷ to) d h = grind (arith, other-goal, Among-at, sent-nowhere, sent-there to d.1)
 
 module _ (laws : Laws) (tag : List ℕ) (s : System) (ok : SystemOk s) where
   abbrev targets_of : Filed → List Address
@@ -99,9 +90,7 @@ module _ (laws : Laws) (tag : List ℕ) (s : System) (ok : SystemOk s) where
 
   copies-are : (ms : List Filed) (events : List REvent) → rules.copies (exports ms events) ≡ new_copies ms ++ rules.copies events
   copies-are [] events = refl
-  copies-are (m ∷ ms) events =
-      let mine = map (copy_to (filed_as (address_of s) m) (λ x. text_of m)) (targets_of m) in
-      ap (λ (cs : List RCopy). mine ++ cs) (copies-are ms events) ∙ sym (append_assoc mine (new_copies ms) (rules.copies events))
+  copies-are (m ∷ ms) events = grind (arith, append_assoc, copies-are ms events)
 
   abbrev copy_of : Address → Filed → RCopy
   copy_of x m = record { from = address_of s; to = x; text = text_of m }
@@ -158,24 +147,7 @@ module _ (laws : Laws) (tag : List ℕ) (s : System) (ok : SystemOk s) where
 
   count-area : (k : Key) → tag_of k ≡ tag → (g : Filed → Bool) (ms : List Filed) → count k (filter g (filter in_area ms)) ≡ count k (filter g ms)
   count-area k e g [] = refl
-  count-area k e g (m ∷ ms) =
-      let size : List Filed → ℕ = λ ns. count k ns in
-      let inner : List Filed → ℕ = λ ns. count k (filter g ns) in
-      let later = count-area k e g ms in
-      elim (yes_or_no (in_area m)) [
-        | inl t ↦ elim (yes_or_no (g m)) [
-          | inl u ↦ omega (arith, later, ap inner (filter-yes in_area m ms t), ap size (filter-yes g m (filter in_area ms) u), ap size (filter-yes g m ms u))
-          | inr u ↦ omega (arith, later, ap inner (filter-yes in_area m ms t), ap size (filter-no g m (filter in_area ms) u), ap size (filter-no g m ms u))
-        ]
-        | inr f ↦ (let other : same_key (key_of m) k ≡ false = elim (yes_or_no (same_key (key_of m) k)) [
-          | inr u ↦ u
-          | inl u ↦ absurd (not_both (in_area m) (bytes-equal laws m.echo.tag tag (sym (key-tag m) ∙ (ap tag_of (laws.keys.sound (key_of m) k u) ∙ e))) f)
-        ] in
-            elim (yes_or_no (g m)) [
-              | inl u ↦ omega (arith, later, ap inner (filter-no in_area m ms f), ap size (filter-yes g m ms u), cond-false {A = ℕ} (same_key (key_of m) k) 1 0 other)
-              | inr u ↦ omega (arith, later, ap inner (filter-no in_area m ms f), ap size (filter-no g m ms u))
-            ])
-      ]
+  count-area k e g (m ∷ ms) = grind (arith, yes_or_no, filter-yes, filter-no, not_both, bytes-equal, key-tag, cond-false, count-area k e g ms)
 
   -- the waiting messages of the area
   abbrev pub waits : List Filed

@@ -20,11 +20,10 @@ use Rattle.model_run.specs.Run.{System, destination, nth, run_of}
 use Rattle.model_run.specs.Exports.{Export, exports}
 use Rattle.model_run.specs.Fits.{FilesFit}
 use Rattle.model_run.proofs.TosserPremises.{Laws}
-use Rattle.model_run.proofs.Lists.{and-parts, nth-among, Among-drop, Among-filter_from}
+use Rattle.model_run.proofs.Lists.{and-parts, nth-among, Among-drop, Among-filter_from, Among-map_from}
 use Rattle.model_run.proofs.Bases.{IsKept, Kept-front}
 use Rattle.model_run.proofs.WholeRuns.{run-ok}
-use Rattle.model_run.proofs.ExportLog.{run-logged}
-use Rattle.model_run.proofs.RulesLists.{Among-map_from}
+use Rattle.model_run.proofs.ExportLists.{run-logged}
 
 -- a stub that is not purged has no id
 no-id : (id : Option (List ℕ)) (stub : Bool) → not (is_some id && stub) ≡ true → stub ≡ true → id ≡ None

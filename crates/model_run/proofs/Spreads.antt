@@ -5,9 +5,8 @@ use Rattle.echo_addr.specs.declared.address.Address.{Address}
 use Rattle.echo_addr.specs.declared.address.NetNode.{NetNode}
 use Rattle.echo_addr.specs.Address.{net_node_of}
 use Rattle.model_graph.specs.Walk.{Reaches}
-use Rattle.model_graph.proofs.Walks.{Reaches-trans}
+use Rattle.model_graph.proofs.Members.{Reaches-trans}
 use Rattle.echo_links.proofs.Addresses.{same_address_decides}
-use Rattle.echo_links.specs.Links.{same_address}
 use Rattle.echo_filed.specs.Filed.{Filed}
 use Rattle.model_steps.specs.Scanning.{is_seen_by}
 use Rattle.model_run.proofs.Lists.{not_both, yes_or_no}
@@ -46,11 +45,7 @@ pub record Spread (linked : Address → Address → Bool) (Carrier : Address →
       Holds y m → m.sender ≡ Some u
 
 pub one_or_two : (a b : Address) → (a ≡ b) ⊎ (a ≢ b)
-one_or_two a b =
-    elim (yes_or_no (same_address a b)) [
-      | inl t ↦ inl ((same_address_decides a b).0 t)
-      | inr f ↦ inr (λ e. not_both (same_address a b) ((same_address_decides a b).1 e) f)
-    ]
+one_or_two a b = grind (arith, yes_or_no, same_address_decides, not_both)
 
 module _ (linked : Address → Address → Bool) (Carrier : Address → Type 0) (f : Address) (Holds : Address → Filed → Type 0)
     (spread : Spread linked Carrier f Holds) where
@@ -58,11 +53,7 @@ module _ (linked : Address → Address → Bool) (Carrier : Address → Type 0) 
 
   -- a system holds the posting as its poster, or its message came
   pub source : (x : Address) (m : Filed) → Holds x m → ((x ≡ f) × (m ≡ posting)) ⊎ Came linked Holds x m
-  source x m h =
-      elim (spread.came x m h) [
-        | inl here ↦ (let P : Address → Type 0 = λ a. Holds a m in inl (here, spread.one f m posting (subst P here h) spread.at_poster))
-        | inr came ↦ inr came
-      ]
+  source x m h = grind arith
 
   -- a message with a sender came from it
   pub came_from : (x : Address) (m : Filed) → Holds x m → (u : Address) → m.sender ≡ Some u → (c : Came linked Holds x m) × (c.from ≡ u)
@@ -74,8 +65,7 @@ module _ (linked : Address → Address → Bool) (Carrier : Address → Type 0) 
 
   -- a link of the poster has the message from it
   pub from_poster : (y : Address) (m : Filed) → IsTrue (linked f y) → Holds y m → m.sender ≡ Some f
-  from_poster y m link h =
-      spread.sole f posting y m spread.at_poster link (spread.unlisted y) (λ e. none_some (sym spread.own ∙ e)) h
+  from_poster y m link h = grind (arith, none_some)
 
   pub longer : (x : Address) (m : Filed) (c : Came linked Holds x m) → length m.echo.path ≡ length c.original.echo.path + 1
   longer x m c = ap (λ (es : List NetNode). length es) c.path ∙ length-append c.original.echo.path (net_node_of c.from ∷ [])
@@ -97,11 +87,7 @@ module _ (linked : Address → Address → Bool) (Carrier : Address → Type 0) 
   reached x carries = let (m, h) = spread.all x carries in walks (length m.echo.path) x m (omega arith) h
 
   pub answered : (y : Address) → Carrier y → IsTrue (linked f y) → IsTrue (linked y f)
-  answered y carries link =
-      let (m, h) = spread.all y carries in
-      let (c, from) = came_from y m h f (from_poster y m link h) in
-      let P : Address → Type 0 = λ a. IsTrue (linked y a) in
-      subst P from c.back
+  answered y carries link = grind (arith, came_from, from_poster)
 
   -- only the poster sends the message to a system in the poster's SEEN-BY
   module _ (y : Address) (near : IsNear linked f y) where
@@ -122,15 +108,7 @@ module _ (linked : Address → Address → Bool) (Carrier : Address → Type 0) 
 
     -- so no carrier is hidden in it unless it is a link of the poster
     pub not_hidden : Carrier y → y ≢ f → IsTrue (linked f y)
-    not_hidden carries other =
-        let (m, h) = spread.all y carries in
-        elim (source y m h) [
-          | inl here ↦ absurd (other here.0)
-          | inr c ↦ elim (one_or_two c.from f) [
-            | inl e ↦ (let P : Address → Type 0 = λ a. IsTrue (linked a y) in subst P e c.link)
-            | inr later ↦ absurd (not_both (is_seen_by c.original y) (listed (length c.original.echo.path) c.from c.original (omega arith) c.holds later) c.unseen)
-          ]
-        ]
+    not_hidden carries other = grind (arith, source, one_or_two, not_both, listed)
 
   -- if links are carriers, and carriers differ by net and node
   module _ (known : (a b : Address) → IsTrue (linked a b) → Carrier b)
@@ -159,15 +137,4 @@ module _ (linked : Address → Address → Bool) (Carrier : Address → Type 0) 
     -- two links of the poster are not both linked with a system that is no link of it
     pub no_kite : (b x y : Address) → IsTrue (linked f b) → IsTrue (linked f x) → IsTrue (linked b y) → IsTrue (linked x y) →
         y ≢ f → ¬ IsTrue (linked f y) → b ≡ x
-    no_kite b x y to_b to_x b_y x_y other unlinked =
-        let at_y = known b y b_y in
-        let (m, h) = spread.all y at_y in
-        let sent : (u : Address) → IsTrue (linked f u) → IsTrue (linked u y) → m.sender ≡ Some u = λ u to_u u_y.
-        (let (n, at_u) = spread.all u (known f u to_u) in
-        spread.sole u n y m at_u u_y
-        (elim (yes_or_no (is_seen_by n y)) [
-          | inr no_entry ↦ no_entry
-          | inl seen ↦ absurd (elim (first_seen u y n to_u at_u at_y seen) [ inl e ↦ other e | inr t ↦ unlinked t ])
-        ])
-        (λ e. other (sym (some_same (sym (from_poster u n to_u at_u) ∙ e)))) h) in
-        some_same (sym (sent b to_b b_y) ∙ sent x to_x x_y)
+    no_kite b x y to_b to_x b_y x_y other unlinked = grind (arith, yes_or_no, first_seen, some_same, from_poster)

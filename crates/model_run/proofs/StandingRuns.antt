@@ -1,7 +1,7 @@
 -- Each event keeps the rules.
 use Rattle.std.proofs.Common.{◌≡◌, inl, inr, refl, sym, subst, ap, ◌∙◌, ℕ, zero, suc, arith, List, [], ◌∷◌, ◌++◌, length, take, Option, Some, None}
 use Rattle.std.specs.Prelude.{Bool, true, false, bytes_eq, filter, is_none, if◌then◌else◌}
-use Rattle.std.proofs.lemmas.List.{take_all}
+use Rattle.std.proofs.lemmas.List.{take_all, append-nil}
 use Rattle.echo_addr.specs.declared.address.Address.{Address}
 use Rattle.model_graph.specs.Walk.{Among}
 use Rattle.echo_packet.specs.Message.{Message}
@@ -16,30 +16,26 @@ use Rattle.echo_filed.specs.Filed.{Filed, key_of}
 use Rattle.model_steps.specs.Posting.{posted, posting}
 use Rattle.model_steps.specs.Scanning.{scanned}
 use Rattle.model_steps.specs.Stamps.{is_stamp}
-use Rattle.model_steps.specs.Tossing.{received}
+use Rattle.model_steps.specs.Tossing.{received, tossed}
 use Rattle.model_steps.proofs.Posted.{posting_posted}
 use Rattle.model_run.proofs.Eras.{begins, nothing-rests}
 use Rattle.model_run.specs.Event.{RunEvent, Posting, Scanning, Delivery, PartDelivery, Purging}
-use Rattle.model_run.specs.Run.{System, Run, after_event, after_events, change, changing, coming, delivery, destination, filing, nth, part_delivery, posting_at, purging_at, receiver, scanning, scanning_at, start, taking, tossing_at}
+use Rattle.model_run.specs.Run.{System, Run, after_event, after_events, change, changing, coming, delivery, destination, filing, nth, part_delivery, posting_at, purging_at, receiver, scanning, scanning_at, start, taking, tossing_at, state_of}
 use Rattle.model_run.specs.Orderly.{copies, origin}
 use Rattle.model_run.specs.Tidy.{Tidy}
 use Rattle.model_run.specs.Fits.{FilesFit}
 use Rattle.model_run.specs.AreaNets.{net_of}
 use Rattle.model_run.proofs.TosserPremises.{Laws}
-use Rattle.model_run.proofs.Lists.{change-none, first_passes, not_both, nth-among, nth-cases, yes_or_no, with_index-from, Among-filter_from, Among-take, same_list as Among-in}
-use Rattle.model_run.proofs.Bases.{HasKey, SystemOk}
-use Rattle.model_run.proofs.WellFormed.{RunOk, changing-ok, event-ok, posted-fresh, posting-ok, purging-ok, start-ok}
+use Rattle.model_run.proofs.Lists.{change-none, first_passes, not_both, nth-among, nth-cases, yes_or_no, with_index-from, Among-filter_from, Among-take, same_list as Among-in, Among-map_from}
+use Rattle.model_run.proofs.Bases.{HasKey, SystemOk, RunOk, changing-ok, event-ok, posted-fresh, posting-ok, purging-ok, start-ok}
 use Rattle.model_run.proofs.Areas.{address_of, area-carries, bytes-equal, bytes-same}
-use Rattle.model_run.proofs.Histories.{REvent}
-use Rattle.model_run.proofs.WholeRuns.{along, filing-file, fresh-empty, fresh-files}
-use Rattle.model_run.proofs.DeliveredOnce.{IsDeliveredOnce, event-once}
+use Rattle.model_run.proofs.Histories.{REvent, Equal, Standing, stands-idle, stands-other, stands-posted, stands-still}
+use Rattle.model_run.proofs.WholeRuns.{along, filing-file, fresh-empty, fresh-files, IsDeliveredOnce, event-once}
 use Rattle.model_run.specs.Keeping.{sent_as}
-use Rattle.model_run.specs.Events as rules
-use Rattle.model_run.proofs.Standing.{Equal, Standing, stands-idle, stands-other, stands-posted, stands-still}
 use Rattle.model_run.proofs.StandingScans.{stands-scanned}
 use Rattle.model_run.proofs.StandingTosses.{Tossed, none_or_some, origin-is, toss-all}
-use Rattle.model_run.proofs.RulesLists.{Among-map_from}
 use Rattle.model_run.proofs.Targets.{some_same}
+use Rattle.model_run.specs.Events as rules
 
 posted-tag : (file : LinkFile) (tag : List ℕ) (draft : Draft) (serial : ℕ) (stamp : Stamp) → (posted file tag draft serial stamp).echo.tag ≡ upper tag
 unfolding posted
@@ -53,9 +49,7 @@ posted-parts file tag draft serial stamp = (refl, refl)
 -- changes with the same effect on the item at the index are equal
 change-at : {X : Type 0} (i : ℕ) (f g : X → X) (x : X) (xs : List X) → nth i xs ≡ Some x → f x ≡ g x → change i f xs ≡ change i g xs
 change-at i f g x [] at e = refl
-change-at zero f g x (y ∷ xs) at e =
-    let same : y ≡ x = some_same at in
-    ap (λ (z : _). z ∷ xs) (ap f same ∙ (e ∙ ap g (sym same)))
+change-at zero f g x (y ∷ xs) at e = grind (arith, some_same)
 change-at (suc i) f g x (y ∷ xs) at e = ap (λ (ys : List _). y ∷ ys) (change-at i f g x xs at e)
 
 module _ (laws : Laws) (files : List LinkFile) (tag : List ℕ) (tidy : Tidy files tag) (past : List REvent) where
@@ -230,3 +224,11 @@ start-stands laws files tag fit = record {
   since = begins Equal (net_of files tag) [] (nothing-rests Equal);
   wrote = λ s h m i posting. absurd (fresh-empty files s h m i);
 }
+
+-- The state of a system without its history.
+
+-- the state of a system that tosses messages
+pub tossing-state : (sender : Address) (ms : List Message) (s : System)
+    → state_of (tossing_at sender ms s) ≡ record { file = s.file; base = tossed s.file s.base sender ms; cursor = s.cursor }
+tossing-state sender [] s = refl
+tossing-state sender (m ∷ ms) s = grind (arith, append-nil, tossing-state sender ms)

@@ -14,29 +14,24 @@ use Rattle.echo_filed.specs.Sets.{address_set}
 use Rattle.echo_filed.specs.declared.key.Key.{Key}
 use Rattle.echo_filed.specs.Filed.{Filed, key_of, same_key}
 use Rattle.model_run.specs.Nets.{Net}
-use Rattle.model_run.specs.Events as rules
 use Rattle.model_run.specs.Rules.{IsTarget, HasPlainSeenBy}
-use Rattle.model_run.proofs.Eras.{exported-append, filed-cases}
-use Rattle.model_run.proofs.Runs.{ByRules, one_more}
+use Rattle.model_run.proofs.Eras.{exported-append, filed-cases, ByRules, one_more}
 use Rattle.model_run.proofs.Telling.{told-plainly}
 use Rattle.model_run.specs.Run.{System, Run, change, nth, scanning_at}
 use Rattle.model_run.specs.Orderly.{count}
 use Rattle.model_run.specs.Tidy.{Tidy, lists}
 use Rattle.model_run.specs.AreaNets.{net_of}
 use Rattle.model_run.specs.Keeping.{IsHistory, filed_as}
-use Rattle.model_run.proofs.Counts.{count-has}
-use Rattle.model_run.proofs.TosserPremises.{Laws}
-use Rattle.model_run.proofs.Lists.{any-from, any-to, map-change, nth-among, Among-drop, same_list as Among-in}
-use Rattle.model_run.proofs.Bases.{SystemOk, count-is}
-use Rattle.model_run.proofs.WellFormed.{RunOk}
+use Rattle.model_run.proofs.TosserPremises.{Laws, count-has}
+use Rattle.model_run.proofs.Lists.{any-from, any-to, map-change, nth-among, Among-drop, same_list as Among-in, Among-map_to, Among-map_from}
+use Rattle.model_run.proofs.Bases.{SystemOk, count-is, RunOk}
 use Rattle.model_run.proofs.Areas.{Wrote, address_of, link-lists, lists-link, one-system, tidy-net}
 use Rattle.model_run.proofs.Copies.{copied, copied-content, copied-key, copied-seen, seen-copied, targets-from, targets-to}
-use Rattle.model_run.proofs.DeliveredOnce.{IsDeliveredOnce}
-use Rattle.model_run.proofs.Histories.{REvent, RFiled, before-then}
+use Rattle.model_run.proofs.Histories.{REvent, RFiled, before-then, Equal, Standing, filed-event}
 use Rattle.model_run.proofs.ExportLists.{count-append, count-filter}
 use Rattle.model_run.proofs.Scanned.{export, exported-are, exports, exports-append, filed-are, history-scans, waits, waits-from}
-use Rattle.model_run.proofs.Standing.{Equal, Standing, filed-event}
-use Rattle.model_run.proofs.RulesLists.{Among-map_to, Among-map_from}
+use Rattle.model_run.proofs.WholeRuns.{IsDeliveredOnce}
+use Rattle.model_run.specs.Events as rules
 
 module _ (laws : Laws) (files : List LinkFile) (tag : List ℕ) (tidy : Tidy files tag) (past : List REvent) (run : Run) (st : Standing files tag past run)
     (i : ℕ) (s : System) (at_s : nth i run.systems ≡ Some s) (stamp : Stamp) where

@@ -1,20 +1,18 @@
 -- Messages of a packet come by the rules, filed or known.
-use Rattle.std.proofs.Common.{◌≡◌, ◌≢◌, ◌⊎◌, inl, inr, refl, sym, subst, ap, ◌∙◌, ℕ, zero, suc, IsTrue, List, [], ◌∷◌, ◌++◌, Option, Some, None}
-use Rattle.std.specs.Prelude.{true, bytes_eq, filter, is_none, ◌==◌}
+use Rattle.std.proofs.Common.{◌≡◌, ◌≢◌, ◌⊎◌, inl, inr, refl, sym, subst, ap, ◌∙◌, ℕ, zero, suc, IsTrue, List, [], ◌∷◌, ◌++◌, Option, Some, None, arith}
+use Rattle.std.specs.Prelude.{true, bytes_eq}
 use Rattle.std.proofs.lemmas.Bool.{cond-false, ne_eqb}
 use Rattle.echo_addr.specs.declared.address.Address.{Address}
 use Rattle.model_graph.specs.Walk.{Among}
 use Rattle.model_graph.proofs.Members.{Among-append_right}
 use Rattle.echo_packet.specs.Message.{Message}
 use Rattle.echo_text.specs.Echo.{EchoText}
-use Rattle.echo_text.specs.Refusal.{text_refusal}
 use Rattle.model_steps.specs.declared.packet.Packet.{Packet}
 use Rattle.echo_links.specs.Links.{LinkFile, has_area, is_link}
 use Rattle.echo_filed.specs.Filed.{Filed, key_of}
 use Rattle.base_file.specs.Base.{is_known}
 use Rattle.model_steps.specs.Tossing.{received, sender_of, tossing}
 use Rattle.model_steps.proofs.Received.{received_tossing, tossing_received}
-use Rattle.model_run.specs.Events as rules
 use Rattle.model_run.proofs.Eras.{came-append, copies-cases, filed-past, inv}
 use Rattle.model_run.specs.Run.{System, Run, change, changing, destination, filing, nth, tossing_at}
 use Rattle.model_run.specs.Orderly.{copies, origin, tag_of}
@@ -22,15 +20,13 @@ use Rattle.model_run.specs.Tidy.{Tidy, lists}
 use Rattle.model_run.specs.AreaNets.{net_of}
 use Rattle.model_run.specs.Keeping.{sent_as}
 use Rattle.model_run.proofs.TosserPremises.{Laws}
-use Rattle.model_run.proofs.Lists.{nth-among, nth-changed, yes_or_no, not_both, Among-filter_to, same_list as Among-in}
-use Rattle.model_run.proofs.Bases.{HasKey, SystemOk, known-in_history}
-use Rattle.model_run.proofs.WellFormed.{PacketOk, RunOk, changing-ok, received-echo, tossed-fresh, tossing_one-ok}
+use Rattle.model_run.proofs.Lists.{nth-among, nth-changed, yes_or_no, not_both, Among-filter_to, same_list as Among-in, Among-map_to}
+use Rattle.model_run.proofs.Bases.{HasKey, SystemOk, known-in_history, PacketOk, RunOk, changing-ok, received-echo, tossed-fresh, tossing_one-ok}
 use Rattle.model_run.proofs.Areas.{address_of, bytes-equal, bytes-same, key-tag, link-has_area, lists-link, tidy-net}
 use Rattle.model_run.proofs.WholeRuns.{filing-file}
-use Rattle.model_run.proofs.Histories.{REvent, RCopy}
-use Rattle.model_run.proofs.Standing.{Equal, Standing, can, can_keys, equal-compares, filed-here, stands-idle, stands-known, stands-other, stands-tossed}
-use Rattle.model_run.proofs.RulesLists.{Among-map_to}
+use Rattle.model_run.proofs.Histories.{REvent, RCopy, Equal, Standing, can, can_keys, equal-compares, filed-here, stands-idle, stands-known, stands-other, stands-tossed}
 use Rattle.model_run.proofs.Targets.{none_some}
+use Rattle.model_run.specs.Events as rules
 
 pub none_or_some : {X : Type 0} (o : Option X) → (o ≡ None) ⊎ ((x : X) × (o ≡ Some x))
 none_or_some None = inl refl
@@ -53,9 +49,7 @@ received-sender sender q = refl
 
 -- the sender of a packet of a system in range
 pub origin-is : (file : LinkFile) (p : Packet) → PacketOk p → sender_of file p.header ≡ origin p
-origin-is file p ok =
-    let with_zone : ℕ → Address = λ z. record { zone = z; net = p.header.orig_net; node = p.header.orig_node } in
-    ap with_zone (cond-false (p.header.orig_zone == 0) file.system.zone p.header.orig_zone (ne_eqb p.header.orig_zone 0 ok.zone))
+origin-is file p ok = grind (arith, cond-false, ne_eqb)
 
 module _ (laws : Laws) (files : List LinkFile) (tag : List ℕ) (tidy : Tidy files tag) (past : List REvent) (p : Packet) (ok_p : PacketOk p) where
   abbrev came_of : {run : Run} → Standing files tag past run → List RCopy
@@ -89,8 +83,7 @@ module _ (laws : Laws) (files : List LinkFile) (tag : List ℕ) (tidy : Tidy fil
       ok_after = changing-ok laws run i one (λ t ok. tossing_one-ok laws (origin p) q t ok (λ none. (ok_p.messages q in_p).1)) st.ok
 
       copy-in : Among m (copies p)
-      copy-in = Among-map_to (received (origin p)) q (filter (λ packed. is_none (text_refusal packed.text)) p.messages)
-          (Among-filter_to (λ packed. is_none (text_refusal packed.text)) q p.messages in_p (ap (λ (o : Option _). is_none o) (ok_p.messages q in_p).0))
+      copy-in = grind (arith, Among-map_to, Among-filter_to)
 
       abbrev c : RCopy
       c = sent_as p m

@@ -4,14 +4,13 @@ use Rattle.std.proofs.lemmas.List.{map-append}
 use Rattle.model_graph.specs.Walk.{Among, Different}
 use Rattle.model_graph.specs.Beyond.{Beyond, IsWay}
 use Rattle.model_graph.proofs.Members.{CanTell, Among-append_left, Among-append_right, Among-append_cases}
-use Rattle.model_graph.proofs.Cuts.{one_way}
+use Rattle.model_graph.proofs.Cycles.{one_way}
 use Rattle.model_run.specs.Nets.{Net, Tidy}
 use Rattle.model_run.specs.Events.{Text, Filed, Copy, copy_to, Has}
 use Rattle.model_run.specs.Rules.{IsTarget, HasSeenBy}
 use Rattle.model_run.specs.RulesOrderly.{Compares, place, goal}
-use Rattle.model_run.proofs.Invariant.{Parent, View, IsPoster, Good, Sent, IsSentTo, Invariant}
-use Rattle.model_run.proofs.Targets.{simple, carriers_to, beyond-target, told-parent}
-use Rattle.model_run.proofs.RulesLists.{Among-map_to, Among-map_from, Different-append}
+use Rattle.model_run.proofs.Targets.{simple, carriers_to, beyond-target, told-parent, Parent, View, IsPoster, Good, Sent, IsSentTo, Invariant}
+use Rattle.model_run.proofs.Lists.{Among-map_to, Among-map_from, Different-append}
 
 module _ {A N K C : Type 0} where
   pub Has-from_place : (m : Filed A N K C) (ms : List (Filed A N K C)) → Among (place m) (map place ms) → Has m.at m.text.key ms

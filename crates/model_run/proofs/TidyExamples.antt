@@ -1,18 +1,17 @@
 -- A net that is tidy, and for each clause of `Tidy` a net that breaks it.
-use Rattle.std.proofs.Common.{◌≡◌, ◌≢◌, ◌⊎◌, inl, inr, refl, sym, subst, ap, ◌∙◌, ℕ, arith, IsTrue, List, [], ◌∷◌, codes, map}
+use Rattle.std.proofs.Common.{◌≡◌, ◌≢◌, ◌⊎◌, inl, inr, refl, sym, subst, ap, ◌∙◌, ℕ, arith, IsTrue, List, [], ◌∷◌, codes}
 use Rattle.std.specs.Prelude.{◌&&◌, true, false}
 use Rattle.echo_addr.specs.declared.address.Address.{Address}
 use Rattle.echo_addr.specs.Address.{net_node_of}
 use Rattle.echo_addr.specs.declared.address.NetNode.{NetNode}
 use Rattle.model_graph.specs.Walk.{Among, Reaches, Walk}
 use Rattle.model_graph.specs.Cycle.{Cycle}
-use Rattle.echo_links.specs.Links.{LinkFile, has_area, is_link, links_of, same_address}
+use Rattle.echo_links.specs.Links.{LinkFile, has_area, links_of, same_address}
 use Rattle.model_run.specs.Tidy.{Carries, Tidy, lists}
 use Rattle.model_run.proofs.TosserLaws.{the_laws}
 use Rattle.model_graph.proofs.Members.{Among-at}
-use Rattle.model_run.proofs.Lists.{and-parts, any-from, not_both}
+use Rattle.model_run.proofs.Lists.{and-parts, any-from, not_both, Among-map_to}
 use Rattle.model_run.proofs.NetExamples.{address, beside, far, file, one_sided, over_zones, own_link, ring, triangle, two_files}
-use Rattle.model_run.proofs.RulesLists.{Among-map_to}
 
 abbrev pub test : List ℕ
 test = codes "TEST"
@@ -93,28 +92,17 @@ module _ (files : List LinkFile) (tag : List ℕ) where
       (f, i, sym (the_laws.addresses.sound f.system a (and-parts (same_address f.system a) (has_area f tag) t).0))
 
   link-from : (a b : Address) → IsTrue (lists files tag a b) → (f : LinkFile) × Among f files × (a ≡ f.system) × Among b (links_of f tag)
-  link-from a b h =
-      let (f, i, t) = any-from (λ file. same_address file.system a && is_link file tag b) files h in
-      let both = and-parts (same_address f.system a) (is_link f tag b) t in
-      let (l, j, e) = any-from (same_address b) (links_of f tag) both.1 in
-      (f, i, sym (the_laws.addresses.sound f.system a both.0), Among-at b l (links_of f tag) (the_laws.addresses.sound b l e) j)
+  link-from a b h = grind (arith, any-from, and-parts, the_laws, Among-at)
 
 -- one of the three
 abbrev OneOfThree : Address → Type 0
 OneOfThree a = Among a (address 1 ∷ (address 2 ∷ (address 3 ∷ [])))
 
 three-carry : (a : Address) → OneOfThree a → Carries triangle test a
-three-carry a h =
-    let P : Address → Type 0 = λ x. Carries triangle test x in
-    elim h [
-      | inl e ↦ subst P (sym e) refl
-      | inr k ↦ elim k [ inl e ↦ subst P (sym e) refl | inr l ↦ elim l [ inl e ↦ subst P (sym e) refl | inr n ↦ absurd n ] ]
-    ]
+three-carry a h = grind arith
 
 carriers-three : (a : Address) → Carries triangle test a → OneOfThree a
-carriers-three a h =
-    let (f, i, e) = carrier-from triangle test a h in
-    Among-at a f.system (map (λ (g : LinkFile). g.system) triangle) e (Among-map_to (λ (g : LinkFile). g.system) f triangle i)
+carriers-three a h = grind (arith, carrier-from, Among-at, Among-map_to)
 
 -- any two of them are linked
 abbrev OneOrLinked : Address → Address → Type 0
@@ -122,23 +110,7 @@ OneOrLinked a b = (a ≡ b) ⊎ IsTrue (lists triangle test a b)
 
 all-linked : (a b : Address) → OneOfThree a → OneOfThree b → OneOrLinked a b
 unfolding links_of
-all-linked a b h k =
-    elim h [
-      | inl p ↦ elim k [ inl q ↦ at 1 1 p q (inl refl) | inr l ↦ elim l [ inl q ↦ at 1 2 p q (inr refl) | inr n ↦ elim n [ inl q ↦ at 1 3 p q (inr refl) | inr z ↦ absurd z ] ] ]
-      | inr g ↦ elim g [
-        | inl p ↦ elim k [ inl q ↦ at 2 1 p q (inr refl) | inr l ↦ elim l [ inl q ↦ at 2 2 p q (inl refl) | inr n ↦ elim n [ inl q ↦ at 2 3 p q (inr refl) | inr z ↦ absurd z ] ] ]
-        | inr d ↦ elim d [
-          | inl p ↦ elim k [ inl q ↦ at 3 1 p q (inr refl) | inr l ↦ elim l [ inl q ↦ at 3 2 p q (inr refl) | inr n ↦ elim n [ inl q ↦ at 3 3 p q (inl refl) | inr z ↦ absurd z ] ] ]
-          | inr z ↦ absurd z
-        ]
-      ]
-    ]
-  where
-    at : (i j : ℕ) → a ≡ address i → b ≡ address j → OneOrLinked (address i) (address j) → OneOrLinked a b
-    at i j p q here =
-        let P : Address → Type 0 = λ x. OneOrLinked x b in
-        let Q : Address → Type 0 = λ y. OneOrLinked (address i) y in
-        subst P (sym p) (subst Q (sym q) here)
+all-linked a b h k = grind arith
 
 -- and no other systems are linked
 record Ends (a b : Address) : Type 0 where
@@ -183,11 +155,7 @@ link-ends a b h = ends (link-from triangle test a b h)
 
 walk-three : (a : Address) (rest : List Address) (b : Address) → Walk (lists triangle test) a rest b → (x : Address) → Among x rest → OneOfThree x
 walk-three a [] b walk x h = absurd h
-walk-three a (c ∷ rest) b walk x h =
-    elim h [
-      | inl e ↦ (let P : Address → Type 0 = λ y. OneOfThree y in subst P (sym e) (link-ends a c walk.0).second)
-      | inr t ↦ walk-three c rest b walk.1 x t
-    ]
+walk-three a (c ∷ rest) b walk x h = grind (arith, link-ends, walk-three c rest b walk.1 x)
 
 pub triangle_tidy : Tidy triangle test
 triangle_tidy = record {

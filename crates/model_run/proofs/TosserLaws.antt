@@ -12,11 +12,10 @@ use Rattle.model_graph.proofs.Members.{Contains-from_Among, Among-from_Contains}
 use Rattle.echo_filed.specs.declared.key.Key.TheVariants.{ById}
 use Rattle.model_steps.specs.declared.draft.Draft.{Draft}
 use Rattle.model_steps.specs.declared.stamp.Stamp.{Stamp}
-use Rattle.echo_links.specs.Links.{IsFile, LinkFile}
+use Rattle.echo_links.specs.Links.{IsFile, LinkFile, upper}
 use Rattle.echo_filed.specs.Sets.{address_before, address_set, entry_set, set_of}
 use Rattle.echo_filed.specs.Filed.{key_of, key_with}
 use Rattle.echo_text.specs.Ids.{id_of, serial_text}
-use Rattle.echo_links.specs.Links.{upper}
 use Rattle.model_steps.specs.Posting.{posted}
 use Rattle.echo_links.proofs.Addresses.{same_address_decides}
 use Rattle.echo_filed.proofs.Choices.{contained_in, in_contained}
@@ -28,6 +27,9 @@ use Rattle.model_steps.proofs.Copies.{exported_is_echo}
 use Rattle.echo_filed.proofs.Texts.{written_accepted, written_back}
 use Rattle.model_run.proofs.Lists.{not_both}
 use Rattle.model_run.proofs.TosserPremises.{Laws}
+use Rattle.model_run.specs.AreaNets.{IsTidyNet}
+use Rattle.model_run.specs.Tidy.{Tidy}
+use Rattle.model_run.proofs.Areas as areas
 
 -- an id names its system
 ids-differ : (a b : Address) (serial other : ℕ) → IsAddress a → IsAddress b → id_of a serial ≡ id_of b other → a ≡ b
@@ -68,15 +70,11 @@ ascending-differ {X} before order (x ∷ xs) up = (later xs up.0, ascending-diff
 
 addresses-only : (a : Address) (all : List Address) → Among a (address_set all) → Among a all
 unfolding address_set
-addresses-only a all h =
-    let there = contained_in a (set_of address_before all) (Contains-from_Among a (set_of address_before all) h) in
-    Among-from_Contains a all (in_contained a all (set_only address_before a all there))
+addresses-only a all h = grind (arith, contained_in, Contains-from_Among, Among-from_Contains, in_contained, set_only)
 
 addresses-all : (a : Address) (all : List Address) → Among a all → Among a (address_set all)
 unfolding address_set
-addresses-all a all h =
-    let there = set_keeps address_before address_order a all (contained_in a all (Contains-from_Among a all h)) in
-    Among-from_Contains a (set_of address_before all) (in_contained a (set_of address_before all) there)
+addresses-all a all h = grind (arith, set_keeps, address_order, contained_in, Contains-from_Among, Among-from_Contains, in_contained)
 
 addresses-once : (all : List Address) → Different (address_set all)
 unfolding address_set
@@ -100,3 +98,8 @@ the_laws = record {
   addresses_all = addresses-all;
   addresses_once = addresses-once;
 }
+
+-- The net of tidy link files is tidy.
+
+pub tidy-net : (files : List LinkFile) (tag : List ℕ) → Tidy files tag → IsTidyNet files tag
+tidy-net files tag tidy = areas.tidy-net the_laws files tag tidy

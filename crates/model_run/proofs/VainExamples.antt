@@ -56,9 +56,7 @@ no_carrier t = differ (t.joined.known (address 1) (address 3) refl)
     differ e = cc
 
 one_net_node : ¬ Tidy twins test
-one_net_node t =
-    let e = t.joined.apart (address 1) far refl refl refl in
-    absurd (omega (arith, ap (λ (a : Address). a.zone) e))
+one_net_node t = grind arith
 
 -- but a posting of the first system comes to each carrier once, and nothing is sent again; so does a posting of the
 -- second twin
@@ -76,15 +74,7 @@ record GoesWell : Type 0 where
 
 goes_well : GoesWell
 unfolding posted posted_lines posting post_refusal id_of trimmed lines digits date_of scanned packets_of recipients packet_to targets links_of address_set header_to copy_to exported entry_set text_of short_lines received toss_outcome tossing text_refusal echo_of kept_of path_lists seen_lists begins after_word entries tokens pair_of key_of msgid_of purged stub_of
-goes_well = record {
-  second_file_shown = refl;
-  second_file_sent = (refl, refl);
-  to_another_shown = refl;
-  to_another_sent = (refl, refl);
-  twins_shown = refl;
-  twins_sent = (refl, refl);
-  second_twin_shown = refl;
-}
+goes_well = grind arith
 
 -- a triangle is tidy, and its three systems are a cycle
 three_in_a_cycle : ¬ NoCycle (lists triangle test)

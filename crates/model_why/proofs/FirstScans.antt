@@ -10,20 +10,18 @@ use Rattle.model_run.specs.Event.{RunEvent}
 use Rattle.model_run.specs.Run.{System, nth, run_of, start}
 use Rattle.model_run.specs.Orderly.{sent_count}
 use Rattle.model_run.specs.Tidy.{lists}
-use Rattle.model_run.proofs.Lists.{any-from}
+use Rattle.model_run.proofs.Lists.{any-from, Among-map_to}
 use Rattle.model_run.proofs.WholeRuns.{along, event-files, fresh-files}
 use Rattle.model_run.specs.LawsOfRuns.{LawsOfRuns}
 use Rattle.model_run.specs.Postings.{post_and_scan}
-use Rattle.model_run.proofs.Entries.{link-among}
+use Rattle.model_run.proofs.Areas.{link-among, link-area}
 use Rattle.model_run.proofs.HarmLists.{among-nth, nth-index as nth-within}
 use Rattle.model_run.proofs.Places.{lists-file}
-use Rattle.model_run.proofs.PostAndScan.{scanned-poster, scanned-there, sent-to_link}
-use Rattle.model_run.proofs.Tags.{link-area}
+use Rattle.model_run.proofs.Holders.{scanned-poster, scanned-there, sent-to_link}
 use Rattle.model_run.proofs.HarmTelling.{posting-key}
 use Rattle.model_plan.specs.declared.plan.Guess.{Guess}
 use Rattle.model_plan.specs.declared.plan.Guess.TheVariants.{Nobody, Own}
 use Rattle.model_why.specs.Guesses.{IsWrongAtOnce, guessed_link}
-use Rattle.model_run.proofs.RulesLists.{Among-map_to}
 
 -- the file of a system of a run is one of the files
 file-there : (files : List LinkFile) (events : List RunEvent) (s : System) → Among s (run_of files events).systems → Among s.file files

@@ -10,8 +10,7 @@ use Rattle.model_run.specs.World.{is_settled}
 use Rattle.model_run.specs.Grave.{AllAreCarriers, GraveFault, HaveOwnAddresses}
 use Rattle.model_run.specs.LawsOfRuns.{LawsOfRuns}
 use Rattle.model_run.proofs.OneMessage.{post_of}
-use Rattle.model_run.proofs.HarmTelling.{posting-first, posting-is, posting-key, unharmed-by}
-use Rattle.model_run.proofs.Trials.{no_fault}
+use Rattle.model_run.proofs.HarmTelling.{posting-first, posting-is, posting-key, unharmed-by, no_fault}
 use Rattle.model_plan.specs.declared.plan.Move.{Move}
 use Rattle.model_why.specs.Resting.{IsHarmlessAt, PostsFirst}
 use Rattle.model_why.specs.Shown.{run_move, shown_run}

@@ -5,31 +5,13 @@ use Rattle.disk_io.specs.Runs.{OneStepOn, LeavesOnly}
 use Rattle.disk_io.specs.Synced.{IsOnDisk, KeepsOthers}
 use Rattle.base_log.specs.Names.{folder_of, log_of}
 use Rattle.base_log.specs.Log.{body_of}
-use Rattle.base_log.specs.Moments.{KeepsOutside, LeavesOutside}
 use Rattle.disk_io.proofs.Moments.{then_nothing}
-use Rattle.base_log.proofs.Gates.{told_by-body_of, P, Ready, run_at_first, ready, run_record, done_record, run_gate, done_gate, same_gate, outside_kept, outside_quiet, outside_twice}
-use Rattle.base_log.proofs.LeftOutside.{left_changed, left_quiet, left_twice}
+use Rattle.base_log.proofs.Gates.{told_by-body_of, P, Ready, run_at_first, ready, run_record, done_record, run_gate, done_gate, same_gate, outside_quiet}
+use Rattle.base_log.proofs.LeftOutside.{KeepsAround, around_changed, around_quiet, around_twice, left_quiet}
 use Rattle.base_log.proofs.Paths.{log_in}
 use Rattle.base_log.proofs.committing.commit.Given as given
 use Rattle.base_log.proofs.committing.commit.Goals.{After-sync-2, After-write_synced, After-write_synced-2}
 use Rattle.base_log.proofs.committing.commit.Goals as goal
-
--- everything outside the folder, after both files are synced
-quiet_outside : (g : given.Over) (c : After-sync-2 g) → KeepsOutside (folder_of c.args.names.now) (g.D.Disk.state c.args.disk.now) (g.D.Disk.state c.sync-2.new.self)
-quiet_outside g c =
-    let path = folder_of c.args.names.now in
-    let d0 = g.D.Disk.state c.args.disk.now in
-    let d1 = g.D.Disk.state c.sync.new.self in
-    let d2 = g.D.Disk.state c.sync-2.new.self in
-    outside_twice path d0 d1 d2 (outside_quiet path d0 d1 c.sync.ensures.quiet) (outside_quiet path d1 d2 c.sync-2.ensures.quiet)
-
-quiet_leaves : (g : given.Over) (c : After-sync-2 g) → LeavesOutside (folder_of c.args.names.now) (g.D.Disk.state c.args.disk.now) (g.D.Disk.state c.sync-2.new.self)
-quiet_leaves g c =
-    let path = folder_of c.args.names.now in
-    let d0 = g.D.Disk.state c.args.disk.now in
-    let d1 = g.D.Disk.state c.sync.new.self in
-    let d2 = g.D.Disk.state c.sync-2.new.self in
-    left_twice path d0 d1 d2 (λ m out. c.sync.ensures.quiet.named m (λ h. h)) (left_quiet path d0 d1 c.sync.ensures.quiet) (left_quiet path d1 d2 c.sync-2.ensures.quiet)
 
 -- the record is written behind the closed gate
 record_run : (g : given.Over) (c : After-write_synced g)
@@ -85,6 +67,16 @@ at_gate g c h0 h3 =
     let written = subst (λ (l : List ℕ). IsWrittenAt (bytes_in (d2.seen l)) (end.gate + 1) bytes (bytes_in (d3.seen l))) log c.in_ok-write_synced.ensures.written in
     subst (λ (l : List ℕ). Ready d0 path end told staged d3 (l ++ drop (length bytes) staged.log.rest)) c.record_of.ensures.bytes (done_record d0 path end told staged d2 d3 bytes at more kept on written)
 
+-- everything outside the folder, after both files are synced, after the record is written, and after the gate is opened
+synced_around : (g : given.Over) (c : After-sync-2 g) → KeepsAround (folder_of c.args.names.now) (g.D.Disk.state c.args.disk.now) (g.D.Disk.state c.sync-2.new.self)
+synced_around g c = around_twice (around_quiet c.sync.ensures.quiet) (around_quiet c.sync-2.ensures.quiet)
+
+record_around : (g : given.Over) (c : After-write_synced g) → KeepsAround (folder_of c.args.names.now) (g.D.Disk.state c.sync-2.new.self) (g.D.Disk.state c.write_synced.new.disk)
+record_around g c = around_changed (TornWrite (c.args.end.gate + 1) (length c.record_of.result)) (log_in (folder_of c.args.names.now)) (record_kept g c) (record_run g c)
+
+gate_around : (g : given.Over) (c : After-write_synced-2 g) → KeepsAround (folder_of c.args.names.now) (g.D.Disk.state c.write_synced.new.disk) (g.D.Disk.state c.write_synced-2.new.disk)
+gate_around g c = around_changed (TornWrite c.args.end.gate 1) (log_in (folder_of c.args.names.now)) (gate_kept g c) (gate_run g c)
+
 pub returns-in_err-sync-clause-outside : goal.returns-in_err-sync-clause-outside
 returns-in_err-sync-clause-outside g c = outside_quiet (folder_of c.args.names.now) (g.D.Disk.state c.args.disk.now) (g.D.Disk.state c.sync.new.self) c.sync.ensures.quiet
 
@@ -103,10 +95,10 @@ returns-in_err-sync-2-clause-any_moment g c h2 =
     then_nothing d0 d1 d2 all (then_nothing d0 d0 d1 all (run_at_first d0 path c.args.end c.args.told staged) c.sync.ensures.quiet) c.sync-2.ensures.quiet
 
 pub returns-in_err-sync-2-clause-outside : goal.returns-in_err-sync-2-clause-outside
-returns-in_err-sync-2-clause-outside g c = quiet_outside g (goal.at.returns-in_err-sync-2-clause-outside g c).After-sync-2
+returns-in_err-sync-2-clause-outside g c = (synced_around g (goal.at.returns-in_err-sync-2-clause-outside g c).After-sync-2).outside
 
 pub returns-in_err-sync-2-clause-leaves : goal.returns-in_err-sync-2-clause-leaves
-returns-in_err-sync-2-clause-leaves g c = quiet_leaves g (goal.at.returns-in_err-sync-2-clause-leaves g c).After-sync-2
+returns-in_err-sync-2-clause-leaves g c = (synced_around g (goal.at.returns-in_err-sync-2-clause-leaves g c).After-sync-2).leaves
 
 pub returns-in_err-write_synced-clause-any_moment : goal.returns-in_err-write_synced-clause-any_moment
 returns-in_err-write_synced-clause-any_moment g c h3 =
@@ -116,21 +108,10 @@ returns-in_err-write_synced-clause-any_moment g c h3 =
     (length c.record_of.result) (at_record g at h0) (record_run g at)
 
 pub returns-in_err-write_synced-clause-outside : goal.returns-in_err-write_synced-clause-outside
-returns-in_err-write_synced-clause-outside g c =
-    let path = folder_of c.args.names.now in
-    let d2 = g.D.Disk.state c.sync-2.new.self in
-    let d3 = g.D.Disk.state c.write_synced.new.disk in
-    outside_twice path (g.D.Disk.state c.args.disk.now) d2 d3 (quiet_outside g (goal.at.returns-in_err-write_synced-clause-outside g c).After-sync-2)
-    (outside_kept path (log_of path) d2 d3 (log_in path) (record_kept g (goal.at.returns-in_err-write_synced-clause-outside g c).After-write_synced))
+returns-in_err-write_synced-clause-outside g c = (around_twice (synced_around g (goal.at.returns-in_err-write_synced-clause-outside g c).After-sync-2) (record_around g (goal.at.returns-in_err-write_synced-clause-outside g c).After-write_synced)).outside
 
 pub returns-in_err-write_synced-clause-leaves : goal.returns-in_err-write_synced-clause-leaves
-returns-in_err-write_synced-clause-leaves g c =
-    let path = folder_of c.args.names.now in
-    let d0 = g.D.Disk.state c.args.disk.now in
-    let d2 = g.D.Disk.state c.sync-2.new.self in
-    let d3 = g.D.Disk.state c.write_synced.new.disk in
-    left_twice path d0 d2 d3 (λ m out is. c.sync-2.ensures.quiet.named m (λ h. h) (c.sync.ensures.quiet.named m (λ h. h) is)) (quiet_leaves g (goal.at.returns-in_err-write_synced-clause-leaves g c).After-sync-2)
-    (left_changed path (log_of path) d2 d3 (TornWrite (c.args.end.gate + 1) (length c.record_of.result)) (log_in path) (record_run g (goal.at.returns-in_err-write_synced-clause-leaves g c).After-write_synced))
+returns-in_err-write_synced-clause-leaves g c = (around_twice (synced_around g (goal.at.returns-in_err-write_synced-clause-leaves g c).After-sync-2) (record_around g (goal.at.returns-in_err-write_synced-clause-leaves g c).After-write_synced)).leaves
 
 pub returns-in_err-write_synced-2-clause-any_moment : goal.returns-in_err-write_synced-2-clause-any_moment
 returns-in_err-write_synced-2-clause-any_moment g c h4 =
@@ -143,25 +124,13 @@ returns-in_err-write_synced-2-clause-any_moment g c h4 =
 
 pub returns-in_err-write_synced-2-clause-outside : goal.returns-in_err-write_synced-2-clause-outside
 returns-in_err-write_synced-2-clause-outside g c =
-    let path = folder_of c.args.names.now in
-    let d0 = g.D.Disk.state c.args.disk.now in
-    let d2 = g.D.Disk.state c.sync-2.new.self in
-    let d3 = g.D.Disk.state c.write_synced.new.disk in
-    let d4 = g.D.Disk.state c.write_synced-2.new.disk in
-    let record_out = outside_twice path d0 d2 d3 (quiet_outside g (goal.at.returns-in_err-write_synced-2-clause-outside g c).After-sync-2) (outside_kept path (log_of path) d2 d3 (log_in path) (record_kept g (goal.at.returns-in_err-write_synced-2-clause-outside g c).After-write_synced)) in
-    outside_twice path d0 d3 d4 record_out (outside_kept path (log_of path) d3 d4 (log_in path) (gate_kept g (goal.at.returns-in_err-write_synced-2-clause-outside g c).After-write_synced-2))
+    let at = goal.at.returns-in_err-write_synced-2-clause-outside g c in
+    (around_twice (around_twice (synced_around g at.After-sync-2) (record_around g at.After-write_synced)) (gate_around g at.After-write_synced-2)).outside
 
 pub returns-in_err-write_synced-2-clause-leaves : goal.returns-in_err-write_synced-2-clause-leaves
 returns-in_err-write_synced-2-clause-leaves g c =
-    let path = folder_of c.args.names.now in
-    let d0 = g.D.Disk.state c.args.disk.now in
-    let d2 = g.D.Disk.state c.sync-2.new.self in
-    let d3 = g.D.Disk.state c.write_synced.new.disk in
-    let d4 = g.D.Disk.state c.write_synced-2.new.disk in
-    let record_left = left_changed path (log_of path) d2 d3 (TornWrite (c.args.end.gate + 1) (length c.record_of.result)) (log_in path) (record_run g (goal.at.returns-in_err-write_synced-2-clause-leaves g c).After-write_synced) in
-    let left = left_twice path d0 d2 d3 (λ m out is. c.sync-2.ensures.quiet.named m (λ h. h) (c.sync.ensures.quiet.named m (λ h. h) is)) (quiet_leaves g (goal.at.returns-in_err-write_synced-2-clause-leaves g c).After-sync-2) record_left in
-    let gate_left = left_changed path (log_of path) d3 d4 (TornWrite c.args.end.gate 1) (log_in path) (gate_run g (goal.at.returns-in_err-write_synced-2-clause-leaves g c).After-write_synced-2) in
-    left_twice path d0 d3 d4 (λ m out is. c.write_synced.ensures.others.named m (c.sync-2.ensures.quiet.named m (λ h. h) (c.sync.ensures.quiet.named m (λ h. h) is))) left gate_left
+    let at = goal.at.returns-in_err-write_synced-2-clause-leaves g c in
+    (around_twice (around_twice (synced_around g at.After-sync-2) (record_around g at.After-write_synced)) (gate_around g at.After-write_synced-2)).leaves
 
 pub returns-clause-settled : goal.returns-clause-settled
 returns-clause-settled g c h4 =
@@ -195,22 +164,10 @@ returns-clause-any_moment g c h4 =
 
 pub returns-clause-outside : goal.returns-clause-outside
 returns-clause-outside g c =
-    let path = folder_of c.args.names.now in
-    let d0 = g.D.Disk.state c.args.disk.now in
-    let d2 = g.D.Disk.state c.sync-2.new.self in
-    let d3 = g.D.Disk.state c.write_synced.new.disk in
-    let d4 = g.D.Disk.state c.write_synced-2.new.disk in
-    let record_out = outside_twice path d0 d2 d3 (quiet_outside g (goal.at.returns-clause-outside g c).After-sync-2) (outside_kept path (log_of path) d2 d3 (log_in path) (record_kept g (goal.at.returns-clause-outside g c).After-write_synced)) in
-    outside_twice path d0 d3 d4 record_out (outside_kept path (log_of path) d3 d4 (log_in path) (gate_kept g (goal.at.returns-clause-outside g c).After-write_synced-2))
+    let at = goal.at.returns-clause-outside g c in
+    (around_twice (around_twice (synced_around g at.After-sync-2) (record_around g at.After-write_synced)) (gate_around g at.After-write_synced-2)).outside
 
 pub returns-clause-leaves : goal.returns-clause-leaves
 returns-clause-leaves g c =
-    let path = folder_of c.args.names.now in
-    let d0 = g.D.Disk.state c.args.disk.now in
-    let d2 = g.D.Disk.state c.sync-2.new.self in
-    let d3 = g.D.Disk.state c.write_synced.new.disk in
-    let d4 = g.D.Disk.state c.write_synced-2.new.disk in
-    let record_left = left_changed path (log_of path) d2 d3 (TornWrite (c.args.end.gate + 1) (length c.record_of.result)) (log_in path) (record_run g (goal.at.returns-clause-leaves g c).After-write_synced) in
-    let left = left_twice path d0 d2 d3 (λ m out is. c.sync-2.ensures.quiet.named m (λ h. h) (c.sync.ensures.quiet.named m (λ h. h) is)) (quiet_leaves g (goal.at.returns-clause-leaves g c).After-sync-2) record_left in
-    let gate_left = left_changed path (log_of path) d3 d4 (TornWrite c.args.end.gate 1) (log_in path) (gate_run g (goal.at.returns-clause-leaves g c).After-write_synced-2) in
-    left_twice path d0 d3 d4 (λ m out is. c.write_synced.ensures.others.named m (c.sync-2.ensures.quiet.named m (λ h. h) (c.sync.ensures.quiet.named m (λ h. h) is))) left gate_left
+    let at = goal.at.returns-clause-leaves g c in
+    (around_twice (around_twice (synced_around g at.After-sync-2) (record_around g at.After-write_synced)) (gate_around g at.After-write_synced-2)).leaves

@@ -1,11 +1,15 @@
 use Rattle.std.proofs.Common.{List, ℕ, ◌≡◌, [], Option, Some, refl, sym, ◌∙◌, subst}
 use Rattle.std.specs.Prelude.{IsSome}
 use Rattle.std.proofs.lemmas.Result.{on_ok_weaker}
-use Rattle.disk_io.specs.Disk.{IsIn}
+use Rattle.disk_io.specs.Disk.{DiskState, Honestly, IsIn}
+use Rattle.disk_io.specs.Runs.{ChangesNothing, LeavesOnly}
+use Rattle.disk_io.specs.Synced.{IsOnDisk}
 use Rattle.disk_io.proofs.Moments.{then_nothing}
 use Rattle.base_log.specs.Names.{folder_of, log_of, messages_of, keys_of}
+use Rattle.base_log.specs.Moments.{KeepsOutside, StandsAlone}
+use Rattle.base_log.specs.Standing.{BaseBytes, StandsFor}
 use Rattle.base_log.proofs.Calls.{Made, but_one_call}
-use Rattle.base_log.proofs.Empty.{LogAlone, log_alone_stands}
+use Rattle.base_log.proofs.Empty.{log_alone_stands}
 use Rattle.base_log.proofs.Gates.{on_disk_quiet, outside_quiet, outside_twice}
 use Rattle.base_log.proofs.Made.{log_both, log_first, outside_both}
 use Rattle.base_log.proofs.Paths.{log_not_messages, log_not_keys, messages_in, messages_not_keys}
@@ -22,116 +26,90 @@ keys_made : (g : given.Over) (c : After-create-2 g) → Made (g.D.Disk.state c.c
 keys_made g c =
     subst (λ (l : List ℕ). Made (g.D.Disk.state c.create.new.self) (g.D.Disk.state c.create-2.new.self) l) (c.deref-2.ensures.value ∙ c.requires.names.keys) c.create-2.ensures.changes
 
-pub returns-in_err-create-clause-any_moment : goal.returns-in_err-create-clause-any_moment
-returns-in_err-create-clause-any_moment g c honest base stands =
-    let one = messages_made g (goal.at.returns-in_err-create-clause-any_moment g c).After-create in
-    let h0 = one.time.honest honest in
+-- a run that leaves the log on the disk and each base of no record, and everything outside the folder
+record Leaves (path : List ℕ) (old new : DiskState) : Type 0 where
+  any_moment : Honestly new ((base : BaseBytes) → StandsFor path base old.seen → LeavesOnly old new (StandsAlone path old base))
+  log : Honestly new (IsOnDisk new (log_of path))
+  same : new.seen (log_of path) ≡ old.seen (log_of path)
+  outside : KeepsOutside path old new
+
+one_made : (g : given.Over) (c : After-create g) → Leaves (folder_of c.args.names.now) (g.D.Disk.state c.args.disk.now) (g.D.Disk.state c.create.new.self)
+one_made g c =
+    let one = messages_made g c in
+    let path = folder_of c.args.names.now in
+    let file = messages_of path 0 in
+    let d0 = g.D.Disk.state c.args.disk.now in
+    let d1 = g.D.Disk.state c.create.new.self in
+    let kept = but_one_call d0 d1 file one in
+    record {
+      any_moment = λ honest base stands. let bare = c.requires.bare (kept.honest honest) in log_alone_stands d0 path bare.log d1 base stands bare.none bare.shut (log_first d0 path bare.log bare.named 0 d1 one);
+      log = λ honest. on_disk_but_one d0 d1 (log_of path) file kept (log_not_messages path 0) (c.requires.bare (kept.honest honest)).log;
+      same = kept.seen (log_of path) (log_not_messages path 0);
+      outside = outside_but_one path d0 d1 file (messages_in path 0) kept;
+    }
+
+both_made : (g : given.Over) (c : After-create-2 g) (one : Made (g.D.Disk.state c.args.disk.now) (g.D.Disk.state c.create.new.self) (messages_of (folder_of c.args.names.now) 0))
+    (was : Leaves (folder_of c.args.names.now) (g.D.Disk.state c.args.disk.now) (g.D.Disk.state c.create.new.self))
+    → Leaves (folder_of c.args.names.now) (g.D.Disk.state c.args.disk.now) (g.D.Disk.state c.create-2.new.self)
+both_made g c one was =
+    let two = keys_made g c in
     let path = folder_of c.args.names.now in
     let d0 = g.D.Disk.state c.args.disk.now in
     let d1 = g.D.Disk.state c.create.new.self in
-    let bare = c.requires.bare h0 in
-    let on = bare.log in
-    log_alone_stands d0 path on d1 base stands bare.none bare.shut (log_first d0 path on bare.named 0 d1 one)
+    let d2 = g.D.Disk.state c.create-2.new.self in
+    let kept = but_one_call d1 d2 (keys_of path 0) two in
+    record {
+      any_moment = λ honest base stands.
+          let bare = c.requires.bare (one.time.honest (kept.honest honest)) in
+          log_alone_stands d0 path bare.log d2 base stands bare.none bare.shut (log_both d0 path bare.log bare.named 0 d1 one d2 two);
+      log = λ honest. on_disk_but_one d1 d2 (log_of path) (keys_of path 0) kept (log_not_keys path 0) (was.log (kept.honest honest));
+      same = kept.seen (log_of path) (log_not_keys path 0) ∙ was.same;
+      outside = outside_both path 0 d0 d1 d2 one two;
+    }
+
+then_quiet : {path : List ℕ} {old mid : DiskState} (new : DiskState) → Leaves path old mid → ChangesNothing mid new → Leaves path old new
+then_quiet {path} {old} {mid} new was quiet = record {
+  any_moment = λ honest base stands. then_nothing old mid new (StandsAlone path old base) (was.any_moment (quiet.honest honest) base stands) quiet;
+  log = λ honest. on_disk_quiet mid new (log_of path) quiet (was.log (quiet.honest honest));
+  same = quiet.seen (log_of path) ∙ was.same;
+  outside = outside_twice path old mid new was.outside (outside_quiet path mid new quiet);
+}
+
+pub returns-in_err-create-clause-any_moment : goal.returns-in_err-create-clause-any_moment
+returns-in_err-create-clause-any_moment g c = (one_made g (goal.at.returns-in_err-create-clause-any_moment g c).After-create).any_moment
 
 pub returns-in_err-create-clause-log : goal.returns-in_err-create-clause-log
-returns-in_err-create-clause-log g c honest =
-    let one = messages_made g (goal.at.returns-in_err-create-clause-log g c).After-create in
-    let path = folder_of c.args.names.now in
-    on_disk_but_one (g.D.Disk.state c.args.disk.now) (g.D.Disk.state c.create.new.self) (log_of path) (messages_of path 0) (but_one_call (g.D.Disk.state c.args.disk.now) (g.D.Disk.state c.create.new.self) (messages_of path 0) one) (log_not_messages path 0) (c.requires.bare (one.time.honest honest)).log
+returns-in_err-create-clause-log g c = (one_made g (goal.at.returns-in_err-create-clause-log g c).After-create).log
 
 pub returns-in_err-create-clause-same : goal.returns-in_err-create-clause-same
-returns-in_err-create-clause-same g c =
-    let path = folder_of c.args.names.now in
-    (messages_made g (goal.at.returns-in_err-create-clause-same g c).After-create).beside (log_of path) (log_not_messages path 0)
+returns-in_err-create-clause-same g c = (one_made g (goal.at.returns-in_err-create-clause-same g c).After-create).same
 
 pub returns-in_err-create-clause-outside : goal.returns-in_err-create-clause-outside
-returns-in_err-create-clause-outside g c =
-    let one = messages_made g (goal.at.returns-in_err-create-clause-outside g c).After-create in
-    let path = folder_of c.args.names.now in
-    outside_but_one path (g.D.Disk.state c.args.disk.now) (g.D.Disk.state c.create.new.self) (messages_of path 0) (messages_in path 0)
-    (but_one_call (g.D.Disk.state c.args.disk.now) (g.D.Disk.state c.create.new.self) (messages_of path 0) one)
+returns-in_err-create-clause-outside g c = (one_made g (goal.at.returns-in_err-create-clause-outside g c).After-create).outside
 
 pub returns-in_err-create-2-clause-any_moment : goal.returns-in_err-create-2-clause-any_moment
-returns-in_err-create-2-clause-any_moment g c honest base stands =
-    let one = messages_made g (goal.at.returns-in_err-create-2-clause-any_moment g c).After-create in
-    let two = keys_made g (goal.at.returns-in_err-create-2-clause-any_moment g c).After-create-2 in
-    let h0 = one.time.honest (two.time.honest honest) in
-    let path = folder_of c.args.names.now in
-    let d0 = g.D.Disk.state c.args.disk.now in
-    let d1 = g.D.Disk.state c.create.new.self in
-    let d2 = g.D.Disk.state c.create-2.new.self in
-    let bare = c.requires.bare h0 in
-    let on = bare.log in
-    log_alone_stands d0 path on d2 base stands bare.none bare.shut (log_both d0 path on bare.named 0 d1 one d2 two)
+returns-in_err-create-2-clause-any_moment g c = let at = goal.at.returns-in_err-create-2-clause-any_moment g c in (both_made g at.After-create-2 (messages_made g at.After-create) (one_made g at.After-create)).any_moment
 
 pub returns-in_err-create-2-clause-log : goal.returns-in_err-create-2-clause-log
-returns-in_err-create-2-clause-log g c honest =
-    let one = messages_made g (goal.at.returns-in_err-create-2-clause-log g c).After-create in
-    let two = keys_made g (goal.at.returns-in_err-create-2-clause-log g c).After-create-2 in
-    let path = folder_of c.args.names.now in
-    let log = log_of path in
-    let d0 = g.D.Disk.state c.args.disk.now in
-    let d1 = g.D.Disk.state c.create.new.self in
-    let d2 = g.D.Disk.state c.create-2.new.self in
-    on_disk_but_one d1 d2 log (keys_of path 0) (but_one_call d1 d2 (keys_of path 0) two) (log_not_keys path 0) (on_disk_but_one d0 d1 log (messages_of path 0) (but_one_call d0 d1 (messages_of path 0) one) (log_not_messages path 0) (c.requires.bare (one.time.honest (two.time.honest honest))).log)
+returns-in_err-create-2-clause-log g c = let at = goal.at.returns-in_err-create-2-clause-log g c in (both_made g at.After-create-2 (messages_made g at.After-create) (one_made g at.After-create)).log
 
 pub returns-in_err-create-2-clause-same : goal.returns-in_err-create-2-clause-same
-returns-in_err-create-2-clause-same g c =
-    let path = folder_of c.args.names.now in
-    (keys_made g (goal.at.returns-in_err-create-2-clause-same g c).After-create-2).beside (log_of path) (log_not_keys path 0)
-    ∙ (messages_made g (goal.at.returns-in_err-create-2-clause-same g c).After-create).beside (log_of path) (log_not_messages path 0)
+returns-in_err-create-2-clause-same g c = let at = goal.at.returns-in_err-create-2-clause-same g c in (both_made g at.After-create-2 (messages_made g at.After-create) (one_made g at.After-create)).same
 
 pub returns-in_err-create-2-clause-outside : goal.returns-in_err-create-2-clause-outside
-returns-in_err-create-2-clause-outside g c =
-    let one = messages_made g (goal.at.returns-in_err-create-2-clause-outside g c).After-create in
-    let two = keys_made g (goal.at.returns-in_err-create-2-clause-outside g c).After-create-2 in
-    outside_both (folder_of c.args.names.now) 0 (g.D.Disk.state c.args.disk.now) (g.D.Disk.state c.create.new.self) (g.D.Disk.state c.create-2.new.self) one two
+returns-in_err-create-2-clause-outside g c = let at = goal.at.returns-in_err-create-2-clause-outside g c in (both_made g at.After-create-2 (messages_made g at.After-create) (one_made g at.After-create)).outside
 
 pub returns-clause-any_moment : goal.returns-clause-any_moment
-returns-clause-any_moment g c honest base stands =
-    let one = messages_made g (goal.at.returns-clause-any_moment g c).After-create in
-    let two = keys_made g (goal.at.returns-clause-any_moment g c).After-create-2 in
-    let quiet = c.sync_folder_of.ensures.quiet in
-    let h0 = one.time.honest (two.time.honest (quiet.honest honest)) in
-    let path = folder_of c.args.names.now in
-    let d0 = g.D.Disk.state c.args.disk.now in
-    let d1 = g.D.Disk.state c.create.new.self in
-    let d2 = g.D.Disk.state c.create-2.new.self in
-    let d3 = g.D.Disk.state c.sync_folder_of.new.disk in
-    let bare = c.requires.bare h0 in
-    let on = bare.log in
-    let both = then_nothing d0 d2 d3 (LogAlone d0 path on) (log_both d0 path on bare.named 0 d1 one d2 two) quiet in
-    log_alone_stands d0 path on d3 base stands bare.none bare.shut both
+returns-clause-any_moment g c = let at = goal.at.returns-clause-any_moment g c in (then_quiet (g.D.Disk.state c.sync_folder_of.new.disk) (both_made g at.After-create-2 (messages_made g at.After-create) (one_made g at.After-create)) c.sync_folder_of.ensures.quiet).any_moment
 
 pub returns-clause-log : goal.returns-clause-log
-returns-clause-log g c honest =
-    let one = messages_made g (goal.at.returns-clause-log g c).After-create in
-    let two = keys_made g (goal.at.returns-clause-log g c).After-create-2 in
-    let quiet = c.sync_folder_of.ensures.quiet in
-    let path = folder_of c.args.names.now in
-    let log = log_of path in
-    let d0 = g.D.Disk.state c.args.disk.now in
-    let d1 = g.D.Disk.state c.create.new.self in
-    let d2 = g.D.Disk.state c.create-2.new.self in
-    on_disk_quiet d2 (g.D.Disk.state c.sync_folder_of.new.disk) log quiet
-    (on_disk_but_one d1 d2 log (keys_of path 0) (but_one_call d1 d2 (keys_of path 0) two) (log_not_keys path 0) (on_disk_but_one d0 d1 log (messages_of path 0) (but_one_call d0 d1 (messages_of path 0) one) (log_not_messages path 0) (c.requires.bare (one.time.honest (two.time.honest (quiet.honest honest)))).log))
+returns-clause-log g c = let at = goal.at.returns-clause-log g c in (then_quiet (g.D.Disk.state c.sync_folder_of.new.disk) (both_made g at.After-create-2 (messages_made g at.After-create) (one_made g at.After-create)) c.sync_folder_of.ensures.quiet).log
 
 pub returns-clause-same : goal.returns-clause-same
-returns-clause-same g c =
-    let path = folder_of c.args.names.now in
-    c.sync_folder_of.ensures.quiet.seen (log_of path)
-    ∙ (keys_made g (goal.at.returns-clause-same g c).After-create-2).beside (log_of path) (log_not_keys path 0)
-    ∙ (messages_made g (goal.at.returns-clause-same g c).After-create).beside (log_of path) (log_not_messages path 0)
+returns-clause-same g c = let at = goal.at.returns-clause-same g c in (then_quiet (g.D.Disk.state c.sync_folder_of.new.disk) (both_made g at.After-create-2 (messages_made g at.After-create) (one_made g at.After-create)) c.sync_folder_of.ensures.quiet).same
 
 pub returns-clause-outside : goal.returns-clause-outside
-returns-clause-outside g c =
-    let one = messages_made g (goal.at.returns-clause-outside g c).After-create in
-    let two = keys_made g (goal.at.returns-clause-outside g c).After-create-2 in
-    let path = folder_of c.args.names.now in
-    let d0 = g.D.Disk.state c.args.disk.now in
-    let d2 = g.D.Disk.state c.create-2.new.self in
-    let d3 = g.D.Disk.state c.sync_folder_of.new.disk in
-    outside_twice path d0 d2 d3 (outside_both path 0 d0 (g.D.Disk.state c.create.new.self) d2 one two) (outside_quiet path d2 d3 c.sync_folder_of.ensures.quiet)
+returns-clause-outside g c = let at = goal.at.returns-clause-outside g c in (then_quiet (g.D.Disk.state c.sync_folder_of.new.disk) (both_made g at.After-create-2 (messages_made g at.After-create) (one_made g at.After-create)) c.sync_folder_of.ensures.quiet).outside
 
 pub returns-clause-made : goal.returns-clause-made
 returns-clause-made g c =

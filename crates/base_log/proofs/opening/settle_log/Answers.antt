@@ -1,17 +1,43 @@
 use Rattle.std.proofs.Common.{List, ℕ, ◌≡◌, ◌<◌, ◌∙◌, ⊎_elim, length, ap, sym, subst, arith}
-use Rattle.disk_io.specs.Disk.{bytes_in}
+use Rattle.disk_io.specs.Disk.{DiskState, Honestly, bytes_in}
+use Rattle.disk_io.specs.Runs.{ChangesNothing, LeavesOnly}
 use Rattle.disk_io.proofs.Moments.{nothing_twice}
 use Rattle.base_log.specs.Log.{IsShutAt}
 use Rattle.base_log.specs.Names.{folder_of, log_of}
-use Rattle.base_log.specs.Opening.{StayGone, AreNamed}
-use Rattle.base_log.specs.Standing.{IsNew}
+use Rattle.base_log.specs.Opening.{AreNamed, KeepsButOne, StandsOrWasLeft, StayGone}
+use Rattle.base_log.specs.Standing.{BaseBytes, IsNew, StandsFor}
 use Rattle.base_log.proofs.Empty.{chained_quiet, stands_quiet, was_left}
 use Rattle.base_log.proofs.Gates.{outside_quiet}
 use Rattle.base_log.proofs.Opened.{made_read, new_few, shut_read, some_there}
 use Rattle.base_log.proofs.Paths.{log_in}
 use Rattle.base_log.proofs.Quiet.{new_quiet}
 use Rattle.base_log.proofs.Removed.{but_one_quiet, but_one_twice}
+use Rattle.base_log.proofs.opening.settle_log.Given as given
+use Rattle.base_log.proofs.opening.settle_log.Goals.{After-make_log, After-sync}
 use Rattle.base_log.proofs.opening.settle_log.Goals as goal
+
+-- a run that changes no file but the log, and leaves the base that the folder represents
+record Leaves (path : List ℕ) (old new : DiskState) : Type 0 where
+  others : KeepsButOne old new (log_of path)
+  any_moment : Honestly new ((base : BaseBytes) → StandsFor path base old.seen → LeavesOnly old new (StandsOrWasLeft path old base))
+
+by_quiet : (path : List ℕ) (old new : DiskState) → ChangesNothing old new → Leaves path old new
+by_quiet path old new quiet = record { others = but_one_quiet old new (log_of path) quiet; any_moment = λ honest base stands. was_left old new path base quiet }
+
+after_quiet : {path : List ℕ} (old : DiskState) {mid new : DiskState} → ChangesNothing old mid → Leaves path mid new → Leaves path old new
+after_quiet {path} old {mid} {new} quiet then = record {
+  others = but_one_twice old mid new (log_of path) (but_one_quiet old mid (log_of path) quiet) then.others;
+  any_moment = λ honest base stands. chained_quiet old mid new path base quiet (outside_quiet path old mid quiet) (then.any_moment honest base (stands_quiet old mid path base quiet stands));
+}
+
+both_synced : (g : given.Over) (c : After-sync g) → Leaves (folder_of c.args.names.now) (g.D.Disk.state c.args.disk.now) (g.D.Disk.state c.sync.new.self)
+both_synced g c =
+    let d0 = g.D.Disk.state c.args.disk.now in
+    let d2 = g.D.Disk.state c.sync.new.self in
+    by_quiet (folder_of c.args.names.now) d0 d2 (nothing_twice d0 (g.D.Disk.state c.sync_folder_of.new.disk) d2 c.sync_folder_of.ensures.quiet c.sync.ensures.quiet)
+
+log_made : (g : given.Over) (c : After-make_log g) → Leaves (folder_of c.args.names.now) (g.D.Disk.state c.args.disk.now) (g.D.Disk.state c.make_log.new.disk)
+log_made g c = after_quiet (g.D.Disk.state c.args.disk.now) c.sync_folder_of.ensures.quiet (record { others = c.make_log.ensures.others; any_moment = c.make_log.ensures.any_moment })
 
 pub sync-requires : goal.sync-requires
 sync-requires g c honest =
@@ -38,24 +64,16 @@ make_log-requires-clause-new g c honest =
     }
 
 pub returns-in_err-sync_folder_of-clause-others : goal.returns-in_err-sync_folder_of-clause-others
-returns-in_err-sync_folder_of-clause-others g c =
-    but_one_quiet (g.D.Disk.state c.args.disk.now) (g.D.Disk.state c.sync_folder_of.new.disk) (log_of (folder_of c.args.names.now)) c.sync_folder_of.ensures.quiet
+returns-in_err-sync_folder_of-clause-others g c = (by_quiet (folder_of c.args.names.now) (g.D.Disk.state c.args.disk.now) (g.D.Disk.state c.sync_folder_of.new.disk) c.sync_folder_of.ensures.quiet).others
 
 pub returns-in_err-sync_folder_of-clause-any_moment : goal.returns-in_err-sync_folder_of-clause-any_moment
-returns-in_err-sync_folder_of-clause-any_moment g c honest base stands =
-    was_left (g.D.Disk.state c.args.disk.now) (g.D.Disk.state c.sync_folder_of.new.disk) (folder_of c.args.names.now) base c.sync_folder_of.ensures.quiet
+returns-in_err-sync_folder_of-clause-any_moment g c = (by_quiet (folder_of c.args.names.now) (g.D.Disk.state c.args.disk.now) (g.D.Disk.state c.sync_folder_of.new.disk) c.sync_folder_of.ensures.quiet).any_moment
 
 pub returns-in_err-sync-clause-others : goal.returns-in_err-sync-clause-others
-returns-in_err-sync-clause-others g c =
-    let d0 = g.D.Disk.state c.args.disk.now in
-    let d2 = g.D.Disk.state c.sync.new.self in
-    but_one_quiet d0 d2 (log_of (folder_of c.args.names.now)) (nothing_twice d0 (g.D.Disk.state c.sync_folder_of.new.disk) d2 c.sync_folder_of.ensures.quiet c.sync.ensures.quiet)
+returns-in_err-sync-clause-others g c = (both_synced g (goal.at.returns-in_err-sync-clause-others g c).After-sync).others
 
 pub returns-in_err-sync-clause-any_moment : goal.returns-in_err-sync-clause-any_moment
-returns-in_err-sync-clause-any_moment g c honest base stands =
-    let d0 = g.D.Disk.state c.args.disk.now in
-    let d2 = g.D.Disk.state c.sync.new.self in
-    was_left d0 d2 (folder_of c.args.names.now) base (nothing_twice d0 (g.D.Disk.state c.sync_folder_of.new.disk) d2 c.sync_folder_of.ensures.quiet c.sync.ensures.quiet)
+returns-in_err-sync-clause-any_moment g c = (both_synced g (goal.at.returns-in_err-sync-clause-any_moment g c).After-sync).any_moment
 
 pub returns-then-is_shut-clause-log : goal.returns-then-is_shut-clause-log
 returns-then-is_shut-clause-log g c honest =
@@ -82,31 +100,16 @@ returns-then-is_shut-clause-log g c honest =
     (λ m inside. quiet2.named m (λ h. h) (named m inside))
 
 pub returns-then-is_shut-clause-others : goal.returns-then-is_shut-clause-others
-returns-then-is_shut-clause-others g c =
-    let d0 = g.D.Disk.state c.args.disk.now in
-    let d2 = g.D.Disk.state c.sync.new.self in
-    but_one_quiet d0 d2 (log_of (folder_of c.args.names.now)) (nothing_twice d0 (g.D.Disk.state c.sync_folder_of.new.disk) d2 c.sync_folder_of.ensures.quiet c.sync.ensures.quiet)
+returns-then-is_shut-clause-others g c = (both_synced g (goal.at.returns-then-is_shut-clause-others g c).After-sync).others
 
 pub returns-then-is_shut-clause-any_moment : goal.returns-then-is_shut-clause-any_moment
-returns-then-is_shut-clause-any_moment g c honest base stands =
-    let d0 = g.D.Disk.state c.args.disk.now in
-    let d2 = g.D.Disk.state c.sync.new.self in
-    was_left d0 d2 (folder_of c.args.names.now) base (nothing_twice d0 (g.D.Disk.state c.sync_folder_of.new.disk) d2 c.sync_folder_of.ensures.quiet c.sync.ensures.quiet)
+returns-then-is_shut-clause-any_moment g c = (both_synced g (goal.at.returns-then-is_shut-clause-any_moment g c).After-sync).any_moment
 
 pub returns-in_err-make_log-clause-others : goal.returns-in_err-make_log-clause-others
-returns-in_err-make_log-clause-others g c =
-    let d0 = g.D.Disk.state c.args.disk.now in
-    let d1 = g.D.Disk.state c.sync_folder_of.new.disk in
-    let at = log_of (folder_of c.args.names.now) in
-    but_one_twice d0 d1 (g.D.Disk.state c.make_log.new.disk) at (but_one_quiet d0 d1 at c.sync_folder_of.ensures.quiet) c.make_log.ensures.others
+returns-in_err-make_log-clause-others g c = (log_made g (goal.at.returns-in_err-make_log-clause-others g c).After-make_log).others
 
 pub returns-in_err-make_log-clause-any_moment : goal.returns-in_err-make_log-clause-any_moment
-returns-in_err-make_log-clause-any_moment g c honest base stands =
-    let path = folder_of c.args.names.now in
-    let d0 = g.D.Disk.state c.args.disk.now in
-    let d1 = g.D.Disk.state c.sync_folder_of.new.disk in
-    let quiet = c.sync_folder_of.ensures.quiet in
-    chained_quiet d0 d1 (g.D.Disk.state c.make_log.new.disk) path base quiet (outside_quiet path d0 d1 quiet) (c.make_log.ensures.any_moment honest base (stands_quiet d0 d1 path base quiet stands))
+returns-in_err-make_log-clause-any_moment g c = (log_made g (goal.at.returns-in_err-make_log-clause-any_moment g c).After-make_log).any_moment
 
 pub returns-clause-log : goal.returns-clause-log
 returns-clause-log g c honest =
@@ -120,16 +123,7 @@ returns-clause-log g c honest =
     made_read log.bytes.items log.end c.requires.log.read (g.D.Disk.state c.make_log.new.disk) path (new_few log.bytes.items log.end c.requires.log.read path d0.seen (c.requires.log.same h0) new) (made.made honest) (made.on_disk honest) (made.named honest)
 
 pub returns-clause-others : goal.returns-clause-others
-returns-clause-others g c =
-    let d0 = g.D.Disk.state c.args.disk.now in
-    let d1 = g.D.Disk.state c.sync_folder_of.new.disk in
-    let at = log_of (folder_of c.args.names.now) in
-    but_one_twice d0 d1 (g.D.Disk.state c.make_log.new.disk) at (but_one_quiet d0 d1 at c.sync_folder_of.ensures.quiet) c.make_log.ensures.others
+returns-clause-others g c = (log_made g (goal.at.returns-clause-others g c).After-make_log).others
 
 pub returns-clause-any_moment : goal.returns-clause-any_moment
-returns-clause-any_moment g c honest base stands =
-    let path = folder_of c.args.names.now in
-    let d0 = g.D.Disk.state c.args.disk.now in
-    let d1 = g.D.Disk.state c.sync_folder_of.new.disk in
-    let quiet = c.sync_folder_of.ensures.quiet in
-    chained_quiet d0 d1 (g.D.Disk.state c.make_log.new.disk) path base quiet (outside_quiet path d0 d1 quiet) (c.make_log.ensures.any_moment honest base (stands_quiet d0 d1 path base quiet stands))
+returns-clause-any_moment g c = (log_made g (goal.at.returns-clause-any_moment g c).After-make_log).any_moment

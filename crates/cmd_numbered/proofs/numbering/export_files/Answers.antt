@@ -1,10 +1,11 @@
-use Rattle.std.proofs.Common.{option_copied, refl}
+use Rattle.std.proofs.Common.{[], option_copied, refl}
 use Rattle.cmd_numbered.specs.Numbered.{IsExport}
 use Rattle.cmd_numbered.proofs.Readings.{of_file}
 use Rattle.cmd_numbered.proofs.numbering.export_files.Goals as goal
 
-pub returns : goal.returns
-returns g c =
+pub returns-clause-files : goal.returns-clause-files
+returns-clause-files g c =
     let base = c.in_ok-messages.messages.base in
-    of_file (IsExport c.args.area.now c.args.first c.args.greatest (option_copied c.args.last)) _ c.args.base.now base c.export_files_of.result c.in_ok-messages.ensures.ok
-    (c.export_files_of.ensures tt base (refl, refl))
+    let last = c.args.last in
+    of_file (λ base. IsExport c.args.area.now c.args.first last.number (option_copied last.bytes) base [] 0 0 _ _) [] c.args.base.now base c.export_files_of.result c.in_ok-messages.ensures.ok
+    (c.export_files_of.ensures.files tt base (refl, refl))

@@ -3,9 +3,8 @@ use Rattle.std.proofs.lemmas.Option.{MatchOption-at_some}
 use Rattle.echo_addr.specs.declared.address.Address.{Address}
 use Rattle.model_run.specs.Tidy.{Carries, Tidy, lists}
 use Rattle.echo_net.specs.Faults.{AreInOrder, AreSoundLinks, IsFirstFault, numbered}
-use Rattle.echo_net.proofs.Faulty.{at_none, files_fit}
-use Rattle.echo_net.proofs.Graphs.{not_tidy}
-use Rattle.echo_net.proofs.Numbers.{in_order_from_sorted}
+use Rattle.echo_net.proofs.Collected.{at_none, files_fit, not_tidy}
+use Rattle.echo_net.proofs.Owned.{in_order_from_sorted}
 use Rattle.echo_net.proofs.checker.check_area.Goals as goal
 
 pub returns-in-Some-clause-tidy : goal.returns-in-Some-clause-tidy

@@ -3,7 +3,7 @@ use Rattle.std.proofs.lemmas.Bool.{eq-eqb, eqb-true}
 use Rattle.echo_net.specs.declared.verdict.NetFault.{NetFault}
 use Rattle.echo_net.specs.AllFaults.{AreAllFaults, AreLinkFaults}
 use Rattle.echo_net.proofs.AllFaults.{with_graph, without_graph}
-use Rattle.echo_net.proofs.Apart.{sound_where_none}
+use Rattle.echo_net.proofs.Drawings.{sound_where_none}
 use Rattle.echo_net.proofs.each_fault.all_faults.Goals as goal
 use Rattle.echo_net.proofs.each_fault.all_faults.Goals.{then-is_empty+in_ok-push_graph_faults, else-is_empty}
 

@@ -1,6 +1,6 @@
 use Rattle.std.proofs.lemmas.Result.{on_ok_weaker}
 use Rattle.model_run.specs.Tidy.{Carries}
-use Rattle.echo_net.proofs.Numbers.{in_order_from_sorted}
+use Rattle.echo_net.proofs.Owned.{in_order_from_sorted}
 use Rattle.echo_net.proofs.each_fault.push_graph_faults.Goals as goal
 
 pub push_apart-requires-clause-in_order : goal.push_apart-requires-clause-in_order

@@ -1,7 +1,5 @@
 use Rattle.std.proofs.Common.{◌≡◌, sym, ◌∙◌}
-use Rattle.echo_net.proofs.Ascending.{at_place}
-use Rattle.echo_net.proofs.FirstOf.{first_here}
-use Rattle.echo_net.proofs.Orders.{same_exact}
+use Rattle.echo_net.proofs.Orders.{at_place, first_here, same_exact}
 use Rattle.echo_net.proofs.first_links.self_link.Goals as goal
 
 pub returns-then-eq : goal.returns-then-eq

@@ -1,9 +1,8 @@
 use Rattle.std.proofs.Common.{◌∙◌, ℕ, List, ap}
 use Rattle.model_graph.specs.Rows.{linked}
 use Rattle.model_run.specs.Tidy.{Carries}
-use Rattle.echo_net.proofs.Faulty.{all_carry}
-use Rattle.echo_net.proofs.Graphs.{is_graph, same_links}
-use Rattle.echo_net.proofs.Numbers.{in_order_from_sorted}
+use Rattle.echo_net.proofs.Collected.{all_carry, is_graph, same_links}
+use Rattle.echo_net.proofs.Owned.{in_order_from_sorted}
 use Rattle.echo_net.proofs.graph_faults.area_graph.Goals as goal
 
 pub rows-requires-clause-known : goal.rows-requires-clause-known

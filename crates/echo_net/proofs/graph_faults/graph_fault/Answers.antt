@@ -10,9 +10,8 @@ use Rattle.model_graph.specs.Rows.{linked}
 use Rattle.model_run.specs.Tidy.{lists}
 use Rattle.echo_net.specs.Faults.{numbered}
 use Rattle.echo_net.specs.Rows.{system_at}
-use Rattle.echo_net.proofs.Faulty.{at_none}
-use Rattle.echo_net.proofs.Graphs.{is_apart, is_loop, is_tidy, loop_within}
-use Rattle.echo_net.proofs.Numbers.{parts, simple_numbers}
+use Rattle.echo_net.proofs.Collected.{at_none, is_apart, is_loop, is_tidy, loop_within}
+use Rattle.echo_net.proofs.Owned.{parts, simple_numbers}
 use Rattle.echo_net.proofs.graph_faults.graph_fault.Goals as goal
 
 -- the result of a search of the graph, for the numbered links

@@ -11,7 +11,7 @@ use Rattle.echo_net.specs.declared.link.Link.{Link}
 use Rattle.echo_net.specs.AllFaults.{AppliesTo}
 use Rattle.echo_net.specs.Drawn.{AreLinksInOrder}
 use Rattle.echo_net.specs.Faults.{numbered}
-use Rattle.echo_net.proofs.Apart.{pair, parts_in_order}
+use Rattle.echo_net.proofs.Drawings.{pair, parts_in_order}
 use Rattle.echo_net.proofs.graph_faults.parts_apart.Goals as goal
 
 pub from_first-requires : goal.from_first-requires

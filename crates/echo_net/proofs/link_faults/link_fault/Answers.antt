@@ -6,7 +6,7 @@ use Rattle.std.specs.Prelude.{Contains}
 use Rattle.echo_net.specs.declared.link.Link.{Link}
 use Rattle.echo_net.specs.Firsts.{HasTwin, IsSmallest, IsSmallestPair, StandsTwice}
 use Rattle.echo_net.specs.Nets as net
-use Rattle.echo_net.proofs.Faulty.{all_answered, all_known, at_none, is_carried, lists_itself, net_nodes_differ, none_lists_itself, not_carried, one_sided, same_net_node, unknown}
+use Rattle.echo_net.proofs.Collected.{all_answered, all_known, at_none, is_carried, lists_itself, net_nodes_differ, none_lists_itself, not_carried, one_sided, same_net_node, unknown}
 use Rattle.echo_net.proofs.link_faults.link_fault.Goals as goal
 
 pub returns-then-is_empty : goal.returns-then-is_empty

@@ -2,7 +2,7 @@ use Rattle.std.proofs.Common.{◌≡◌, ◌<◌, ◌+◌, ◌++◌, ◌∙◌, 
 use Rattle.echo_addr.specs.declared.address.Address.{Address}
 use Rattle.model_run.specs.Tidy.{Carries}
 use Rattle.echo_net.specs.Absent.{IsReasonOfAbsence, absent_as}
-use Rattle.echo_net.proofs.Absences.{AreListed, all_listed, one_more_judged}
+use Rattle.echo_net.proofs.Orders.{AreListed, all_listed, one_more_judged}
 use Rattle.echo_net.proofs.presence.listed.Goals as goal
 
 pub carriers-preserved : goal.carriers-preserved

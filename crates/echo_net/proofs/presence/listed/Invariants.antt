@@ -1,4 +1,4 @@
-use Rattle.echo_net.proofs.Absences.{AreListed}
+use Rattle.echo_net.proofs.Orders.{AreListed}
 use Rattle.echo_net.proofs.presence.listed.Given as goal
 
 abbrev pub invariant-carriers : goal.invariant-carriers

@@ -4,7 +4,7 @@ use Rattle.std.specs.List.Sorted.{IsPartitionPoint, IsPartitionedBy}
 use Rattle.std.proofs.lemmas.List.Sorted.{IsPartitionPoint-from_clause}
 use Rattle.echo_filed.specs.Sets.{address_before}
 use Rattle.echo_net.specs.declared.link.Link.{Link}
-use Rattle.echo_net.proofs.Runs.{cut, not_greater_first, smaller_first}
+use Rattle.echo_net.proofs.Owned.{cut, not_greater_first, smaller_first}
 use Rattle.echo_net.proofs.rows.links_from.Goals as goal
 
 pub returns : goal.returns

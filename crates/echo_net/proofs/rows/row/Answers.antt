@@ -7,7 +7,7 @@ use Rattle.std.proofs.lemmas.List.Elements.{Contains-get_or}
 use Rattle.echo_addr.specs.declared.address.Address.{Address}
 use Rattle.echo_net.specs.declared.link.Link.{Link}
 use Rattle.model_graph.specs.Walk.{IsAt}
-use Rattle.echo_net.proofs.Runs.{row_ascends, row_members, zip_push}
+use Rattle.echo_net.proofs.Owned.{row_ascends, row_members, zip_push}
 use Rattle.echo_net.proofs.rows.row.Goals as goal
 
 pub unwrap-place-requires : goal.unwrap-place-requires

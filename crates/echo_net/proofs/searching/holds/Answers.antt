@@ -1,4 +1,4 @@
-use Rattle.echo_net.proofs.Ascending.{there_where_placed}
+use Rattle.echo_net.proofs.Orders.{there_where_placed}
 use Rattle.echo_net.proofs.searching.holds.Goals as goal
 
 pub returns : goal.returns

@@ -1,6 +1,6 @@
 use Rattle.std.proofs.Common.{◌∙◌, ap}
 use Rattle.std.specs.Ordering.{is_eq}
-use Rattle.echo_net.proofs.Ascending.{searched_place}
+use Rattle.echo_net.proofs.Orders.{searched_place}
 use Rattle.echo_net.proofs.searching.place.Goals as goal
 
 pub returns : goal.returns

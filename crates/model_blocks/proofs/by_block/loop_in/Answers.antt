@@ -11,7 +11,7 @@ use Rattle.model_graph.specs.Pinches.{FirstPinch, IsPinch}
 use Rattle.model_graph.specs.Rows.{linked}
 use Rattle.model_graph.specs.Walk.{Among, Different}
 use Rattle.model_blocks.proofs.BlockJudged.{full_none, loop_found, none_found, ring_differs}
-use Rattle.model_blocks.proofs.BlockPairs.{on_walk}
+use Rattle.model_blocks.proofs.BlockView.{on_walk}
 use Rattle.model_graph.proofs.Members.{Among-get_or}
 use Rattle.model_graph.proofs.Rows.{linked_within}
 use Rattle.model_blocks.proofs.by_block.loop_in.Goals as goal

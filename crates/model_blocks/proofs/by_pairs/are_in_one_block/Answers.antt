@@ -5,7 +5,7 @@ use Rattle.std.proofs.lemmas.Result.{IfOk-weaker}
 use Rattle.model_graph.specs.Beyond.{Around}
 use Rattle.model_blocks.specs.BlockLoops.{AreInOneBlock, AreJoinedWithout}
 use Rattle.model_graph.specs.Rows.{linked}
-use Rattle.model_blocks.proofs.BlockPairs.{all_joined, joined_by, joined_last, joined_one, joined_other}
+use Rattle.model_blocks.proofs.BlockView.{all_joined, joined_by, joined_last, joined_one, joined_other}
 use Rattle.model_graph.proofs.Rows.{linked_within}
 use Rattle.model_blocks.proofs.by_pairs.are_in_one_block.Goals as goal
 use Rattle.model_blocks.proofs.by_pairs.are_in_one_block.Goals.{else-not-branch-via-then-not-branch+in_ok-joined_from-2+else-not-branch-2, else-not-branch-via-else-not-branch}

@@ -2,7 +2,7 @@ use Rattle.std.proofs.Common.{ℕ, List, arith, below_more, get_or}
 use Rattle.std.proofs.lemmas.Bool.{both_ways, false≢true}
 use Rattle.model_blocks.specs.BlockLoops.{BeginsEarlier}
 use Rattle.model_graph.specs.Rows.{linked}
-use Rattle.model_graph.proofs.Kinship.{for_each_link}
+use Rattle.model_graph.proofs.Family.{for_each_link}
 use Rattle.model_blocks.proofs.by_pairs.has_earlier_at.Goals as goal
 
 pub links-preserved : goal.links-preserved

@@ -4,7 +4,7 @@ use Rattle.std.proofs.lemmas.Option.{MatchOption-at_some}
 use Rattle.model_graph.specs.Loops.{IsWritten}
 use Rattle.model_graph.specs.Pinches.{FirstOther, IsPinch}
 use Rattle.model_graph.specs.Rows.{linked}
-use Rattle.model_blocks.proofs.BlockPairs.{first_here}
+use Rattle.model_blocks.proofs.BlockView.{first_here}
 use Rattle.model_graph.proofs.PinchSearch.{Simple-from_graph}
 use Rattle.model_graph.proofs.Rings.{loop_cycle}
 use Rattle.model_graph.proofs.Rows.{linked_within}

@@ -7,13 +7,7 @@ use Rattle.model_blocks.proofs.BlockLists.{Walked, Walked-begun, Walked-next, Wa
 use Rattle.model_blocks.proofs.in_block.members_of.Goals as goal
 
 pub walking-init : goal.walking-init
-walking-init c =
-    let block : ℕ → ℕ = block_of c.args.blocks.now in
-    let last : List (Option ℕ) = c.args.lists.now.last.items in
-    let k : ℕ = c.args.block in
-    let read : c.index-next.result.now ≡ get_or last k None = get_or_read last k c.index-next.result.now c.requires.within c.index-next.ensures None in
-    subst (λ (xs : List ℕ). Walked block k (length last) xs c.index-next.result.now) (sym c.new-found.ensures.items)
-    (Walked-begun block k (length last) c.index-next.result.now (subst (IsLastBefore block k (length last)) (sym read) (c.requires.lists.last k c.requires.within)))
+walking-init c = grind (arith, get_or, get_or_read, Walked-begun)
 
 pub walking-preserved : goal.walking-preserved
 walking-preserved c =

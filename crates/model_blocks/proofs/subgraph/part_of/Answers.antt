@@ -23,8 +23,4 @@ new-requires-2 c =
     rows_graph c.args.graph.now c.len.ensures.sound names c.names.rows.items (subst (λ (n : ℕ). RowsOf (linked c.args.graph.now) names n c.names.rows.items) end c.names.invariant)
 
 pub returns-clause-links : goal.returns-clause-links
-returns-clause-links c =
-    let names : List ℕ = c.args.names.now in
-    let end : c.names.name-index ≡ length names = omega arith in
-    ap (λ (rows : List (List ℕ)). linked rows) c.new-2.ensures
-    ∙ rows_linked c.args.graph.now c.len.ensures.sound names c.names.rows.items (subst (λ (n : ℕ). RowsOf (linked c.args.graph.now) names n c.names.rows.items) end c.names.invariant)
+returns-clause-links c = grind (arith, rows_linked)

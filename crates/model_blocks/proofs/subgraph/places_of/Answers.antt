@@ -1,4 +1,4 @@
-use Rattle.std.proofs.Common.{◌≡◌, ◌+◌, ◌<◌, ◌≤◌, ◌∙◌, ℕ, List, Ok, Err, Result, MatchResult, ap, arith, get_or, length, refl, subst, sym, inl, inr}
+use Rattle.std.proofs.Common.{◌≡◌, ◌+◌, ◌<◌, ◌≤◌, ◌∙◌, ℕ, List, Ok, Result, MatchResult, ap, arith, get_or, length, subst, sym}
 use Rattle.std.proofs.lemmas.Bool.{cases_lt}
 use Rattle.std.proofs.lemmas.List.Sorted.{searched}
 use Rattle.model_blocks.proofs.Places.{PlacesOf, PlacesOf-done, PlacesOf-passed, PlacesOf-pushed}
@@ -13,12 +13,7 @@ at_place : (row : List ℕ) (x : ℕ) (r : Result ℕ ℕ) → Told row x r → 
 at_place row x r told place is = subst (Told row x) is told
 
 at_none : (row : List ℕ) (x : ℕ) (r : Result ℕ ℕ) → Told row x r → ((place : ℕ) → r ≡ Ok place → ⊥) → (j : ℕ) → j < length row → get_or row j 0 ≡ x → ⊥
-at_none row x (Ok place) told none j lt is = none place refl
-at_none row x (Err place) told none j lt is =
-    elim (cases_lt j place) [
-      | inl before ↦ omega (arith, told.1 j before, is)
-      | inr past ↦ omega (arith, told.2 j past lt, is)
-    ]
+at_none row x r h1 h2 j h3 h4 = grind (arith, cases_lt)
 
 pub links-preserved : goal.links-preserved
 links-preserved c =

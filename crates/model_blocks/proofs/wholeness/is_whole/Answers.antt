@@ -1,6 +1,6 @@
 use Rattle.std.proofs.Common.{length}
 use Rattle.model_graph.specs.Rows.{linked}
-use Rattle.model_blocks.proofs.BlockNumbers.{whole}
+use Rattle.model_blocks.proofs.BlockJudged.{whole}
 use Rattle.model_graph.proofs.PinchSearch.{Simple-from_graph}
 use Rattle.model_blocks.proofs.wholeness.is_whole.Goals as goal
 

@@ -2,7 +2,7 @@ use Rattle.std.proofs.Common.{length, refl, below_more, arith}
 use Rattle.std.proofs.lemmas.Bool.{both_ways, false≢true}
 use Rattle.model_graph.specs.Rows.{linked}
 use Rattle.model_graph.specs.Blocks.{block_of, top_of, rank_of, IsInBlock}
-use Rattle.model_graph.proofs.BlockTests.{AreBlocks-from_each}
+use Rattle.model_graph.proofs.Rows.{AreBlocks-from_each}
 use Rattle.model_graph.proofs.division.are_blocks.Goals as goal
 
 pub returns-then-not-is_in_block-clause-blocks : goal.returns-then-not-is_in_block-clause-blocks

@@ -4,8 +4,8 @@ use Rattle.model_graph.specs.Rows.{linked}
 use Rattle.model_graph.specs.Levels.{level_of}
 use Rattle.model_graph.specs.Floods.{Flooded}
 use Rattle.model_graph.specs.Forest.{IsForest}
-use Rattle.model_graph.proofs.Visits.{none_from, some_from}
-use Rattle.model_graph.proofs.ForestGrowth.{IsForest-passed, IsForest-flooded}
+use Rattle.model_graph.proofs.Floods.{none_from, some_from}
+use Rattle.model_graph.proofs.PartStarts.{IsForest-passed, IsForest-flooded}
 use Rattle.model_graph.proofs.forest.forest.Goals as goal
 use Rattle.model_graph.proofs.forest.forest.Goals.{then-is_none+in_ok-flood, else-is_none}
 

@@ -3,7 +3,7 @@ use Rattle.std.proofs.lemmas.Bool.{false≢true}
 use Rattle.std.proofs.lemmas.List.{get_or_read, get_or_past, length-set}
 use Rattle.model_graph.specs.Rows.{linked}
 use Rattle.model_graph.specs.Blocks.{block_of, top_of, IsFullyLinked}
-use Rattle.model_graph.proofs.BlockTests.{marked_more, unmarked, kept_marks}
+use Rattle.model_graph.proofs.Rows.{marked_more, unmarked, kept_marks}
 use Rattle.model_graph.proofs.fullness.full_blocks.Goals as goal
 use Rattle.model_graph.proofs.fullness.full_blocks.Goals.{then-block-members+then-index+then-not-is_fully_linked, else-block-members, else-block-members-via-then-block-members+then-index+else-not-is_fully_linked, else-block-members-via-then-block-members+else-index, else-block-members-via-else-block-members}
 

@@ -1,4 +1,4 @@
-use Rattle.std.proofs.Common.{◌≡◌, ◌<◌, ◌≤◌, ◌==◌, ℕ, List, length, get_or, Ok, Err, Result, is_ok, MatchResult, sym, ◌∙◌, arith, inl, inr}
+use Rattle.std.proofs.Common.{◌≡◌, ◌<◌, ◌≤◌, ◌==◌, ℕ, List, length, get_or, Result, is_ok, MatchResult, ◌∙◌, arith}
 use Rattle.std.specs.List.{list_any}
 use Rattle.std.proofs.lemmas.List.Sorted.{searched}
 use Rattle.std.proofs.lemmas.Bool.{cases_Bool, cases_lt}
@@ -6,17 +6,7 @@ use Rattle.model_graph.proofs.Rows.{holds_at, place_of, rising}
 use Rattle.model_graph.proofs.graph.has_link.Goals as goal
 
 decided : (row : List ℕ) (x : ℕ) (r : Result ℕ ℕ) → MatchResult r (λ i. (i < length row) × (get_or row i 0 ≡ x)) (λ i. (i ≤ length row) × ((k : ℕ) → k < i → get_or row k 0 < x) × ((k : ℕ) → i ≤ k → k < length row → x < get_or row k 0)) → is_ok r ≡ list_any (λ link. link == x) row
-decided row x (Ok i) h = sym (holds_at row x i h.0 h.1)
-decided row x (Err i) h =
-    elim (cases_Bool (list_any (λ link. link == x) row)) [
-      | inl e ↦
-          let p = place_of row x e in
-          elim (cases_lt p.0 i) [
-            | inl before ↦ absurd (omega (arith, h.1 p.0 before, p.2))
-            | inr after ↦ absurd (omega (arith, h.2 p.0 after p.1, p.2))
-          ]
-      | inr e ↦ sym e
-    ]
+decided row x r h1 = grind (arith, holds_at, cases_Bool, place_of, cases_lt)
 
 pub returns : goal.returns
 returns c =

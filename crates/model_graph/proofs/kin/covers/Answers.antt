@@ -1,12 +1,11 @@
 use Rattle.std.proofs.Common.{◌≢◌, IsTrue, refl, arith}
 use Rattle.model_graph.specs.Rows.{linked}
 use Rattle.model_graph.specs.Forest.{Siblings}
-use Rattle.model_graph.proofs.Kinship.{for_each_link, link_within}
+use Rattle.model_graph.proofs.Family.{for_each_link, link_within}
 use Rattle.model_graph.proofs.kin.covers.Goals as goal
 
 pub are_siblings-requires-clause-other : goal.are_siblings-requires-clause-other
-are_siblings-requires-clause-other c =
-    omega (arith, link_within c.args.graph.now c.args.member c.links.sibling-index c.links-sibling-items.result.now c.links-sibling-items.ensures.sound c.links-sibling-items.ensures.value c.links-test.true)
+are_siblings-requires-clause-other c = grind (arith, link_within)
 
 pub returns : goal.returns
 returns c = (

@@ -1,16 +1,14 @@
 use Rattle.std.proofs.Common.{below_more, arith}
 use Rattle.std.proofs.lemmas.Bool.{both_ways}
 use Rattle.model_graph.specs.Forest.{Siblings}
-use Rattle.model_graph.proofs.Kinship.{for_each_link, link_within, FirstSibling-here}
+use Rattle.model_graph.proofs.Family.{for_each_link, link_within, FirstSibling-here}
 use Rattle.model_graph.proofs.kin.first_sibling.Goals as goal
 
 pub are_siblings-requires-clause-other : goal.are_siblings-requires-clause-other
-are_siblings-requires-clause-other c =
-    omega (arith, link_within c.args.graph.now c.args.member c.links.other-index c.links-other-items.result.now c.links-other-items.ensures.sound c.links-other-items.ensures.value c.links-test.true)
+are_siblings-requires-clause-other c = grind (arith, link_within)
 
 pub returns-then-are_siblings-clause-within : goal.returns-then-are_siblings-clause-within
-returns-then-are_siblings-clause-within c =
-    link_within c.args.graph.now c.args.member c.links.other-index c.links-other-items.result.now c.links-other-items.ensures.sound c.links-other-items.ensures.value c.links-test.true
+returns-then-are_siblings-clause-within c = grind (arith, link_within)
 
 pub returns-then-are_siblings-clause-first : goal.returns-then-are_siblings-clause-first
 returns-then-are_siblings-clause-first c =

@@ -1,11 +1,10 @@
 use Rattle.std.proofs.Common.{refl, arith}
 use Rattle.model_graph.specs.Forest.{IsKin}
-use Rattle.model_graph.proofs.Kinship.{for_each_link, link_within}
+use Rattle.model_graph.proofs.Family.{for_each_link, link_within}
 use Rattle.model_graph.proofs.kin.links_are_kin.Goals as goal
 
 pub is_kin-requires-clause-other : goal.is_kin-requires-clause-other
-is_kin-requires-clause-other c =
-    omega (arith, link_within c.args.graph.now c.args.member c.links.other-index c.links-other-items.result.now c.links-other-items.ensures.sound c.links-other-items.ensures.value c.links-test.true)
+is_kin-requires-clause-other c = grind (arith, link_within)
 
 pub returns : goal.returns
 returns c = (

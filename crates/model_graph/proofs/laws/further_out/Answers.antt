@@ -1,5 +1,5 @@
 use Rattle.model_graph.proofs.Members.{ℕ-can_tell}
-use Rattle.model_graph.proofs.Cuts.{Beyond-trans, further}
+use Rattle.model_graph.proofs.Cycles.{Beyond-trans, further}
 use Rattle.model_graph.proofs.laws.further_out.Goals as goal
 
 pub returns : goal.returns

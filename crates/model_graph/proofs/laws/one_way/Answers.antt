@@ -1,5 +1,5 @@
 use Rattle.model_graph.proofs.Members.{ℕ-can_tell}
-use Rattle.model_graph.proofs.Cuts.{has_one_way, beyond_or_link, way-not_beyond}
+use Rattle.model_graph.proofs.Cycles.{has_one_way, beyond_or_link, way-not_beyond}
 use Rattle.model_graph.proofs.laws.one_way.Goals as goal
 
 pub returns : goal.returns

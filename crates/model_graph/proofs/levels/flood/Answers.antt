@@ -1,24 +1,18 @@
-use Rattle.std.proofs.Common.{◌≡◌, ◌<◌, ◌≤◌, ℕ, Bool, Option, Some, None, List, length, get_or, sym, ◌∙◌, ap, arith}
+use Rattle.std.proofs.Common.{◌≡◌, ◌<◌, ◌≤◌, ℕ, Bool, Option, Some, List, length, get_or, sym, ◌∙◌, ap, arith}
 use Rattle.std.proofs.lemmas.List.{get_or_read}
 use Rattle.std.proofs.lemmas.Option.{same_Some}
 use Rattle.model_graph.specs.Rows.{linked}
 use Rattle.model_graph.specs.Levels.{level_of}
 use Rattle.model_graph.specs.Floods.{Flooding}
-use Rattle.model_graph.proofs.Visits.{level_within}
-use Rattle.model_graph.proofs.Floods.{Flooding-step}
+use Rattle.model_graph.proofs.Floods.{level_within, Flooding-step}
 use Rattle.model_graph.proofs.levels.flood.Goals as goal
 
 -- the member at the head has a level, at most its index in the queue
 at_head : (links : ℕ → ℕ → Bool) (without root : ℕ) (old levels : List (Option ℕ)) (queue : List ℕ) (head member : ℕ) → Flooding links without root old levels queue head → head < length queue → member ≡ get_or queue head member → (m : ℕ) × (level_of levels member ≡ Some m) × (m ≤ head) × (get_or queue head 0 ≡ member)
-at_head links without root old levels queue head member f lt read =
-    let at : member ≡ get_or queue head 0 = get_or_read queue head member lt read 0 in
-    let q = f.queued head lt in
-    (q.1.0, ap (level_of levels) at ∙ q.1.1, q.1.2, sym at)
+at_head links without root old levels queue head member f lt read = grind (arith, get_or, get_or_read)
 
 level_read : (levels : List (Option ℕ)) (member : ℕ) (read : Option ℕ) (level m : ℕ) → level_of levels member ≡ Some m → read ≡ get_or levels member read → read ≡ Some level → level ≡ m
-level_read levels member read level m has is some =
-    let at : read ≡ level_of levels member = get_or_read levels member read (level_within levels member m has) is None in
-    same_Some level m (sym some ∙ (at ∙ has))
+level_read levels member read level m has is some = grind (arith, get_or_read, level_within, same_Some)
 
 pub index-requires : goal.index-requires
 index-requires c =

@@ -1,24 +1,16 @@
-use Rattle.std.proofs.Common.{◌≡◌, ℕ, Option, None, List, replicate, ◌∙◌, ap, rules, arith, inl, inr}
+use Rattle.std.proofs.Common.{◌≡◌, ℕ, Option, None, List, replicate, ◌∙◌, ap, rules, arith}
 use Rattle.std.proofs.lemmas.List.{get_or-replicate, get_or_past, length-replicate}
 use Rattle.std.proofs.lemmas.Bool.{cases_lt}
 use Rattle.model_graph.specs.Rows.{linked}
 use Rattle.model_graph.specs.Levels.{level_of}
-use Rattle.model_graph.proofs.Reached.{AreLevels-from_flooded, Searched-from_flooded}
+use Rattle.model_graph.proofs.Floods.{AreLevels-from_flooded, Searched-from_flooded}
 use Rattle.model_graph.proofs.levels.levels_around.Goals as goal
 
 none_in : (n i : ℕ) → level_of (replicate n None) i ≡ None
-none_in n i =
-    elim (cases_lt i n) [
-      | inl lt ↦ get_or-replicate n i None None lt
-      | inr past ↦ get_or_past (replicate n None) i None (omega (arith, length-replicate {A = Option ℕ} n None))
-    ]
+none_in n i = grind (arith, cases_lt, get_or-replicate, get_or_past, length-replicate)
 
 pub returns-clause-searched : goal.returns-clause-searched
-returns-clause-searched c =
-    let items : c.in_ok-levels.levels.items ≡ replicate c.len.result None = c.in_ok-levels.ensures.items_if_clones_equal (λ y h. search rules) in
-    Searched-from_flooded (linked c.args.graph.now) c.args.without c.args.root c.in_ok-levels.levels.items c.flood.new.levels.items
-    (λ i. ap (λ (old : List (Option ℕ)). level_of old i) items ∙ none_in c.len.result i)
-    c.in_ok-flood.ensures
+returns-clause-searched c = grind (arith, Searched-from_flooded, none_in)
 
 pub returns-clause-levels : goal.returns-clause-levels
 returns-clause-levels c =

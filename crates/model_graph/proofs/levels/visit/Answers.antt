@@ -4,7 +4,7 @@ use Rattle.model_graph.specs.Rows.{links_at, IsGraph}
 use Rattle.model_graph.specs.Levels.{level_of}
 use Rattle.model_graph.specs.Visits.{Visited}
 use Rattle.model_graph.proofs.Rows.{holds_at}
-use Rattle.model_graph.proofs.Visits.{none_from, some_from, Visited-passed, Visited-made}
+use Rattle.model_graph.proofs.Floods.{none_from, some_from, Visited-passed, Visited-made}
 use Rattle.model_graph.proofs.levels.visit.Goals as goal
 use Rattle.model_graph.proofs.levels.visit.Goals.{then-other-without+then-is_none+in_ok-push, else-other-without, else-other-without-via-then-other-without+else-is_none, else-other-without-via-else-other-without}
 
@@ -14,14 +14,10 @@ link_inside rows member k links graph is lt =
     graph.within member (get_or links k 0) (holds_at (links_at rows member) (get_or links k 0) k (subst (λ (row : List ℕ). k < length row) is lt) (ap (λ (row : List ℕ). get_or row k 0) (sym is)))
 
 pub index-requires : goal.index-requires
-index-requires c =
-    let inside = link_inside c.args.graph.now c.args.member c.visiting.other-index c.links-other-items.result.now c.links-other-items.ensures.sound c.links-other-items.ensures.value c.visiting-test.true in
-    omega (arith, inside, c.visiting.invariant.same_length)
+index-requires c = grind (arith, link_inside)
 
 pub index_mut-requires : goal.index_mut-requires
-index_mut-requires c =
-    let inside = link_inside c.args.graph.now c.args.member c.visiting.other-index c.links-other-items.result.now c.links-other-items.ensures.sound c.links-other-items.ensures.value c.visiting-test.true in
-    omega (arith, inside, c.visiting.invariant.same_length)
+index_mut-requires c = grind (arith, link_inside)
 
 pub visiting-preserved : goal.visiting-preserved
 visiting-preserved c =

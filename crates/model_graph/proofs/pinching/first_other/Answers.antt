@@ -16,10 +16,7 @@ returns-then-is_other c =
     FirstOther-here c.args.graph.now c.args.at c.args.one c.others.other-index row c.args.levels.now c.links-other-items.ensures.sound c.links-other-items.ensures.value c.others-test.true c.requires.link c.requires.levels c.others.invariant told.0 told.1 told.2
 
 pub others-preserved : goal.others-preserved
-others-preserved c =
-    let row : List ℕ = c.links-other-items.result.now in
-    below_more _ _ c.others.invariant
-    (not_pinch_here c.args.graph.now c.args.at c.args.one (get_or row c.others.other-index 0) c.args.levels.now c.requires.levels (λ told. both_ways c.is_other.result c.if-is_other.false (c.is_other.ensures.1 told)))
+others-preserved c = grind (arith, below_more, not_pinch_here, get_or, both_ways)
 
 pub returns : goal.returns
 returns c =

@@ -1,11 +1,10 @@
-use Rattle.std.proofs.Common.{◌<◌, ◌+◌, ℕ, IsTrue, List, length, get_or, refl, sym, ◌∙◌, subst, arith, below_more}
+use Rattle.std.proofs.Common.{◌<◌, ◌+◌, ℕ, List, length, get_or, refl, sym, ◌∙◌, arith, below_more}
 use Rattle.std.proofs.lemmas.Bool.{ltb-true}
 use Rattle.model_graph.specs.Rows.{linked}
 use Rattle.std.proofs.lemmas.Option.{MatchOption-at_some, MatchOption-at_none}
 use Rattle.model_graph.specs.Pinches.{IsPinch, FirstOther}
-use Rattle.model_graph.proofs.PinchSearch.{FirstHere-here, no_pinch_at, row_link}
+use Rattle.model_graph.proofs.PinchSearch.{FirstHere-here, no_pinch_at, row_link, Simple-from_graph}
 use Rattle.model_graph.specs.Blocks.{block_of, top_of, rank_of}
-use Rattle.model_graph.proofs.PinchSearch.{Simple-from_graph}
 use Rattle.model_graph.proofs.BlockWalks.{no_pinch_covered}
 use Rattle.model_graph.proofs.pinching.first_pinch_at.Goals as goal
 use Rattle.model_graph.proofs.pinching.first_pinch_at.Goals.{then-chosen-at, else-chosen-at}
@@ -17,15 +16,10 @@ first_around-requires-clause-within c =
     c.links-one-items.ensures.sound.within c.args.at (get_or row k 0) (row_link c.args.graph.now c.args.at k row c.links-one-items.ensures.value c.links-test.true)
 
 pub first_around-requires-clause-apart : goal.first_around-requires-clause-apart
-first_around-requires-clause-apart c =
-    let row : List ℕ = c.links-one-items.result.now in
-    let k : ℕ = c.links.one-index in
-    let link = row_link c.args.graph.now c.args.at k row c.links-one-items.ensures.value c.links-test.true in
-    λ same. c.links-one-items.ensures.sound.no_self c.args.at (subst (λ one. IsTrue (linked c.args.graph.now c.args.at one)) same link)
+first_around-requires-clause-apart c = grind (arith, row_link)
 
 pub first_around-requires-clause-link : goal.first_around-requires-clause-link
-first_around-requires-clause-link c =
-    row_link c.args.graph.now c.args.at c.links.one-index c.links-one-items.result.now c.links-one-items.ensures.value c.links-test.true
+first_around-requires-clause-link c = grind (arith, row_link)
 
 pub returns-in-Some : goal.returns-in-Some
 returns-in-Some c =
@@ -59,11 +53,7 @@ links-preserved-then-on_one_side c =
     λ k f lt. all k lt f
 
 pub links-preserved : goal.links-preserved
-links-preserved c =
-    let row : List ℕ = c.links-one-items.result.now in
-    let all : (k : ℕ) → k < c.links.one-index + 1 → (f : ℕ) → ¬ IsPinch (linked c.args.graph.now) c.args.at (get_or row k 0) f = below_more (λ k. (f : ℕ) → ¬ IsPinch (linked c.args.graph.now) c.args.at (get_or row k 0) f) c.links.one-index (λ k lt f. c.links.invariant k f lt)
-    (MatchOption-at_none ((f : ℕ) → ¬ IsPinch (linked c.args.graph.now) c.args.at (get_or row c.links.one-index 0) f) (FirstOther (linked c.args.graph.now) c.args.at (get_or row c.links.one-index 0)) c.in_default.is c.in_ok-other.ensures) in
-    λ k f lt. all k lt f
+links-preserved c = grind (arith, get_or, below_more, MatchOption-at_none)
 
 pub returns : goal.returns
 returns c =

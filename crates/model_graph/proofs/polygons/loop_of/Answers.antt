@@ -1,4 +1,4 @@
-use Rattle.std.proofs.Common.{◌≡◌, ◌↔◌, ℕ, Bool, false, IsTrue, Option, Some, None, IsSome, MatchOption, refl, ◌∙◌}
+use Rattle.std.proofs.Common.{◌≡◌, ◌↔◌, ℕ, Bool, false, IsTrue, Option, Some, None, IsSome, MatchOption, refl, ◌∙◌, arith}
 use Rattle.std.proofs.lemmas.Option.{MatchOption-at_some}
 use Rattle.model_graph.specs.declared.pinching.Pinch.{Pinch}
 use Rattle.std.proofs.lemmas.Bool.{both_ways}
@@ -33,8 +33,7 @@ unwrap-pinch-requires c =
     pinched links c.in_ok-parted.parted c.in_ok-first_pinch.field-0 simple c.in_ok-parted.ensures.parted c.if-parted.false c.in_ok-first_pinch.ensures.first
 
 pub ring_of-requires-clause-pinch : goal.ring_of-requires-clause-pinch
-ring_of-requires-clause-pinch c =
-    (first_of (linked c.args.graph.now) c.in_ok-first_pinch.field-0 c.unwrap-pinch.result c.unwrap-pinch.ensures c.in_ok-first_pinch.ensures.first).pinch
+ring_of-requires-clause-pinch c = grind (arith, first_of)
 
 pub written-requires-clause-long : goal.written-requires-clause-long
 written-requires-clause-long c =
@@ -46,13 +45,7 @@ written-requires-clause-long c =
     (ring_is_cycle links pinch.at pinch.one pinch.other made.0 c.deref.result.now simple first.pinch made.2 (c.deref.ensures.value ∙ made.1)).0
 
 pub written-requires-clause-different : goal.written-requires-clause-different
-written-requires-clause-different c =
-    let links = linked c.args.graph.now in
-    let simple = Simple-from_graph c.args.graph.now c.in_ok-parted.ensures.sound in
-    let pinch : Pinch = c.unwrap-pinch.result in
-    let first = first_of links c.in_ok-first_pinch.field-0 pinch c.unwrap-pinch.ensures c.in_ok-first_pinch.ensures.first in
-    let made = c.in_ok-ring.ensures in
-    (ring_is_cycle links pinch.at pinch.one pinch.other made.0 c.deref.result.now simple first.pinch made.2 (c.deref.ensures.value ∙ made.1)).1
+written-requires-clause-different c = grind (arith, Simple-from_graph, first_of, ring_is_cycle)
 
 pub returns : goal.returns
 returns c =

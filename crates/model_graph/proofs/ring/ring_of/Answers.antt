@@ -1,18 +1,17 @@
-use Rattle.std.proofs.Common.{◌≡◌, ◌≢◌, ◌-◌, ◌<◌, ◌++◌, ◌∷◌, [], ℕ, suc, IsTrue, Option, Some, None, IsSome, List, length, refl, sym, ◌∙◌, ap, subst, arith, inl, inr}
+use Rattle.std.proofs.Common.{◌≡◌, ◌≢◌, ◌-◌, ◌<◌, ◌++◌, ◌∷◌, [], ℕ, suc, Option, Some, None, IsSome, List, length, refl, sym, ◌∙◌, ap, subst, arith, inl, inr}
 use Rattle.std.proofs.lemmas.List.{get_or_read}
 use Rattle.model_graph.specs.Rows.{linked, IsGraph}
 use Rattle.model_graph.specs.Levels.{level_of, AreLevels}
 use Rattle.model_graph.specs.Pinches.{IsPinch}
 use Rattle.model_graph.specs.Descents.{SmallestAt}
-use Rattle.model_graph.proofs.Around.{Around-sym}
-use Rattle.model_graph.proofs.Visits.{level_cases, level_within}
+use Rattle.model_graph.proofs.Members.{Around-sym}
+use Rattle.model_graph.proofs.Floods.{level_cases, level_within}
 use Rattle.model_graph.proofs.PinchSearch.{Simple-from_graph, level_from_around}
 use Rattle.model_graph.proofs.Descending.{Descent-push, lower_exists, FirstWalk-from_descent}
 use Rattle.model_graph.proofs.ring.ring_of.Goals as goal
 
 other_end : (rows : List (List ℕ)) (b a c : ℕ) → IsGraph rows → IsPinch (linked rows) b a c → (c < length rows) × (c ≢ b)
-other_end rows b a c graph pinch =
-    (graph.within b c pinch.other, λ same. graph.no_self b (subst (λ x. IsTrue (linked rows b x)) same pinch.other))
+other_end rows b a c graph pinch = grind arith
 
 -- the search from the greater link has reached the smaller
 one_has_level : (rows : List (List ℕ)) (b a c : ℕ) (levels : List (Option ℕ)) → IsGraph rows → IsPinch (linked rows) b a c → AreLevels (linked rows) b c levels → (m : ℕ) × (level_of levels a ≡ Some m)
@@ -24,12 +23,10 @@ one_has_level rows b a c levels graph pinch are =
     ]
 
 pub levels_around-requires-clause-inside : goal.levels_around-requires-clause-inside
-levels_around-requires-clause-inside c =
-    (other_end c.args.graph.now c.args.pinch.at c.args.pinch.one c.args.pinch.other c.requires.sound c.requires.pinch).0
+levels_around-requires-clause-inside c = grind (arith, other_end)
 
 pub levels_around-requires-clause-apart : goal.levels_around-requires-clause-apart
-levels_around-requires-clause-apart c =
-    (other_end c.args.graph.now c.args.pinch.at c.args.pinch.one c.args.pinch.other c.requires.sound c.requires.pinch).1
+levels_around-requires-clause-apart c = grind (arith, other_end)
 
 pub unwrap-level-requires : goal.unwrap-level-requires
 unwrap-level-requires c =
@@ -39,12 +36,7 @@ unwrap-level-requires c =
     subst IsSome (sym (at ∙ has.1)) refl
 
 pub smallest_at-member-requires-clause-there : goal.smallest_at-member-requires-clause-there
-smallest_at-member-requires-clause-there c =
-    let levels : List (Option ℕ) = c.in_ok-levels.levels.items in
-    let above : c.descending.level ≡ suc (c.descending.level - 1) = omega arith in
-    let lower = lower_exists (linked c.args.graph.now) c.args.pinch.at c.args.pinch.other levels (Simple-from_graph c.args.graph.now c.requires.sound) c.in_ok-levels.ensures.searched c.descending.member (c.descending.level - 1) (c.descending.invariant.1 ∙ ap Some above) in
-    let seen : c.deref.result.now ≡ levels = c.deref.ensures.value in
-    (lower.0, lower.1, ap (λ (now : List (Option ℕ)). level_of now lower.0) seen ∙ lower.2)
+smallest_at-member-requires-clause-there c = grind (arith, lower_exists, Simple-from_graph)
 
 pub descending-preserved : goal.descending-preserved
 descending-preserved c =

@@ -1,6 +1,6 @@
 use Rattle.model_run.proofs.TosserLaws.{the_laws}
 use Rattle.model_run.proofs.Throughout.{orderly-throughout}
-use Rattle.model_run.proofs.OtherAreas.{same-area, tidy-pair}
+use Rattle.model_run.proofs.Renewal.{same-area, tidy-pair}
 use Rattle.model_run.proofs.epoch_laws.changes_of_other_areas_need_no_settling.Goals as goal
 
 pub returns : goal.returns

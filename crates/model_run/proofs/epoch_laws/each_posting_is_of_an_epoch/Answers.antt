@@ -1,5 +1,5 @@
 use Rattle.model_run.proofs.TosserLaws.{the_laws}
-use Rattle.model_run.proofs.OfEpochs.{posting-of_some}
+use Rattle.model_run.proofs.Throughout.{posting-of_some}
 use Rattle.model_run.proofs.epoch_laws.each_posting_is_of_an_epoch.Goals as goal
 
 pub returns : goal.returns

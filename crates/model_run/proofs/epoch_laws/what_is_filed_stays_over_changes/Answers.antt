@@ -1,5 +1,5 @@
 use Rattle.model_run.proofs.TosserLaws.{the_laws}
-use Rattle.model_run.proofs.OfEpochs.{epochs-keep}
+use Rattle.model_run.proofs.Throughout.{epochs-keep}
 use Rattle.model_run.proofs.epoch_laws.what_is_filed_stays_over_changes.Goals as goal
 
 pub returns : goal.returns

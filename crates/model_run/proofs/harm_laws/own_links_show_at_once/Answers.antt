@@ -1,4 +1,4 @@
-use Rattle.model_run.proofs.PostAndScan.{listed-sent}
+use Rattle.model_run.proofs.Holders.{listed-sent}
 use Rattle.model_run.proofs.harm_laws.own_links_show_at_once.Goals as goal
 
 pub returns : goal.returns

@@ -1,4 +1,4 @@
-use Rattle.model_run.proofs.SecondFiles.{second-harmed}
+use Rattle.model_run.proofs.Faults.{second-harmed}
 use Rattle.model_run.proofs.harm_laws.second_files_are_not_served.Goals as goal
 
 pub returns : goal.returns

@@ -3,8 +3,7 @@ use Rattle.model_run.specs.Exports.{exports, sent_by}
 use Rattle.model_run.proofs.TosserLaws.{the_laws}
 use Rattle.model_run.proofs.Lists.{nth-among}
 use Rattle.model_run.proofs.WholeRuns.{run-ok}
-use Rattle.model_run.proofs.ExportLog.{run-logged}
-use Rattle.model_run.proofs.Stations.{sent-once, sent-to_others, waits-unsent}
+use Rattle.model_run.proofs.ExportLists.{run-logged, sent-once, sent-to_others, waits-unsent}
 use Rattle.model_run.proofs.laws.each_message_is_exported_by_one_scan.Goals as goal
 
 pub returns : goal.returns

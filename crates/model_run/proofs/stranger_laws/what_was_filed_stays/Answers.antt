@@ -1,7 +1,6 @@
 use Rattle.std.proofs.Common.{◌≤◌, ◌∷◌, subst, sym}
 use Rattle.model_run.specs.Lone.{LoneSystem, PurgeHere, after_lone, lone_run}
-use Rattle.model_run.proofs.Stubs.{event-left, left-waiting, run-left}
-use Rattle.model_run.proofs.Growing.{events-purged, run-append, run-lasts}
+use Rattle.model_run.proofs.Filings.{event-left, left-waiting, run-left, events-purged, run-append, run-lasts}
 use Rattle.model_run.proofs.stranger_laws.what_was_filed_stays.Goals as goal
 
 pub returns : goal.returns

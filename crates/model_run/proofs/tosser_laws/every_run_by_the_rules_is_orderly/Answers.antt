@@ -1,5 +1,5 @@
 use Rattle.std.proofs.Common.{IsTrue}
-use Rattle.model_run.proofs.Runs.{every_run-orderly}
+use Rattle.model_run.proofs.Eras.{every_run-orderly}
 use Rattle.model_run.proofs.tosser_laws.every_run_by_the_rules_is_orderly.Goals as goal
 
 pub returns : goal.returns

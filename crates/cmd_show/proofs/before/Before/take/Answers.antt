@@ -1,8 +1,18 @@
 use Rattle.std.proofs.Common.{ap, sym, ◌∙◌}
 use Rattle.echo_links.specs.LinkLines.{first_of}
-use Rattle.echo_links.proofs.LinkTaking.{control_refused, unknown_refused, wordless_refused}
+use Rattle.echo_links.proofs.LinkTaking.{IsCut, control_refused, unknown_refused, wordless_refused}
 use Rattle.cmd_show.proofs.Judging.{area_judged_so, control_word, first_is, name_judged, skipped_judged, system_judged, unknown_judged}
+use Rattle.cmd_show.proofs.before.Before.take.Goals.{After-eq}
 use Rattle.cmd_show.proofs.before.Before.take.Goals as goal
+
+-- the line is cut into its first word and the rest
+word_read : (c : After-eq) → IsCut c.args.line.now c.in-Some.word.now c.in-Some.rest.now
+word_read c = record {
+  read = sym c.is_skipped.ensures ∙ c.if-is_skipped.false;
+  plain = sym c.has_control_byte.ensures ∙ c.if-has_control_byte.false;
+  words_are = c.in-Some.ensures.token;
+  after = c.in-Some.ensures.after;
+}
 
 pub returns-then-is_skipped : goal.returns-then-is_skipped
 returns-then-is_skipped c =
@@ -26,35 +36,17 @@ returns-in_default c =
 
 pub returns-then-eq : goal.returns-then-eq
 returns-then-eq c =
-    λ earlier before. system_judged earlier c.args.number c.args.line.now c.in-Some.word.now c.in-Some.rest.now
-    (record {
-      read = sym c.is_skipped.ensures ∙ c.if-is_skipped.false;
-      plain = sym c.has_control_byte.ensures ∙ c.if-has_control_byte.false;
-      words_are = c.in-Some.ensures.token;
-      after = c.in-Some.ensures.after;
-    })
+    λ earlier before. system_judged earlier c.args.number c.args.line.now c.in-Some.word.now c.in-Some.rest.now (word_read (goal.at.returns-then-eq c).After-eq)
     c.args.self.now c.take_system.new.self before (sym c.eq.ensures ∙ c.if-eq.true) c.take_system.result c.take_system.ensures
 
 pub returns-then-eq-2 : goal.returns-then-eq-2
 returns-then-eq-2 c =
-    λ earlier before. name_judged earlier c.args.number c.args.line.now c.in-Some.word.now c.in-Some.rest.now
-    (record {
-      read = sym c.is_skipped.ensures ∙ c.if-is_skipped.false;
-      plain = sym c.has_control_byte.ensures ∙ c.if-has_control_byte.false;
-      words_are = c.in-Some.ensures.token;
-      after = c.in-Some.ensures.after;
-    })
+    λ earlier before. name_judged earlier c.args.number c.args.line.now c.in-Some.word.now c.in-Some.rest.now (word_read (goal.at.returns-then-eq-2 c).After-eq)
     c.args.self.now c.take_name.new.self before (sym c.eq-else-eq.ensures ∙ c.if-eq-2.true) c.take_name.result c.take_name.ensures
 
 pub returns-then-eq-3 : goal.returns-then-eq-3
 returns-then-eq-3 c =
-    λ earlier before. area_judged_so earlier c.args.number c.args.line.now c.in-Some.word.now c.in-Some.rest.now
-    (record {
-      read = sym c.is_skipped.ensures ∙ c.if-is_skipped.false;
-      plain = sym c.has_control_byte.ensures ∙ c.if-has_control_byte.false;
-      words_are = c.in-Some.ensures.token;
-      after = c.in-Some.ensures.after;
-    })
+    λ earlier before. area_judged_so earlier c.args.number c.args.line.now c.in-Some.word.now c.in-Some.rest.now (word_read (goal.at.returns-then-eq-3 c).After-eq)
     c.args.self.now c.take_area.new.self before (sym c.eq-else-eq-2.ensures ∙ c.if-eq-3.true) c.take_area.result c.take_area.ensures
 
 pub returns-else-eq-3 : goal.returns-else-eq-3
@@ -62,13 +54,7 @@ returns-else-eq-3 c =
     λ earlier before.
     let plain = sym c.has_control_byte.ensures ∙ c.if-has_control_byte.false in
     unknown_judged earlier c.args.number c.args.line.now c.args.self.now before _
-    (unknown_refused c.args.line.now c.in-Some.word.now c.in-Some.rest.now
-    (record {
-      read = sym c.is_skipped.ensures ∙ c.if-is_skipped.false;
-      plain = plain;
-      words_are = c.in-Some.ensures.token;
-      after = c.in-Some.ensures.after;
-    })
+    (unknown_refused c.args.line.now c.in-Some.word.now c.in-Some.rest.now (word_read (goal.at.returns-else-eq-3 c).After-eq)
     earlier c.args.number (sym c.eq.ensures ∙ c.if-eq.false) (sym c.eq-else-eq.ensures ∙ c.if-eq-2.false)
     (sym c.eq-else-eq-2.ensures ∙ c.if-eq-3.false))
     (sym (first_is c.args.line.now plain ∙ ap first_of c.in-Some.ensures.token))

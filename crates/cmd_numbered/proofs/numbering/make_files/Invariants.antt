@@ -1,8 +1,8 @@
--- The files of the messages so far.
+-- The files of the messages so far were made.
 use Rattle.std.proofs.Common.{◌≡◌, ◌≤◌}
 use Rattle.base_file.specs.Base.{Base}
-use Rattle.cmd_numbered.specs.Numbered.{files_of}
-use Rattle.cmd_numbered.proofs.numbering.files_of.Given as goal
+use Rattle.cmd_numbered.specs.Numbered.{IsMade, files_of}
+use Rattle.cmd_numbered.proofs.numbering.make_files.Given as goal
 
 abbrev pub invariant-messages : goal.invariant-messages
 invariant-messages g l = record {
@@ -11,5 +11,7 @@ invariant-messages g l = record {
   honest : (g.M.MessageSource.state l.messages).is_honest → (g.M.MessageSource.state l.fn.messages).is_honest;
   held : (base : Base) → (g.M.MessageSource.state l.fn.messages).holds base → (g.M.MessageSource.state l.messages).holds base;
   later : (g.M.MessageSource.state l.fn.messages).failures ≤ (g.M.MessageSource.state l.messages).failures;
-  so_far : (g.M.MessageSource.state l.messages).is_honest → (base : Base) → (g.M.MessageSource.state l.fn.messages).holds base → l.files.items ≡ files_of l.area l.first base.cursor l.number base.messages l.i;
+  few : l.made ≤ l.i;
+  so_far : (g.M.MessageSource.state l.messages).is_honest → (base : Base) → (g.M.MessageSource.state l.fn.messages).holds base → l.wanted.cursor ≡ base.cursor
+      → IsMade (files_of l.wanted.area.now l.wanted.first base.cursor l.wanted.number base.messages l.i) (g.F.MessageFolder.made l.fn.folder) (g.F.MessageFolder.made l.folder) l.made;
 }

@@ -1,0 +1,54 @@
+-- Files that a folder gets one after another.
+use Rattle.std.proofs.Common.{◌≡◌, ◌≤◌, ℕ, Bool, true, List, [], ◌∷◌, ◌++◌, ◌∙◌, ap, sym, append_assoc, append-nil, inl, subst, Option, Some, None, Result, Ok, Err}
+use Rattle.std.specs.Prelude.{if◌then◌else◌}
+use Rattle.std.specs.Result.{IfErr}
+use Rattle.echo_filed.specs.Filed.{Filed}
+use Rattle.cmd_numbered.specs.Folders.{Gets}
+use Rattle.base_file.specs.Base.{Base}
+use Rattle.base_folder.proofs.Fetchings.{unread_since}
+use Rattle.cmd_numbered.specs.Numbered.{EndsAt, IsMadeFrom, IsUnexported, IsUnmade, file_at, file_of, is_exported}
+use Rattle.cmd_numbered.specs.declared.folder.MessageFile.{MessageFile}
+use Rattle.cmd_numbered.specs.declared.numbering.Exported.{Exported}
+use Rattle.cmd_numbered.specs.declared.numbering.Unexported.{Unexported}
+use Rattle.cmd_numbered.specs.declared.numbering.Unexported.TheVariants.{File, Message}
+
+pub gets_none : (before : Option (List MessageFile)) → Gets before before []
+gets_none None = tt
+gets_none (Some files) = sym (append-nil files)
+
+pub gets_more : (first before now : Option (List MessageFile)) (some more : List MessageFile) → Gets first before some → Gets before now more → Gets first now (some ++ more)
+gets_more None before now some more one two = tt
+gets_more (Some xs) None now some more one two = absurd one
+gets_more (Some xs) (Some ys) None some more one two = absurd two
+gets_more (Some xs) (Some ys) (Some zs) some more one two = two ∙ ap (λ (l : List MessageFile). l ++ more) one ∙ append_assoc xs some more
+
+-- the one file of a message that is exported
+pub one_file : (area : List ℕ) (first cursor number i : ℕ) (m : Filed) (found : Option Filed) (is : Bool) → Some m ≡ found → is ≡ is_exported area first cursor i m → is ≡ true
+    → file_at area first cursor number i found ≡ file_of cursor number i m ∷ []
+one_file area first cursor number i m found is here exported so =
+    ap (file_at area first cursor number i) (sym here) ∙ ap (λ (b : Bool). if b then file_of cursor number i m ∷ [] else []) (sym exported ∙ so)
+
+-- that file was not made
+pub unmade : (files : List MessageFile) (file : MessageFile) (path : List ℕ) (before now : ℕ) (result : Result ℕ Unexported) → files ≡ file ∷ [] → IfErr result IsUnmade → IfErr result (IsUnexported files path before now)
+unmade files file path before now (Ok count) are why = tt
+unmade files file path before now (Err (Message fault)) are why = inl why
+unmade files file path before now (Err (File status)) are why = (file, are)
+
+-- reads that failed later in a call
+ends_since : (area : List ℕ) (from number : ℕ) (base : Base) (path : List ℕ) (first before now seen next : ℕ) (stop : Option Unexported) → first ≤ before
+    → EndsAt area from number base path before now seen next stop → EndsAt area from number base path first now seen next stop
+ends_since area from number base path first before now seen next None less ends = ends
+ends_since area from number base path first before now seen next (Some (Message fault)) less ends = (ends.0, ends.1, unread_since path first before now fault less ends.2)
+ends_since area from number base path first before now seen next (Some (File status)) less ends = ends
+
+pub made_since : (area given : List ℕ) (from number second : ℕ) (base : Base) (path : List ℕ) (first before now : ℕ) (old new : Option (List MessageFile)) (exported : Exported)
+    → given ≡ area → second ≡ number → first ≤ before → IsMadeFrom given from second base path before now old new exported → IsMadeFrom area from number base path first now old new exported
+made_since area given from number second base path first before now old new exported same_area same_number less made =
+    subst (λ (a : List ℕ). IsMadeFrom a from number base path first now old new exported) same_area
+    (subst (λ (n : ℕ). IsMadeFrom given from n base path first now old new exported) same_number
+    (record {
+      seen = made.seen;
+      made_is = made.made_is;
+      files_are = made.files_are;
+      end_is = ends_since given from second base path first before now made.seen exported.next exported.stop less made.end_is;
+    }))

@@ -1,0 +1,15 @@
+use Rattle.std.proofs.Common.{◌+◌, ◌∙◌, ap, option_copied, slice_get, sym}
+use Rattle.cmd_numbered.specs.Numbered.{file_at, file_of}
+use Rattle.cmd_numbered.proofs.Gettings.{one_file, unmade}
+use Rattle.cmd_numbered.proofs.numbering.make_next.Goals as goal
+
+pub returns-in-Some-clause-fault : goal.returns-in-Some-clause-fault
+returns-in-Some-clause-fault g c = λ honest base held.
+    let wanted = c.args.wanted in
+    let i = c.args.i in
+    let m = c.in-Some.message.now in
+    let number = wanted.number + c.args.made in
+    let here = ap option_copied (sym c.in-Some.is) ∙ c.at_hand.ensures ∙ c.in_default.ensures.fetched honest base held in
+    unmade (file_at wanted.area.now wanted.first wanted.cursor number i (slice_get base.messages i)) (file_of wanted.cursor number i m) _ _ _ c.make_file.result
+    (one_file wanted.area.now wanted.first wanted.cursor number i m (slice_get base.messages i) c.is_wanted.result here c.is_wanted.ensures c.if-is_wanted.true)
+    c.make_file.ensures.fault
