@@ -31,9 +31,7 @@ pub fn run_convert<'a, W: Sink>(
     if is_folder(rt, from) {
         let messages = look_into(rt, from, 0, None)?;
         let mut messages = Distinct::new(rt.alloc(), messages, hasher);
-        if is_folder(rt, to) {
-            judge_messages(rt, from, &mut messages)?;
-        }
+        judge_for(rt, from, &mut messages, to)?;
         return convert_messages(rt, from, &mut messages, to, out);
     }
     let mut messages = BaseReader::read(rt.alloc(), &read_file(rt, from, usize::MAX)?, hasher)?;
@@ -56,6 +54,23 @@ fn convert_messages<'a, M: MessageSource, W: Sink>(
         save_file(rt, from, messages, to)?;
     }
     print_converted(rt, messages.count(), messages.cursor(), out)
+}
+
+// Before a folder TO is filled, reads the messages to the end.
+fn judge_for<'a, M: MessageSource>(
+    rt: &HostRuntime,
+    from: &'a str,
+    messages: &mut M,
+    to: &str,
+) -> Result<(), Fault<'a>>
+    requires { (M.state messages.old).is_ready }
+    ensures { LooksAt (M.state messages.old) (M.state messages.new) }
+{
+    if is_folder(rt, to) {
+        judge_messages(rt, from, messages)
+    } else {
+        Ok(())
+    }
 }
 
 // Reads the messages to the end, and reports the first fault.
