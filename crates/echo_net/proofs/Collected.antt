@@ -9,7 +9,7 @@ use Rattle.std.proofs.lemmas.List.Elements.{filter-append, Contains-get_or}
 use Rattle.std.proofs.lemmas.List.Sums.{length-filter, sum_by-append, sum_by-cons}
 use Rattle.echo_addr.specs.declared.address.Address.{Address}
 use Rattle.model_graph.specs.Walk.{Among, Connected, Different, IsAt, Reaches}
-use Rattle.model_graph.proofs.Members.{Among-append_cases, Among-append_left, Among-append_right, Among-from_Contains, Contains-from_Among, Among-index, Among-get_or, walk_links}
+use Rattle.model_graph.proofs.Members.{Among-from_Contains, Contains-from_Among, Among-index, Among-get_or, walk_links}
 use Rattle.echo_links.specs.Links.{LinkFile, area_of, has_area, is_link, links_of, same_address, IsFile}
 use Rattle.echo_filed.specs.Sets.{address_before}
 use Rattle.model_run.specs.Tidy.{carries, lists, Carries, Joined, Tidy}

@@ -1,6 +1,6 @@
 -- Addresses that occur twice among some systems.
-use Rattle.std.proofs.Common.{◌≡◌, ◌<◌, ◌+◌, ◌&&◌, ◌↔◌, ℕ, suc, Some, None, List, [], ◌∷◌, ◌++◌, length, get_or, refl, sym, subst, ap, ◌∙◌, arith, inl, inr, ◌≢◌, ◌≤◌, nat_lt, Bool, true, false, IsTrue, Option, ◌-◌, ◌==◌, not, take, drop}
-use Rattle.std.specs.Prelude.{Contains, slice_get, is_some, option_map, unwrap_or}
+use Rattle.std.proofs.Common.{◌≡◌, ◌<◌, ◌+◌, ◌&&◌, ◌↔◌, ℕ, suc, Some, None, List, [], ◌∷◌, ◌++◌, length, get_or, refl, sym, subst, ap, ◌∙◌, arith, inl, inr, ◌≢◌, ◌≤◌, nat_lt, Bool, true, false, IsTrue, ◌-◌, ◌==◌, not, take, drop}
+use Rattle.std.specs.Prelude.{Contains, slice_get}
 use Rattle.std.specs.List.Sorted.{IsStrictlySortedBy, IsPartitionedBy, IsPartitionPoint}
 use Rattle.std.specs.Ordering.{nat_cmp, ordering_then, is_lt, ordering_reverse}
 use Rattle.std.specs.declared.cmp.Ordering.{Ordering}
@@ -10,7 +10,7 @@ use Rattle.std.proofs.lemmas.Cmp.{tied_itself}
 use Rattle.std.proofs.lemmas.List.{get_or_default, get_or-drop, get_or-take, get_or_at, get_or_append_left, length-drop, length-take, length-append}
 use Rattle.std.proofs.lemmas.List.Elements.{Contains-append_left, Contains-push, Contains-push_cases, Contains-get_or}
 use Rattle.echo_addr.specs.declared.address.Address.{Address}
-use Rattle.echo_links.specs.Links.{same_address, Area, LinkFile, area_of, has_area, is_link, links_of}
+use Rattle.echo_links.specs.Links.{same_address, LinkFile}
 use Rattle.echo_filed.specs.Sets.{address_before}
 use Rattle.echo_net.specs.declared.link.Link.{Link}
 use Rattle.model_graph.specs.Walk.{Different, IsAt, Connected, Reaches, Simple, Among}

@@ -1,5 +1,5 @@
 -- The loops of blocks, after a renaming that keeps the order of the members.
-use Rattle.std.proofs.Common.{inl, inr, sym, ap, subst, ◌∙◌, Bool, IsTrue, List, ◌∷◌, map, arith}
+use Rattle.std.proofs.Common.{inl, inr, sym, ap, subst, ◌∙◌, Bool, IsTrue, List, ◌∷◌, map}
 use Rattle.model_graph.specs.Walk.{Among, Simple}
 use Rattle.model_blocks.specs.BlockLoops.{AreInOneBlock, FirstInBlockBy, IsLoopOfBlockBy}
 use Rattle.model_graph.specs.Renaming.{IsRenaming, KeepsOrder}

@@ -1,8 +1,6 @@
-use Rattle.std.proofs.Common.{◌≡◌, sym, subst, ap, ◌∙◌, List, length, vec_len, arith}
+use Rattle.std.proofs.Common.{sym, subst, List, vec_len, arith}
 use Rattle.std.specs.Prelude.{Contains}
-use Rattle.std.specs.List.{count_by}
 use Rattle.echo_addr.specs.declared.address.Address.{Address}
-use Rattle.echo_filed.specs.Sets.{address_before}
 use Rattle.echo_net.specs.declared.link.Link.{Link}
 use Rattle.echo_net.proofs.Collected.{carries_listed, links_listed, pairs_counted, systems_counted}
 use Rattle.echo_net.proofs.area.area_of.Goals as goal

@@ -1,8 +1,7 @@
-use Rattle.std.proofs.Common.{◌∙◌, List, sym, subst, ap, arith}
+use Rattle.std.proofs.Common.{sym, subst, arith}
 use Rattle.std.proofs.lemmas.Option.{MatchOption-at_some}
-use Rattle.echo_addr.specs.declared.address.Address.{Address}
-use Rattle.model_run.specs.Tidy.{Carries, Tidy, lists}
-use Rattle.echo_net.specs.Faults.{AreInOrder, AreSoundLinks, IsFirstFault, numbered}
+use Rattle.model_run.specs.Tidy.{Carries}
+use Rattle.echo_net.specs.Faults.{AreInOrder, AreSoundLinks, IsFirstFault}
 use Rattle.echo_net.proofs.Collected.{at_none, files_fit, not_tidy}
 use Rattle.echo_net.proofs.Owned.{in_order_from_sorted}
 use Rattle.echo_net.proofs.checker.check_area.Goals as goal

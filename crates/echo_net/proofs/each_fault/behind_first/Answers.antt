@@ -1,4 +1,4 @@
-use Rattle.std.proofs.Common.{◌≡◌, ◌∙◌, List, ap, arith, drop, length, sym}
+use Rattle.std.proofs.Common.{◌∙◌, List, ap, arith, drop}
 use Rattle.std.proofs.lemmas.Bool.{eqb-true}
 use Rattle.echo_net.specs.declared.verdict.NetFault.{NetFault}
 use Rattle.echo_net.proofs.each_fault.behind_first.Goals as goal

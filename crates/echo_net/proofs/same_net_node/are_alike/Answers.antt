@@ -1,4 +1,4 @@
-use Rattle.std.proofs.Common.{sym, ◌∙◌, arith}
+use Rattle.std.proofs.Common.{arith}
 use Rattle.echo_net.proofs.Orders.{net_node_itself, net_node_same}
 use Rattle.echo_net.proofs.same_net_node.are_alike.Goals as goal
 

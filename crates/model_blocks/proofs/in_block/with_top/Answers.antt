@@ -1,4 +1,4 @@
-use Rattle.std.proofs.Common.{◌≡◌, ◌+◌, ◌<◌, ◌≤◌, ◌∙◌, ◌++◌, ◌↔◌, ◌⊎◌, ℕ, Bool, true, false, List, [], ◌∷◌, ap, length, get_or, refl, subst, sym, inl, inr, arith}
+use Rattle.std.proofs.Common.{◌≡◌, ◌+◌, ◌<◌, ◌≤◌, ◌∙◌, ◌++◌, ◌↔◌, ◌⊎◌, ℕ, Bool, true, false, List, [], ◌∷◌, ap, length, get_or, refl, subst, sym, inl, inr}
 use Rattle.std.specs.Prelude.{Contains}
 use Rattle.model_graph.specs.Rows.{IsAscending}
 use Rattle.model_blocks.proofs.BlockLists.{TopAdded, TopAdded-done, TopAdded-last, TopAdded-step}
