@@ -18,7 +18,7 @@ use Rattle.base_log.specs.Reading.{IsLogIn, IsRead}
 use Rattle.base_log.specs.declared.log.Log.{Log}
 use Rattle.base_log.specs.Moments.{KeepsOutside}
 use Rattle.base_log.proofs.Empty.{stands_quiet}
-use Rattle.base_log.proofs.Gates.{outside_quiet, outside_twice}
+use Rattle.base_log.proofs.Keeping.{outside_quiet, outside_twice}
 use Rattle.base_log.proofs.Opened.{base_found}
 use Rattle.base_log.proofs.Quiet.{base_quiet}
 use Rattle.base_store.specs.Keys.{FolderStandsFor}

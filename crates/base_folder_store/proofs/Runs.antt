@@ -5,7 +5,7 @@ use Rattle.disk_io.specs.Runs.{ChangesNothing}
 use Rattle.disk_io.proofs.Moments.{then_nothing, then_run, weaker_run}
 use Rattle.base_log.specs.Moments.{IsBeforeOrAfter, StandsAlone}
 use Rattle.base_log.specs.Standing.{BaseBytes, StandsFor}
-use Rattle.base_log.proofs.Gates.{outside_quiet, outside_twice}
+use Rattle.base_log.proofs.Keeping.{outside_quiet, outside_twice}
 use Rattle.base_store.specs.declared.store_error.StoreError.{StoreError}
 use Rattle.base_folder_store.specs.Calls.{CommitsOnly, StagesOnly, StaysOpen}
 use Rattle.base_folder_store.specs.Opened.{IsOpen, committed_by, path_of}

@@ -3,7 +3,7 @@ use Rattle.std.proofs.Common.{◌≡◌, ℕ, ◌+◌, Bool, true, false, cond, 
 use Rattle.std.specs.Prelude.{bytes_eq, option_map, slice_get}
 use Rattle.std.specs.Option.{option_or}
 use Rattle.std.specs.List.{list_any}
-use Rattle.std.proofs.lemmas.Bool.{cond_both, true≢false}
+use Rattle.std.proofs.lemmas.Bool.{cases_Bool, true≢false}
 use Rattle.echo_links.specs.declared.fault.LinkFault.{LinkFault}
 use Rattle.echo_links.specs.declared.fault.LinkFault.TheVariants as fault
 use Rattle.echo_links.specs.Links.{LinkFile}
@@ -102,9 +102,12 @@ module _ (bytes : List ℕ) where
 
   by_fault : (o : Option LinkFault) → file_fault bytes ≡ o → option_map (λ (l : FaultyLine). l.fault) (slice_get (reported_lines bytes o) 0) ≡ o
   by_fault None is = refl
-  by_fault (Some why) is =
-      cond_both (is_homeless why) (record { fault = why; word = [] } ∷ []) (faulty_lines bytes) (λ ls. option_map (λ (l : FaultyLine). l.fault) (slice_get ls 0) ≡ Some why) (λ alone. refl)
-      (λ more. of_a_line why is (λ n e. true≢false (sym (ap is_homeless e) ∙ more)))
+  by_fault (Some why) is = elim (cases_Bool (is_homeless why)) [
+    | inl alone ↦ ap (λ b. option_map (λ (l : FaultyLine). l.fault) (slice_get (cond b (record { fault = why; word = [] } ∷ []) (faulty_lines bytes)) 0)) alone
+    | inr more ↦
+        ap (λ b. option_map (λ (l : FaultyLine). l.fault) (slice_get (cond b (record { fault = why; word = [] } ∷ []) (faulty_lines bytes)) 0)) more
+        ∙ of_a_line why is (λ n e. true≢false (sym (ap is_homeless e) ∙ more))
+  ]
 
   pub first_told : option_map (λ (l : FaultyLine). l.fault) (slice_get (faults_of bytes) 0) ≡ file_fault bytes
   unfolding faults_of

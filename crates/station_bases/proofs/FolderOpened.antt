@@ -5,7 +5,7 @@ use Rattle.base_file.specs.Base.{Base}
 use Rattle.disk_io.specs.Disk.{DiskState, Files}
 use Rattle.disk_io.specs.Runs.{ChangesNothing}
 use Rattle.disk_io.proofs.Moments.{nothing_twice}
-use Rattle.base_log.proofs.Gates.{outside_quiet, outside_twice}
+use Rattle.base_log.proofs.Keeping.{outside_quiet, outside_twice}
 use Rattle.base_folder.specs.Ours.{IsLeftAlone, IsNotOurs}
 use Rattle.base_folder.specs.Unopened.{OpensOnly}
 use Rattle.base_folder.proofs.Openings.{opened_run_since}

@@ -1,6 +1,6 @@
 use Rattle.std.proofs.Common.{◌≡◌, ◌∙◌, List, ℕ, OnOk, ap, arith, inr, subst}
 use Rattle.base_log.specs.Moments.{KeepsOutside}
-use Rattle.base_log.proofs.Gates.{outside_twice}
+use Rattle.base_log.proofs.Keeping.{outside_twice}
 use Rattle.base_folder_store.specs.Held.{HoldsBase, StandsForBase}
 use Rattle.base_folder_store.specs.Opened.{committed_by, held_by, path_of}
 use Rattle.base_folder.specs.Filled.{IsKept, IsUnfilled, no_messages}
