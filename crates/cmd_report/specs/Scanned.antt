@@ -6,7 +6,6 @@ use Rattle.model_steps.specs.declared.packet.Packet.{Packet}
 use Rattle.model_steps.specs.PacketFiles.{PacketFile}
 use Rattle.echo_toss.specs.declared.counting.CountedPacket.{CountedPacket}
 use Rattle.cmd_report.specs.Lines.{named_receiver, sent_line}
-use Rattle.cmd_report.specs.declared.scanning.PlannedPacket.{PlannedPacket}
 
 -- `zone.net.node.N.pkt`, for the receiver of the packet and the number of messages scanned before.
 abbrev pub packet_name : Address → ℕ → List ℕ
@@ -28,11 +27,3 @@ line_sent p = sent_line (named_receiver p.header) (length p.messages) (length (p
 -- The line of a counted packet.
 abbrev pub counted_line : CountedPacket → List ℕ
 counted_line p = sent_line p.to p.messages p.bytes
-
--- The name of a counted packet.
-abbrev pub planned_for : ℕ → CountedPacket → PlannedPacket
-planned_for before p = record { name = packet_name p.to before; to = p.to }
-
--- A planned packet as a file, with these bytes for its address.
-abbrev pub file_with : (Address → List ℕ) → PlannedPacket → PacketFile
-file_with content p = record { name = p.name; bytes = content p.to }

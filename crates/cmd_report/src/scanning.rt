@@ -1,47 +1,27 @@
 //! The names of the packets of a scan, and their lines.
-ghost use Rattle.std.specs.Prelude.{◌≡◌, ◌++◌, map, IfOk, OnOk};
+ghost use Rattle.std.specs.Prelude.{◌≡◌, ◌++◌, IfOk, OnOk};
 ghost use Rattle.std.specs.List.{flat_map};
-ghost use Rattle.cmd_report.specs.Scanned.{counted_line, line_sent, packet_name, planned_for, resent_name};
+ghost use Rattle.cmd_report.specs.Scanned.{counted_line, line_sent, packet_name, resent_name};
 ghost use Rattle.cmd_report.specs.Lines.{named_receiver};
 
 use crate::lines::push_sent;
-use echo_addr::{Address, Items};
+use echo_addr::Address;
 use echo_packet::Header;
 use echo_toss::CountedPacket;
 use model_steps::Packet;
 use std::alloc::{AllocError, Global};
 
-/// A packet that is to be made: its name in the folder of packets, and its address. Its bytes are made when they are
-/// written.
-#[derive(Debug, Drop)]
-pub struct PlannedPacket {
-    pub name: Items<u8>,
-    pub to: Address,
-}
-
-/// The name of each packet, with this number of messages scanned before. Adds a line for each.
-pub fn planned_packets(
-    alloc: Global,
-    packets: &[CountedPacket],
-    before: usize,
-    lines: &mut Vec<u8>,
-) -> Result<Vec<PlannedPacket>, AllocError>
-    ensures planned { IfOk result (λ planned. planned.items ≡ map (planned_for before) packets.now) }
-    ensures lines { OnOk result (lines.new.items ≡ lines.old.items ++ flat_map counted_line packets.now) }
+/// Adds a line for each counted packet.
+pub fn push_counted(lines: &mut Vec<u8>, packets: &[CountedPacket]) -> Result<(), AllocError>
+    ensures { OnOk result (lines.new.items ≡ lines.old.items ++ flat_map counted_line packets.now) }
 {
-    let mut planned = Vec::with_capacity(alloc, packets.len())?;
     'packets: for packet in packets {
         push_sent(lines, packet.to, packet.messages, packet.bytes)?;
-        let name = packet_name(alloc, packet.to, before)?;
-        planned.push(PlannedPacket {
-            name: Items::new(name),
-            to: packet.to,
-        })?;
     }
-    Ok(planned)
+    Ok(())
 }
 
-// Whom a packet is for.
+// The address of a packet.
 fn destination(header: &Header) -> Address
     ensures { result ≡ named_receiver header.now }
 {
@@ -52,8 +32,8 @@ fn destination(header: &Header) -> Address
     }
 }
 
-// The name of the file of a packet.
-fn packet_name(alloc: Global, to: Address, before: usize) -> Result<Vec<u8>, AllocError>
+/// The name of the file of a packet, with this number of messages scanned before.
+pub fn packet_name(alloc: Global, to: Address, before: usize) -> Result<Vec<u8>, AllocError>
     ensures { IfOk result (λ name. name.items ≡ packet_name to before) }
 {
     let zone = to.zone;

@@ -2,7 +2,7 @@
 use Rattle.std.proofs.Common.{◌≡◌, ◌∙◌, ⊎_elim, ℕ, zero, suc, ◌+◌, ◌<◌, Bool, true, false, true≢false, List, [], ◌∷◌, ◌++◌, map, drop, length, Option, Some, None, inl, inr, refl, sym, ap, subst, arith, append_assoc, length-append}
 use Rattle.std.specs.Prelude.{SomeIff, filter, find, nat_lt, bytes_eq, get_or, slice_get, option_map, unwrap_or}
 use Rattle.std.specs.List.{AllByRecursion, flat_map}
-use Rattle.std.proofs.lemmas.Bool.{cases_Bool, cond-false, cond-true, lt-ltb}
+use Rattle.std.proofs.lemmas.Bool.{cases_Bool, cond-false, cond-true, lt-ltb, ltb-true}
 use Rattle.std.proofs.lemmas.List.{append-nil, map-append}
 use Rattle.std.proofs.lemmas.List.Elements.{filter-append}
 use Rattle.std.specs.Cmp.Lexicographic.{bytes_decides}
@@ -67,6 +67,12 @@ pub group_counted : (sent more : List Outgoing) (all : List Address) → map (co
 group_counted sent more [] = refl
 group_counted sent more (a ∷ all) = let one = more_in sent more a in let rest = group_counted sent more all in λ i. one i ∷ rest i
 
+-- a packet with messages has some after more of them
+pub has_later : (sent more : List Outgoing) (a : Address) → has_messages (counted_to sent a) ≡ true → has_messages (counted_to (sent ++ more) a) ≡ true
+has_later sent more a has =
+    let both = ap length (copies_append a sent more) ∙ length-append (copies_out a sent) (copies_out a more) in
+    lt-ltb 0 (length (copies_out a (sent ++ more))) (let some = ltb-true 0 (length (copies_out a sent)) has in omega (arith, some, both))
+
 -- ---- areas by their number
 
 pub no_area : Area
@@ -126,7 +132,7 @@ filter_ascending before q (x ∷ xs) h = elim (cases_Bool (q x)) [
   | inr goes ↦ subst (Ascending before) (sym (cond-false (q x) (x ∷ filter q xs) (filter q xs) goes)) (filter_ascending before q xs h.1)
 ]
 
-filter_map : {X Y : Type 0} (p : Y → Bool) (f : X → Y) (xs : List X) → filter p (map f xs) ≡ map f (filter (λ x. p (f x)) xs)
+pub filter_map : {X Y : Type 0} (p : Y → Bool) (f : X → Y) (xs : List X) → filter p (map f xs) ≡ map f (filter (λ x. p (f x)) xs)
 filter_map p f [] = refl
 filter_map p f (x ∷ xs) = elim (cases_Bool (p (f x))) [
   | inl stays ↦
@@ -242,14 +248,20 @@ outs_counted : (file : LinkFile) (stamp : Stamp) (sent : List Outgoing) (all : L
 outs_counted file stamp sent [] = refl
 outs_counted file stamp sent (a ∷ all) = let one = out_counted file stamp sent a in let rest = outs_counted file stamp sent all in λ i. one i ∷ rest i
 
+-- the packets of a scan are those of the links that get some
+pub scanned_to : (file : LinkFile) (messages : List Filed) (cursor : ℕ) (sent : List Outgoing) → sent ≡ sent_of file (drop cursor messages) → (stamp : Stamp)
+    → map (packet_out file stamp sent) (filter (λ a. has_messages (counted_to sent a)) (link_set file)) ≡ scanned file messages cursor stamp
+scanned_to file messages cursor sent is stamp =
+    let outs = map (outgoing_of file) (drop cursor messages) in
+    let inside : (x : Address) → IsIn x (all_targets sent) → IsIn x (link_set file) =
+    λ x h. targets_linked file (drop cursor messages) x (subst (IsIn x) (ap all_targets is ∙ kept_targets outs) h) in
+    ap (map (packet_out file stamp sent)) (those_that_get sent (flat_map (λ area. links_of file area.tag) file.areas) inside)
+    ∙ scan_made file stamp messages cursor (packets_out file stamp sent) sent is refl
+
 -- those of all links that have messages are the packets of a scan
 pub all_counted : (file : LinkFile) (messages : List Filed) (cursor : ℕ) (sent : List Outgoing) (packets : List CountedPacket) → sent ≡ sent_of file (drop cursor messages)
     → packets ≡ map (counted_to sent) (link_set file) → (stamp : Stamp) → filter has_messages packets ≡ map counted_of (scanned file messages cursor stamp)
 all_counted file messages cursor sent packets is all stamp =
-    let outs = map (outgoing_of file) (drop cursor messages) in
-    let inside : (x : Address) → IsIn x (all_targets sent) → IsIn x (link_set file) =
-    λ x h. targets_linked file (drop cursor messages) x (subst (IsIn x) (ap all_targets is ∙ kept_targets outs) h) in
     ap (filter has_messages) all ∙ filter_map has_messages (counted_to sent) (link_set file)
-    ∙ ap (map (counted_to sent)) (those_that_get sent (flat_map (λ area. links_of file area.tag) file.areas) inside)
-    ∙ sym (outs_counted file stamp sent (address_set (all_targets sent)))
-    ∙ ap (map counted_of) (scan_made file stamp messages cursor (packets_out file stamp sent) sent is refl)
+    ∙ sym (outs_counted file stamp sent (filter (gets sent) (link_set file)))
+    ∙ ap (map counted_of) (scanned_to file messages cursor sent is stamp)

@@ -7,7 +7,6 @@ pub mod AscendingSets
 pub mod Searches
 pub mod Exports
 pub mod Counts
-pub mod Begun
 pub mod Resendings
 pub mod Counted
 pub mod PacketTosses

@@ -1,5 +1,5 @@
 -- The packets of a scan, counted group by group.
-use Rattle.std.specs.Prelude.{◌≡◌, ℕ, ◌+◌, nat_lt, Bool, not, List, ◌++◌, map, filter, length, drop}
+use Rattle.std.specs.Prelude.{◌≡◌, ℕ, ◌+◌, nat_lt, Bool, List, ◌++◌, map, filter, length, drop}
 use Rattle.std.specs.List.{flat_map}
 use Rattle.echo_addr.specs.declared.address.Address.{Address}
 use Rattle.echo_packet.specs.Message.{Message, messages_bytes}
@@ -57,7 +57,3 @@ counted_with sent packet = record {
 -- The packet has messages.
 abbrev pub has_messages : CountedPacket → Bool
 has_messages packet = nat_lt 0 packet.messages
-
--- Of the packets without messages, those that get some of these, with them.
-abbrev pub begun_with : List Outgoing → List CountedPacket → List CountedPacket
-begun_with sent packets = filter has_messages (map (counted_with sent) (filter (λ packet. not (has_messages packet)) packets))

@@ -1,12 +1,12 @@
-//! The packets of a scan, counted and not held: whom each is for, and how large it will be.
-ghost use Rattle.std.specs.Prelude.{◌≡◌, [], ◌∷◌, map, filter, slice_get, Some, IfOk, IsErrOf, OnErr, OnOk};
+//! The packets of a scan are counted: the address of each, and its size.
+ghost use Rattle.std.specs.Prelude.{◌≡◌, [], ◌∷◌, map, filter, slice_get, Some, IfOk, IsErrOf};
 ghost use Rattle.disk_io.specs.Disk.{Honestly};
 ghost use Rattle.base_file.specs.Base.{Base};
 ghost use Rattle.base_store.specs.Store.{HasStoreCause, LooksOn};
 ghost use Rattle.echo_links.specs.Links.{Area, links_of};
 ghost use Rattle.model_steps.specs.Scanning.{scanned};
 ghost use Rattle.echo_toss.specs.Bounds.{IsFullWhenRead};
-ghost use Rattle.echo_toss.specs.Counts.{begun_with, counted_to, counted_with, counted_of, has_messages, link_set};
+ghost use Rattle.echo_toss.specs.Counts.{counted_to, counted_with, counted_of, has_messages, link_set};
 
 use crate::grouping::{Group, group_from};
 use crate::outgoing::{Outgoing, links_of};
@@ -17,7 +17,6 @@ use echo_addr::Address;
 use echo_links::LinkFile;
 use model_steps::{Stamp, message_size};
 use std::alloc::{AllocError, Global};
-use std::marker::Model;
 
 /// A packet that a scan will make: its address, and how many messages and bytes it will have.
 #[derive(Clone, Copy, Debug, PartialEq, Eq)]
@@ -27,59 +26,23 @@ pub struct CountedPacket {
     pub bytes: usize,
 }
 
-/// How many messages and bytes each packet of a scan has so far: a count for each link, ascending.
-#[derive(Drop)]
-pub struct Counting {
-    packets: Vec<CountedPacket>,
-}
-
-impl Model for Counting {
-    ghost use Rattle.std.specs.Prelude.{List};
-    ghost use Rattle.echo_toss.specs.declared.counting.CountedPacket as model;
-
-    ghost Value = { List model.CountedPacket };
-
-    ghost view = { λ c. c.packets.items };
-}
-
-impl Counting {
-    /// A count for each link. There is no message so far.
-    pub fn new(alloc: Global, links: &LinkFile) -> Result<Counting, AllocError>
-        ensures { IfOk result (λ counts. counts ≡ map (counted_to []) (link_set links.now)) }
+impl CountedPacket {
+    /// The packet for this address, without messages.
+    pub fn empty(to: Address) -> CountedPacket
+        ensures { result ≡ counted_to [] to }
     {
-        let addresses = link_set(alloc, links)?;
-        let packets = none_counted(alloc, &addresses)?;
-        Ok(Counting { packets })
+        CountedPacket {
+            to,
+            messages: 0,
+            bytes: EMPTY,
+        }
     }
 
-    /// The packets that have their first messages in the group, with these.
-    pub fn first_of(&self, alloc: Global, group: &Group) -> Result<Vec<CountedPacket>, AllocError>
-        ensures { IfOk result (λ all. all.items ≡ begun_with group.now.sent self.now) }
+    /// The packet with the copies of the group added.
+    pub fn with_group(self, group: &Group) -> Result<CountedPacket, AllocError>
+        ensures { IfOk result (λ more. more ≡ counted_with group.now.sent self) }
     {
-        let none: Vec<CountedPacket> = self
-            .packets
-            .iter()
-            .copied()
-            .filter(|packet| packet.messages == 0)
-            .collect(alloc)?;
-        let counted = count_group(alloc, &none, group.sent())?;
-        with_messages(alloc, &counted)
-    }
-
-    /// Counts the group too.
-    pub fn add(&mut self, alloc: Global, group: &Group) -> Result<(), AllocError>
-        ensures added { OnOk result (self.new ≡ map (counted_with group.now.sent) self.old) }
-        ensures same { OnErr result (self.new ≡ self.old) }
-    {
-        self.packets = count_group(alloc, &self.packets, group.sent())?;
-        Ok(())
-    }
-
-    /// The packets that have messages.
-    pub fn made(&self, alloc: Global) -> Result<Vec<CountedPacket>, AllocError>
-        ensures { IfOk result (λ all. all.items ≡ filter has_messages self.now) }
-    {
-        with_messages(alloc, &self.packets)
+        count_copies(self, group.sent())
     }
 }
 
@@ -98,19 +61,21 @@ pub fn counted_from<T: Store>(
     ensures many { IsErrOf result StoreError.TooMany → IsFullWhenRead T.state (T.state store.old) }
     ensures cause { HasStoreCause (T.state store.old) (T.state store.new) (T.failures store.old) (T.failures store.new) result }
 {
-    let mut counts = Counting::new(alloc, links)?;
+    let addresses = link_set(alloc, links)?;
+    let mut counts = none_counted(alloc, &addresses)?;
     let end = store.len();
     let mut at = from;
     'groups: while at < end {
         let group = group_from(alloc, links, store, at, end)?;
-        counts.add(alloc, &group)?;
+        let more = count_group(alloc, &counts, group.sent())?;
+        counts = more;
         at = group.next();
     }
-    Ok(counts.made(alloc)?)
+    Ok(with_messages(alloc, &counts)?)
 }
 
-// The links of all areas, ascending.
-fn link_set(alloc: Global, links: &LinkFile) -> Result<Vec<Address>, AllocError>
+/// The links of all areas, ascending.
+pub fn link_set(alloc: Global, links: &LinkFile) -> Result<Vec<Address>, AllocError>
     ensures { IfOk result (λ all. all.items ≡ link_set links.now) }
 {
     let mut all = Vec::new(alloc);
@@ -131,7 +96,7 @@ fn links_in(links: &LinkFile, i: usize) -> &[Address]
 }
 
 // The number of bytes of a packet outside its messages: the header, and 00 00.
-const BESIDE: usize = 60;
+const EMPTY: usize = 60;
 
 // A packet without messages for each address.
 fn none_counted(alloc: Global, addresses: &[Address]) -> Result<Vec<CountedPacket>, AllocError>
@@ -139,11 +104,7 @@ fn none_counted(alloc: Global, addresses: &[Address]) -> Result<Vec<CountedPacke
 {
     let mut all = Vec::with_capacity(alloc, addresses.len())?;
     'addresses: for to in addresses {
-        all.push(CountedPacket {
-            to: *to,
-            messages: 0,
-            bytes: BESIDE,
-        })?;
+        all.push(CountedPacket::empty(*to))?;
     }
     Ok(all)
 }

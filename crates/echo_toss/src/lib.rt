@@ -34,7 +34,7 @@ mod tosser;
 mod tossing;
 
 pub use base_file::BaseFault;
-pub use counting::{CountedPacket, Counting, counted_from};
+pub use counting::{CountedPacket, counted_from, link_set};
 pub use echo_filed::Filed;
 pub use echo_links::{LinkFault, LinkFile};
 pub use fault::{TossCause, TossFault};

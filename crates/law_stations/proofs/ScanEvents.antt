@@ -25,8 +25,8 @@ use Rattle.station.specs.Place.{KeepsElsewhere, Place, StandsOrWasLeft}
 use Rattle.station.specs.Running.{IsNotRun, IsStopped}
 use Rattle.station_scan.specs.Left.{IsLeftOf}
 use Rattle.station_scan.specs.Publishing.{UnchangedExcept}
-use Rattle.station_scan.specs.Scanning.{AreSentOut, IsOnItsWay, IsPreparing, IsPutAs, IsPutIn, IsTaken, IsTouched, MayLeave, ScansIn, StopsScanIn, TellsStop, packets_in}
-use Rattle.station_scan.specs.Sending.{HasBytes, IsStagingOfPacket, IsOfPacket, StandsWhole}
+use Rattle.station_scan.specs.Scanning.{AreSentOut, IsOnItsWay, IsPreparing, IsPutAs, IsPutIn, IsTaken, IsTouched, MayLeave, ScansIn, StopsScanIn, ReportsStop, packets_in}
+use Rattle.station_scan.specs.Sending.{HasBytes, IsStagingOfPacket, IsOfPacket, IsWhole}
 use Rattle.station_scan.specs.Sends.{IsOfThese}
 use Rattle.station_scan.specs.Stops.{IsOfPlacing, as_scan, most}
 use Rattle.station_scan.specs.declared.scan_error.ScanError.{ScanError}
@@ -206,7 +206,7 @@ module _ (stamp : Stamp) (place : Place) (links outbound : List ℕ) (i : ℕ) (
                 inr
                 (after c linked comes.2 comes.0
                 (parted (IsAtPath outbound c) (IsStagingPath outbound own c) i base.cursor (length base.messages) files ended.staging (with_left ended.net i [] next) now-has
-                (some-waits file base.messages base.cursor stamp files answers.right.packets) (recursion_from_All (StandsWhole outbound own c) files comes.1)))
+                (some-waits file base.messages base.cursor stamp files answers.right.packets) (recursion_from_All (IsWhole outbound own c) files comes.1)))
           ]
 
       may-away : (c : Files) → MayLeave place outbound own old base put.found files put.opened c → SameAway c
@@ -279,17 +279,17 @@ module _ (stamp : Stamp) (place : Place) (links outbound : List ℕ) (i : ℕ) (
   }
 
   -- the reported fault
-  told-as : (own : List ℕ) (files : List PacketFile) (failed : Type 0) (before after : Files) (why : CommandError) (result : Result (Unit {0}) ScanError) → TellsStop failed outbound own files before after why result
+  reported-as : (own : List ℕ) (files : List PacketFile) (failed : Type 0) (before after : Files) (why : CommandError) (result : Result (Unit {0}) ScanError) → ReportsStop failed outbound own files before after why result
       → (cause : ScanError) × (result ≡ Err cause)
-  told-as own files failed before after why result (inl (is, gone)) = (Command why, is)
-  told-as own files failed before after why result (inr (left, is, cause)) = (Staying left, is)
+  reported-as own files failed before after why result (inl (is, gone)) = (Command why, is)
+  reported-as own files failed before after why result (inr (left, is, cause)) = (Staying left, is)
 
   -- if it stopped while its packets were made
   stopped-in : (own : List ℕ) (files : List PacketFile) (IsTrue : Files → Type 0) (failed : Type 0) (why : CommandError) (result : Result (Unit {0}) ScanError) → StopsScanIn place outbound own IsTrue failed old new base files why result
       → ScansAsEvent stamp place links outbound i d ended base old new result
   stopped-in own files IsTrue failed why result stops =
       let is_true = IsTrue stops.opened in
-      let (cause, is) = told-as own files failed stops.opened new.seen why result stops.told in
+      let (cause, is) = reported-as own files failed stops.opened new.seen why result stops.reported in
       stopped-so result cause (λ c. old.may_leave c ⊎ IsPreparing place outbound own old base stops.found files c) is stops.crash (may-prepare-away own files stops.found is_true stops.each) (may-prepare own files stops.found is_true stops.each)
       (λ met c left. inl (prepares-shows own files stops.found is_true stops.each c (stops.lasts c left)))
 

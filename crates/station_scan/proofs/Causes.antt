@@ -5,7 +5,7 @@ use Rattle.disk_atomic.specs.declared.placing_error.PlacingError.TheVariants as 
 use Rattle.base_store.specs.Store.{StoreState}
 use Rattle.station.proofs.Failures.{failed_wider}
 use Rattle.station_scan.specs.Publishing.{HasPublishCause}
-use Rattle.station_scan.specs.Writing.{HasStopCause, stop_told}
+use Rattle.station_scan.specs.Writing.{HasStopCause, publish_stop}
 use Rattle.station_scan.specs.declared.passing.PassStop.{PassStop}
 use Rattle.station_scan.specs.declared.passing.PassStop.TheVariants.{Placing, Reading}
 use Rattle.station_scan.specs.declared.publish_error.PublishError.{PublishError}
@@ -13,8 +13,8 @@ use Rattle.station_scan.specs.declared.publish_error.PublishError.TheVariants.{P
 
 -- the staging files were removed
 module _ {S T : Type 0} (state : S → StoreState) (s0 s1 s2 : StoreState) (f0 f1 f2 : ℕ) (run : s2.disk.is_honest → s1.disk.is_honest) where
-  pub told_stop : (stop : PassStop) → HasStopCause {T = Unit {0}} state s0 s1 f0 f1 (Err stop) → f1 ≤ f2 → HasPublishCause {T = T} state s0 s2 f0 f2 (Err (stop_told stop))
-  told_stop (Placing cause) was more = record {
+  pub publish_stop_cause : (stop : PassStop) → HasStopCause {T = Unit {0}} state s0 s1 f0 f1 (Err stop) → f1 ≤ f2 → HasPublishCause {T = T} state s0 s2 f0 f2 (Err (publish_stop stop))
+  publish_stop_cause (Placing cause) was more = record {
     later = omega (arith, was.later, more);
     packets = λ e. failed_wider f0 f0 f1 f2 (omega arith) more (was.placing (cc e));
     staging = λ e. absurd (cc e);
@@ -25,7 +25,7 @@ module _ {S T : Type 0} (state : S → StoreState) (s0 s1 s2 : StoreState) (f0 f
     many = λ e. absurd (cc e);
     full = λ e. absurd (cc e);
   }
-  told_stop (Reading cause) was more = record {
+  publish_stop_cause (Reading cause) was more = record {
     later = omega (arith, was.later, more);
     packets = λ e. absurd (cc e);
     staging = λ e. absurd (cc e);
@@ -38,6 +38,6 @@ module _ {S T : Type 0} (state : S → StoreState) (s0 s1 s2 : StoreState) (f0 f
   }
 
 -- a path in use stopped the pass
-pub told_taken : (stop : PassStop) (why : PublishError) → why ≡ stop_told stop → IsErrOf {T = Unit {0}} (Err why) (Packets placing.Taken) → IsErrOf {T = Unit {0}} (Err stop) (Placing placing.Taken)
-told_taken (Placing cause) why is taken = cc (is, taken)
-told_taken (Reading cause) why is taken = absurd (cc (is, taken))
+pub publish_stop_taken : (stop : PassStop) (why : PublishError) → why ≡ publish_stop stop → IsErrOf {T = Unit {0}} (Err why) (Packets placing.Taken) → IsErrOf {T = Unit {0}} (Err stop) (Placing placing.Taken)
+publish_stop_taken (Placing cause) why is taken = cc (is, taken)
+publish_stop_taken (Reading cause) why is taken = absurd (cc (is, taken))

@@ -1,4 +1,4 @@
--- What is found of what was listed, one by one.
+-- Leftover packets are found one by one.
 use Rattle.std.proofs.Common.{◌≡◌, ⊎_elim, ◌∙◌, ◌<◌, ◌≤◌, ℕ, List, [], ◌∷◌, ◌++◌, ap, arith, get_or, length, length-append, subst, sym}
 use Rattle.std.specs.Prelude.{All, AllPairs, Contains, IsSome, Option}
 use Rattle.disk_atomic.specs.StagingPaths.{staging_path}
@@ -48,7 +48,7 @@ module _ (Own : List ℕ → Type 0) (folder own : List ℕ) (named : List Stage
       (λ more. subst (IsAmong path) (sym more.1) (is.0, Contains-append_left before (more.0 ∷ []) is.0 is.1, is.2))
       adds
 
-  -- what was found of those before
+  -- the packets found so far
   pub where_more : (files : Files) (p : StagedPacket) → Adds Own folder own packet before after → IsFoundWhere Own folder own files before p → IsFoundWhere Own folder own files after p
   where_more files p adds was = λ to. among_more (folder ++ p.name) adds (was to)
 

@@ -1,4 +1,4 @@
--- What earlier scans left, as it is brought to its end.
+-- Leftover packets are finished.
 use Rattle.std.proofs.Common.{◌≡◌, ◌≢◌, inl, inr, ⊎_elim, ◌∙◌, ◌<◌, ℕ, List, [], ◌++◌, ap, arith, get_or, length, map, refl, subst, sym}
 use Rattle.std.specs.Prelude.{All, Contains, Err, IsSome, None, Ok, OnOk, Result}
 use Rattle.std.proofs.lemmas.Bool.{cases_lt}
@@ -19,7 +19,7 @@ use Rattle.station_scan.specs.Sending.{IsOffOwn}
 use Rattle.disk_atomic.specs.declared.listing.StagedPacket.{StagedPacket}
 use Rattle.station_scan.specs.declared.finding.LeftPaths.{LeftPaths}
 use Rattle.station_scan.specs.declared.sending.TwoPaths.{TwoPaths}
-use Rattle.station_scan.specs.Left.{AreAllLeft, AreFound, AreFreeLeft, AreLent, EndsLeft, EndsThese, IsStagingThere, IsFound, IsFreeFound, IsFoundWhere, IsEndedAt, IsLeftOf, IsLent, IsOfNameOff, IsOfPaths, IsToFind}
+use Rattle.station_scan.specs.Left.{AreAllLeft, AreFound, AreFreeLeft, AreSameLeft, EndsLeft, EndsThese, IsStagingThere, IsFound, IsFreeFound, IsFoundWhere, IsEndedAt, IsLeftOf, IsSameLeft, IsOfNameOff, IsOfPaths, IsToFind}
 use Rattle.station_scan.proofs.Names.{four_apart, name_staging_in, name_in}
 use Rattle.disk_atomic.proofs.Whole.{on_ok_any as on_ok_so}
 
@@ -34,7 +34,7 @@ no_paths = record { two = record { path = []; staging = [] }; before = 0 }
 nobody_left : Left
 nobody_left = as_left no_paths
 
-all_lent : (paths : List LeftPaths) → AreLent paths (map as_left paths)
+all_lent : (paths : List LeftPaths) → AreSameLeft paths (map as_left paths)
 unfolding as_left
 all_lent paths = record {
   as_many = length-map paths as_left;
@@ -84,7 +84,7 @@ module _ (cursor : ℕ) (d0 d1 d2 : DiskState) (quiet : ChangesNothing d1 d2) wh
     untouched = λ above. quiet.seen l.path.now ∙ is.untouched above;
   }
 
--- they are at their end, and then it is on the disk that what is gone is gone
+-- they are finished, and the removals are on the disk
 module _ (cursor : ℕ) (folder : List ℕ) (found : List Left) (placed : AreLeftIn folder found) (d0 d1 d2 : DiskState) (quiet : ChangesNothing d1 d2) where
   is_flushed : ((m : List ℕ) → IsIn folder m → d2.seen m ≡ None → d2.is_flushed m) → All (IsOver cursor d0 d2) found → (m : List ℕ) → IsEndedAt cursor found d2.seen m → d2.is_flushed m
   is_flushed gone over m (l, is, at) =
@@ -97,7 +97,7 @@ module _ (cursor : ℕ) (folder : List ℕ) (found : List Left) (placed : AreLef
       (λ free. gone m (subst (IsIn folder) (sym path.0) inside.path_in) free) path.1)
       at
 
-  pub settled_these : (paths : List LeftPaths) → AreLent paths found → ((m : List ℕ) → IsIn folder m → d2.seen m ≡ None → d2.is_flushed m) → All (IsOver cursor d0 d1) found → ((m : List ℕ) → IsIn folder m → d1.is_named m)
+  pub settled_these : (paths : List LeftPaths) → AreSameLeft paths found → ((m : List ℕ) → IsIn folder m → d2.seen m ≡ None → d2.is_flushed m) → All (IsOver cursor d0 d1) found → ((m : List ℕ) → IsIn folder m → d1.is_named m)
       → LeavesOnly d0 d1 (OneStepOn (FinishesEach cursor found) d0) → ChangesOnly (IsOfLeft found) d0 d1 → EndsThese cursor paths d0 d2 (Ok tt)
   settled_these paths lent gone over named run changes =
       let still : All (IsOver cursor d0 d2) found = λ k z lt. over_still cursor d0 d1 d2 quiet (get_or found k z) (over k z lt) in
@@ -111,7 +111,7 @@ module _ (cursor : ℕ) (folder : List ℕ) (found : List Left) (placed : AreLef
         changes = then_only (IsOfLeft found) d0 d1 d2 changes (only_nothing (IsOfLeft found) d1 d2 quiet);
       }
 
-  pub unsettled_these : (paths : List LeftPaths) (cause : PlacingError) → AreLent paths found → LeavesOnly d0 d1 (OneStepOn (FinishesEach cursor found) d0) → ChangesOnly (IsOfLeft found) d0 d1 → EndsThese cursor paths d0 d2 (Err cause)
+  pub unsettled_these : (paths : List LeftPaths) (cause : PlacingError) → AreSameLeft paths found → LeavesOnly d0 d1 (OneStepOn (FinishesEach cursor found) d0) → ChangesOnly (IsOfLeft found) d0 d1 → EndsThese cursor paths d0 d2 (Err cause)
   unsettled_these paths cause lent run changes = record {
     found = found;
     lent = lent;
@@ -122,11 +122,11 @@ module _ (cursor : ℕ) (folder : List ℕ) (found : List Left) (placed : AreLef
     changes = then_only (IsOfLeft found) d0 d1 d2 changes (only_nothing (IsOfLeft found) d1 d2 quiet);
   }
 
-module _ (paths : List LeftPaths) (found : List Left) (lent : AreLent paths found) where
+module _ (paths : List LeftPaths) (found : List Left) (lent : AreSameLeft paths found) where
   within : (k : ℕ) → k < length found → k < length paths
   within k lt = subst (λ (n : ℕ). k < n) lent.as_many lt
 
-  -- the files beside them are there
+  -- their staging files exist
   pub are_there : (disk : DiskState) → All (IsStagingThere disk.seen) paths → All (IsThere disk) found
   are_there disk all k z lt =
       let is = lent.each k no_paths z (within k lt) in
@@ -140,7 +140,7 @@ module _ (paths : List LeftPaths) (found : List Left) (lent : AreLent paths foun
 
   pub of_paths : (m : List ℕ) → IsOfLeft found m → IsOfPaths paths m
   of_paths m (l, is, at) =
-      let one : (w : LeftPaths) × Contains paths w × IsLent w l = All-contains (λ (x : Left). (w : LeftPaths) × Contains paths w × IsLent w x) found l
+      let one : (w : LeftPaths) × Contains paths w × IsSameLeft w l = All-contains (λ (x : Left). (w : LeftPaths) × Contains paths w × IsSameLeft w x) found l
       (λ k z lt. (get_or paths k no_paths, Contains-get_or paths k no_paths (within k lt), lent.each k no_paths z (within k lt))) is in
       (one.0, one.1, ⊎_elim (λ e. inl (e ∙ one.2.staging)) (λ e. inr (e ∙ one.2.path)) at)
 
@@ -224,7 +224,7 @@ left_of_name Own folder own named paths are m (w, is, at) =
       λ o. ⊎_elim (λ (e : m ≡ w.two.staging). like.off.staging (subst Own e o)) (λ (e : m ≡ w.two.path). like.off.path (subst Own e o)) at,
     )
 
--- what was seen before is the same
+-- the files seen before are the same
 over_before : (cursor : ℕ) (d0 d1 d2 : DiskState) (l : Left) → ((m : List ℕ) → d1.seen m ≡ d0.seen m) → IsOver cursor d1 d2 l → IsOver cursor d0 d2 l
 over_before cursor d0 d1 d2 l same is = record {
   committed = λ below. let moved = is.committed below in record { seen = moved.seen ∙ same l.staging.now; gone = moved.gone; named = moved.named; flushed = moved.flushed };
@@ -250,7 +250,7 @@ quiet_start d = record {
 }
 
 module _ (is_true : Type 0) (Own : List ℕ → Type 0) (folder own : List ℕ) (cursor : ℕ) (d0 d1 : DiskState) (quiet : ChangesNothing d0 d1) where
-  -- nothing was brought to its end
+  -- nothing was finished
   pub nothing_left : (cause : PlacingError) → EndsLeft is_true Own folder own cursor d0 d1 (Err cause)
   nothing_left cause = record {
     found = [];

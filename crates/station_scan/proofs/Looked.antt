@@ -15,7 +15,7 @@ use Rattle.station_scan.specs.declared.scan_error.ScanError.TheVariants.{Staying
 use Rattle.station_scan.proofs.Lefts.{finishes_none}
 use Rattle.station_scan.proofs.Stops.{put_wider}
 
--- what is seen is the same
+-- the same files are seen
 pub same_seen : (a b : DiskState) → ChangesNothing a b → b.seen ≡ a.seen
 same_seen a b quiet =
     let h : (m : List ℕ) → b.seen m ≡ a.seen m = quiet.seen in
@@ -104,7 +104,7 @@ looked_stop Own outbound own Stays Stayed cursor files d0 d1 d2 quiet stays stoo
           (λ c step. (step.0, quiet.no_more step.0 step.1, record { between = step.2.between; ends = step.2.ends; writes = step.2.writes; stands = stays c step.2.stands }));
       shown = stays d2.seen stops.shown;
       others = λ m other. stops.others m other ∙ quiet.seen m;
-      told =
-          ⊎_elim (λ told. inl (told.0, λ m of. ⊎_elim (λ none. inl none) (λ same. inr (same ∙ quiet.seen m)) (told.1 m of)))
-          (λ told. inr (told.0, told.1, put_wider some failed ⊥ ⊥ ⊥ (Err (Staying told.0)) wider (λ none. none) told.2)) stops.told;
+      reported =
+          ⊎_elim (λ reported. inl (reported.0, λ m of. ⊎_elim (λ none. inl none) (λ same. inr (same ∙ quiet.seen m)) (reported.1 m of)))
+          (λ reported. inr (reported.0, reported.1, put_wider some failed ⊥ ⊥ ⊥ (Err (Staying reported.0)) wider (λ none. none) reported.2)) stops.reported;
     }

@@ -1,17 +1,31 @@
 -- Names of packets, and paths that are not the same.
-use Rattle.std.proofs.Common.{◌≡◌, ◌≢◌, ◌∙◌, ◌+◌, ◌<◌, ℕ, List, [], ◌++◌, ap, arith, append_assoc, codes, get_or, length, length-append, refl, sym}
-use Rattle.std.specs.Prelude.{All}
+use Rattle.std.proofs.Common.{◌≡◌, ◌≢◌, ◌∙◌, ◌+◌, ◌<◌, ◌^◌, ◌==◌, ℕ, true, false, true≢false, List, [], ◌∷◌, ◌++◌, ap, arith, append_assoc, codes, decimal, get_or, length, length-append, refl, sym}
+use Rattle.std.specs.Prelude.{All, AllPairs}
+use Rattle.std.specs.List.{AllByRecursion, flat_map}
+use Rattle.std.proofs.lemmas.Bool.{eqb-false}
+use Rattle.std.proofs.lemmas.Fmt.{decimal_injective}
+use Rattle.std.proofs.lemmas.List.Elements.{All-append, All-from_recursion}
+use Rattle.echo_addr.specs.declared.address.Address.{Address}
+use Rattle.echo_addr.proofs.Decimals.{IsDigit, digits_of_decimal}
+use Rattle.echo_filed.specs.Sets.{address_before, address_set}
+use Rattle.echo_filed.proofs.Choices.{all_weaker}
+use Rattle.echo_filed.proofs.Orders.{address_order}
+use Rattle.echo_filed.proofs.Sets.{ascending_pairs, set_ascending}
+use Rattle.echo_links.specs.Links.{LinkFile, links_of}
+use Rattle.echo_toss.specs.Counts.{link_set}
+use Rattle.cmd_report.specs.Scanned.{packet_name}
+use Rattle.station_scan.specs.Sending.{IsSized}
 use Rattle.std.proofs.lemmas.List.{append-nil, append_cancel_left, append_cancel_right, get_or-append-add}
 use Rattle.disk_io.specs.Disk.{IsIn}
 use Rattle.disk_atomic.specs.StagingPaths.{staging_path}
 use Rattle.station.proofs.StagingPaths.{staging_in}
 use Rattle.disk_atomic.specs.ListStaged.{IsNameByte}
 
--- what stands behind a path in the one beside it
+-- the end of a staging path
 abbrev pub ending : List ℕ → List ℕ
 ending own = codes ".~" ++ (own ++ codes "~.new")
 
--- a name has no tilde, so it does not end as what is beside a name
+-- a name has no tilde, so it is no staging path
 pub not_staging : (own n k : List ℕ) → All IsNameByte n → n ≢ k ++ ending own
 not_staging own n k name e =
     let at : get_or n (length k + 1) 0 ≡ 126 = ap (λ (l : List ℕ). get_or l (length k + 1) 0) e ∙ get_or-append-add k (ending own) 1 0 in
@@ -44,9 +58,77 @@ module _ (folder own n : List ℕ) where
   pub trial_not_staging : n ≢ [] → staging_path folder own ≢ staging_path (folder ++ n) own
   trial_not_staging some e = some (append_cancel_left folder n [] (sym (append_cancel_right folder (folder ++ n) (ending own) e) ∙ sym (append-nil folder)))
 
--- a packet of this name is in the folder, and so is what is beside it
+-- a packet with this name is in the folder, and its staging file too
 pub name_in : (folder n : List ℕ) → All IsNameByte n → IsIn folder (folder ++ n)
 name_in folder n is = record { name = n; parts = refl; plain = λ k d lt. (is k d lt).no_slash }
 
 pub name_staging_in : (folder own n : List ℕ) → All IsNameByte n → All (λ b. b ≢ 47) own → IsIn folder (staging_path (folder ++ n) own)
 name_staging_in folder own n is plain = staging_in folder (folder ++ n) own (name_in folder n is) plain
+
+-- ---- names of packets
+
+other_byte : (b : ℕ) → (b == 47) ≡ false → (b == 126) ≡ false → IsNameByte b
+other_byte b slash tilde = record { no_slash = eqb-false b 47 slash; no_tilde = eqb-false b 126 tilde }
+
+plain_digits : (n : ℕ) → n < 2 ^ 64 → All IsNameByte (decimal n)
+plain_digits n small =
+    All-from_recursion IsNameByte (decimal n)
+    (all_weaker IsDigit IsNameByte (λ b h. let low = h.0 in let high = h.1 in record { no_slash = λ e. omega arith; no_tilde = λ e. omega arith }) (decimal n) (digits_of_decimal n small))
+
+plain_dot : All IsNameByte (codes ".")
+plain_dot = All-from_recursion IsNameByte (codes ".") (other_byte 46 refl refl, tt)
+
+plain_end : All IsNameByte (codes ".pkt")
+plain_end = All-from_recursion IsNameByte (codes ".pkt") (other_byte 46 refl refl, (other_byte 112 refl refl, (other_byte 107 refl refl, (other_byte 116 refl refl, tt))))
+
+pub name_plain : (a : Address) (n : ℕ) → IsSized a → n < 2 ^ 64 → All IsNameByte (packet_name a n)
+name_plain a n sized small =
+    let zone = sized.zone in
+    let net = sized.net in
+    let node = sized.node in
+    All-append IsNameByte (decimal a.zone) _ (plain_digits a.zone (omega arith))
+    (All-append IsNameByte (codes ".") _ plain_dot
+    (All-append IsNameByte (decimal a.net) _ (plain_digits a.net (omega arith))
+    (All-append IsNameByte (codes ".") _ plain_dot
+    (All-append IsNameByte (decimal a.node) _ (plain_digits a.node (omega arith))
+    (All-append IsNameByte (codes ".") _ plain_dot (All-append IsNameByte (decimal n) _ (plain_digits n small) plain_end))))))
+
+pub name_some : (a : Address) (n : ℕ) → packet_name a n ≢ []
+name_some a n e =
+    let rest = decimal a.net ++ (codes "." ++ (decimal a.node ++ (codes "." ++ (decimal n ++ codes ".pkt")))) in
+    omega (arith, ap length e, length-append (decimal a.zone) (codes "." ++ rest))
+
+-- two texts without a dot, each before a dot
+dot_parts : (xs ys r s : List ℕ) → AllByRecursion (λ b. b ≢ 46) xs → AllByRecursion (λ b. b ≢ 46) ys → xs ++ 46 ∷ r ≡ ys ++ 46 ∷ s → (xs ≡ ys) × (r ≡ s)
+dot_parts [] [] r s p q e = (refl, cc e)
+dot_parts [] (y ∷ ys) r s p q e = absurd (q.0 (cc e))
+dot_parts (x ∷ xs) [] r s p q e = absurd (p.0 (cc e))
+dot_parts (x ∷ xs) (y ∷ ys) r s p q e =
+    let first : x ≡ y = cc e in
+    let more : xs ++ 46 ∷ r ≡ ys ++ 46 ∷ s = cc e in
+    let rest = dot_parts xs ys r s p.1 q.1 more in
+    (λ i. first i ∷ rest.0 i, rest.1)
+
+number_parts : (m n : ℕ) (r s : List ℕ) → m < 2 ^ 16 → n < 2 ^ 16 → decimal m ++ (codes "." ++ r) ≡ decimal n ++ (codes "." ++ s) → (m ≡ n) × (r ≡ s)
+number_parts m n r s low high e =
+    let small : m < 2 ^ 64 = omega arith in
+    let small_too : n < 2 ^ 64 = omega arith in
+    let no_dot = λ (k : ℕ) (lt : k < 2 ^ 64). all_weaker IsDigit (λ b. b ≢ 46) (λ b h. let least = h.0 in λ is. omega arith) (decimal k) (digits_of_decimal k lt) in
+    let parts = dot_parts (decimal m) (decimal n) r s (no_dot m small) (no_dot n small_too) e in
+    (decimal_injective m n small small_too parts.0, parts.1)
+
+-- packets for two addresses have two names
+pub name_other : (a b : Address) (n : ℕ) → IsSized a → IsSized b → packet_name a n ≡ packet_name b n → a ≡ b
+name_other a b n one two e =
+    let zone = number_parts a.zone b.zone _ _ one.zone two.zone e in
+    let net = number_parts a.net b.net _ _ one.net two.net zone.1 in
+    let node = number_parts a.node b.node _ _ one.node two.node net.1 in
+    λ i. record { zone = zone.0 i; net = net.0 i; node = node.0 i }
+
+-- the links of a link file are distinct
+pub links_differ : (file : LinkFile) → AllPairs (λ a b. a ≢ b) (link_set file)
+unfolding address_set
+links_differ file i j d lt hi e =
+    let all = flat_map (λ area. links_of file area.tag) file.areas in
+    let up = ascending_pairs address_before (address_set all) (set_ascending address_before address_order all) i j d lt hi in
+    true≢false (sym up ∙ ap (λ (x : Address). address_before x (get_or (link_set file) j d)) e ∙ address_order.apart (get_or (link_set file) j d))

@@ -1,4 +1,4 @@
--- What earlier scans left comes to its end, and then the packets of a scan and the commit of its store are put on the disk.
+-- Leftover packets are finished. Then the packets of a scan and the commit of its store get to the disk.
 use Rattle.std.proofs.Common.{◌≡◌, ◌<◌, ◌⊎◌, inl, inr, ⊎_elim, ◌∙◌, ℕ, List, All, get_or, refl, subst}
 use Rattle.std.specs.Prelude.{Err, IfErr, Ok, OnOk, Result}
 use Rattle.std.proofs.lemmas.Bool.{cases_lt}
@@ -20,14 +20,14 @@ use Rattle.station_scan.specs.Left.{AreFreeLeft, EndsLeft, IsEnded, IsLeftOf, Is
 use Rattle.station_scan.specs.Publishing.{IsOnDisk, KeepsStoreBut}
 use Rattle.station_scan.specs.Sending.{HasBytes, IsAtItsPath, IsStagingGone}
 use Rattle.station_scan.specs.Scanning.{AreSentOut, CommitsScan, IsTaken, IsTouched, PreparesScan, SendsOut}
-use Rattle.station_scan.specs.Sends.{AreSentOn, IsOfThese, SendsThese, WritesBeside}
+use Rattle.station_scan.specs.Sends.{AreSentOn, IsOfThese, SendsThese, WritesStaging}
 use Rattle.station_scan.specs.Stops.{IsOfPlacing, most}
 use Rattle.station_scan.specs.declared.scan_error.ScanError.{ScanError}
 use Rattle.station_scan.specs.declared.scan_error.ScanError.TheVariants.{Placing}
 use Rattle.station_scan.proofs.Published.{keeps_only, keeps_then, keeps_wider}
 use Rattle.station_scan.proofs.Stops.{placing_why, put_wider}
 
--- one that is over, by what is seen
+-- a finished packet in the files seen
 pub is_ended : (cursor : ℕ) (d0 d1 : DiskState) (l : Left) → IsOver cursor d0 d1 l → IsEnded cursor d0.seen d1.seen l
 is_ended cursor d0 d1 l over = record {
   committed = λ below. (over.committed below).seen;
@@ -35,7 +35,7 @@ is_ended cursor d0 d1 l over = record {
   gone = ⊎_elim (λ below. (over.committed below).gone) (λ above. over.gone above) (cases_lt l.before cursor);
 }
 
--- what is left is none of these
+-- a leftover packet has no own path
 left_off : (Own : List ℕ → Type 0) (is_true : Type 0) (outbound own : List ℕ) (found : List Left) → All (IsLeftOf is_true Own outbound own) found → (m : List ℕ) → Own m → IsOfLeft found m → ⊥
 left_off Own is_true outbound own found each m is (l, among, at) =
     let (name, like, numbered) = All-contains (IsLeftOf is_true Own outbound own) found l each among in
@@ -78,15 +78,15 @@ module _ (Own : List ℕ → Type 0) (outbound own : List ℕ) (is_true failed :
         weaker_run s0.disk s1.disk (OneStepOn (FinishesEach cursor found) s0.disk) Prepared ends.any_moment
         (λ c step. (step.0, step.1, record { between = c; ends = step.2; writes = λ m other. refl; stands = stands_ended step.0 c step.1 step.2 }))
 
-    pub stopped_crash : (s2 : StoreState) → LeavesOnly s1.disk s2.disk (WritesBeside s1 outbound own files first) → LeavesOnly s0.disk s2.disk Prepared
+    pub stopped_crash : (s2 : StoreState) → LeavesOnly s1.disk s2.disk (WritesStaging s1 outbound own files first) → LeavesOnly s0.disk s2.disk Prepared
     stopped_crash s2 run =
-        then_run s0.disk s1.disk s2.disk Prepared (WritesBeside s1 outbound own files first) stopped_only run
+        then_run s0.disk s1.disk s2.disk Prepared (WritesStaging s1 outbound own files first) stopped_only run
         (λ c over.
         let b = over.writes.0 in
         let at = left_now s0.disk s1.disk (OneStepOn (FinishesEach cursor found) s0.disk) ends.any_moment b over.writes.1 in
         (at.0, at.1, record { between = b; ends = at.2; writes = over.writes.2; stands = (used.same.stands first c).0 over.stands }))
 
-  -- they are at their end
+  -- they are finished
   module _ (ends : EndsLeft is_true Own outbound own cursor s0.disk s1.disk (Ok tt)) (s2 : StoreState) (honest2 : s2.disk.is_honest) (kept : KeepsStoreBut (IsOfThese s1.is_own outbound own files) s1 s2) (is : s0.keeps next) where
     abbrev these : List Left
     these = ends.found
@@ -151,7 +151,7 @@ module _ (Own : List ℕ → Type 0) (outbound own : List ℕ) (is_true failed :
       why = put_wider failed failed _ _ _ result (λ f. f) (λ taken. inr (s1.disk.seen, all_ended, ends.changes.seen, taken)) why;
     }
 
--- what it touches
+-- the paths that it touches
 pub out_keeps : (Own : List ℕ → Type 0) (outbound own : List ℕ) (s0 s1 s2 : StoreState) → IsUsedAt (IsOfNameOff Own outbound own) s0 s1 → KeepsStoreBut (IsTouched s1.is_own outbound) s1 s2 → KeepsStoreBut (IsTouched s0.is_own outbound) s0 s2
 out_keeps Own outbound own s0 s1 s2 used kept =
     let at = IsTouched s0.is_own outbound in

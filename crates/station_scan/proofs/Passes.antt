@@ -1,46 +1,40 @@
 -- A pass over the messages of a store, group by group.
-use Rattle.std.proofs.Common.{◌≡◌, ◌≢◌, ◌⊎◌, inl, inr, ⊎_elim, ◌∙◌, ◌<◌, ◌≤◌, ℕ, true, List, [], ◌++◌, get_or, length, drop, map, filter, refl, sym, subst, ap, append_assoc, arith}
-use Rattle.std.specs.Prelude.{All, Contains, IsSome, None, Ok, OnOk, Option, Result}
-use Rattle.disk_io.specs.declared.disk_error.DiskError.{DiskError}
-use Rattle.std.proofs.lemmas.List.{append-nil, append_cancel_left, drop_all, length-map}
-use Rattle.std.proofs.lemmas.List.Elements.{All-contains}
+use Rattle.std.proofs.Common.{◌≡◌, ◌≢◌, ◌⊎◌, inl, inr, ⊎_elim, ◌∙◌, ◌<◌, ◌≤◌, ◌==◌, ◌&&◌, ◌+◌, ℕ, Bool, false, not, List, [], ◌∷◌, ◌++◌, get_or, length, length-append, drop, map, filter, refl, sym, subst, ap, append_assoc, arith}
+use Rattle.std.specs.Prelude.{All, None, Ok, OnOk, Result, nat_lt}
+use Rattle.std.proofs.lemmas.Bool.{cases_Bool, eqb-true, false_from_ne_true, le-ltb, ltb-false, ltb-true, lt-ltb}
+use Rattle.std.proofs.lemmas.List.{append-nil, drop_all, map-id}
+use Rattle.std.proofs.lemmas.List.Elements.{All-contains, All-filter, All-head, All-map, All-tail, Contains-get_or}
 use Rattle.base_file.specs.Base.{Base}
-use Rattle.disk_io.specs.Disk.{DiskState, Honestly, bytes_in}
-use Rattle.disk_io.specs.Fixed.{AreBytes}
+use Rattle.disk_io.specs.Disk.{DiskState, Honestly}
 use Rattle.disk_io.specs.Runs.{ChangesNothing}
-use Rattle.disk_atomic.specs.ListStaged.{IsNameByte}
+use Rattle.disk_io.specs.declared.disk_error.DiskError.{DiskError}
 use Rattle.disk_atomic.specs.Outgoing.{IsAtStaging, IsFree, IsStagingGone}
 use Rattle.disk_atomic.specs.declared.outgoing.Outgoing.{Outgoing}
 use Rattle.disk_atomic.proofs.Changes.{only_nothing, then_only, wider}
+use Rattle.disk_atomic.specs.StagingPaths.{staging_path}
+use Rattle.cmd_report.specs.Scanned.{packet_name}
 use Rattle.echo_addr.specs.declared.address.Address.{Address}
 use Rattle.echo_filed.specs.Filed.{Filed}
-use Rattle.echo_links.specs.Links.{LinkFile}
-use Rattle.cmd_report.specs.Scanned.{packet_name}
-use Rattle.cmd_report.specs.declared.scanning.PlannedPacket.{PlannedPacket}
 use Rattle.echo_toss.specs.declared.counting.CountedPacket.{CountedPacket}
-use Rattle.echo_toss.specs.Counts.{IsGroupFrom, Group, counted_to, has_messages, link_set}
+use Rattle.echo_toss.specs.Counts.{Group, IsGroupFrom, copies_out, counted_to, counted_with, has_messages, link_set}
 use Rattle.echo_toss.specs.Exports.{Outgoing as Sent, sent_of}
+use Rattle.echo_toss.proofs.Counts.{copies_append, more_in}
 use Rattle.base_store.specs.Store.{LooksOn, StoreState}
 use Rattle.base_store.proofs.Runs.{same_twice}
-use Rattle.station.specs.Beneath.{AreSettledByOwn}
 use Rattle.station_scan.specs.Beneath.{IsUsedAt}
-use Rattle.disk_atomic.specs.declared.placing_error.PlacingError.{PlacingError}
-use Rattle.disk_atomic.specs.declared.placing_error.PlacingError.TheVariants.{Memory, Taken}
-use Rattle.station_scan.specs.Fitting.{FitPlanned, IsUnfit}
-use Rattle.station_scan.specs.Publishing.{AreGoing, AreGone}
-use Rattle.station_scan.specs.Sending.{AreSent}
-use Rattle.station_scan.specs.Passing.{AreFor, AreGoneOrSame, AreGrowing, AreNext, AreTakenTo, FitTo, HasPassed, HasStaged, IsCounted, IsGrowingTo, IsMaking, IsNewPass, IsPlanOf, IsStagedTo, IsStagingTo, IsTakenFor, AreDropped, StagesNext, StopsPassing, addresses_of, all_sent, begun_to, is_begun, is_made, made_in, made_to, path_to, staging_to, trial_of}
-use Rattle.station_scan.specs.declared.passing.Pass.{Pass}
+use Rattle.station_scan.specs.Fitting.{IsOff}
+use Rattle.station_scan.specs.Publishing.{AreGoing, AreGone, IsGoingAt, KeepsStoreBut}
+use Rattle.station_scan.specs.Passing.{AreCounted, AreDropped, AreFor, AreGoneOrSame, AreGrowing, AreTakenTo, CanSend, Fits, FitTo, HasPassed, HasStaged, IsAppending, IsBetween, IsCounted, IsFront, IsGrowingTo, IsMaking, IsPartOf, IsRouted, IsStagingFor, IsStagingTo, IsTakenFor, StopsPassing, all_sent, begun_in, copied_in, counts_in, is_begun, is_filled, is_first, is_longer, is_made, links_to, made_in, path_to, staging_to, with_group}
+use Rattle.station_scan.specs.Scanning.{IsTouched}
+use Rattle.station_scan.specs.Sending.{AreRoutes}
+use Rattle.station_scan.specs.declared.counting.LinkPacket.{LinkPacket}
 use Rattle.station_scan.specs.declared.publish_error.PublishError.{PublishError}
-use Rattle.station_scan.specs.declared.sending.Plan.{Plan}
 use Rattle.station_scan.specs.declared.sending.Sending.{Sending}
-use Rattle.station_scan.specs.declared.sending.TwoPaths.{TwoPaths}
-use Rattle.station_scan.proofs.Lists.{all_narrow, among, filter_mapped, filter_narrow, no_items}
-use Rattle.station_scan.proofs.Names.{ending, not_staging, trial_no_path}
-use Rattle.station_scan.proofs.Plans.{all_for, at_staging_of, begun_is, fit_at, fit_inside, fit_narrow, fitting_of, made_are, made_later, made_none, made_wider, plan_of_fit, planned_is, sent_for, some_made, staging_at, staging_wider}
-use Rattle.station_scan.proofs.Published.{holds_still}
-use Rattle.station_scan.proofs.Sends.{fit_going}
-use Rattle.station_scan.proofs.Written.{used_none, used_twice}
+use Rattle.station_scan.proofs.Grown.{growing_same, growing_still}
+use Rattle.station_scan.proofs.Lists.{among, kept_passes, map_filter, map_twice, of_each, to_each}
+use Rattle.station_scan.proofs.Published.{holds_still, keeps_only, keeps_wider}
+use Rattle.station_scan.proofs.Routes.{address_for, all_for, begun_if, begun_narrow, copied_narrow, for_all, going, made_before, made_narrow, made_none, made_wider, more_made, path_off, plain_name, some_for, staging_at, staging_named, staging_of, staging_wider, trial_off}
+use Rattle.station_scan.proofs.Written.{used_none, used_settled, used_twice}
 
 -- ---- a store that is used at more paths, or looked at
 
@@ -55,369 +49,394 @@ used_looked paths s0 s1 s2 used looks = record {
   changes = then_only paths s0.disk s1.disk s2.disk used.changes (only_nothing paths s1.disk s2.disk looks.quiet);
 }
 
+-- it can go on sending
+pub can_still : (Own paths : List ℕ → Type 0) (to : Sending) (s0 s1 : StoreState) → IsUsedAt paths s0 s1 → CanSend Own to s0 → CanSend Own to s1
+can_still Own paths to s0 s1 used can = record { ready = used.holds.ready; settled = used_settled paths s0 s1 used; own = λ m o. can.own m ((used.same.own m).0 o); routes = can.routes; stamp = can.stamp }
+
+-- ---- counts
+
+abbrev pub copies : List Sent → Address → ℕ
+copies sent a = length (copies_out a sent)
+
+module _ (to : Sending) (sent : List Sent) (all : List LinkPacket) (are : AreCounted to sent all) where
+  -- those that pass a test are the packets for links
+  pub chosen_for : (t : LinkPacket → Bool) (q : Address → Bool) → All (λ l. t l ≡ q l.packet.to) all → AreFor to q (map (λ l. l.packet) (filter t all))
+  chosen_for t q same = record {
+    addresses = map_twice (λ (p : Outgoing). p.to) (λ (l : LinkPacket). l.packet) (filter t all) ∙ map_filter (λ (l : LinkPacket). l.packet.to) t q all same ∙ ap (filter q) are.addresses;
+    routed = All-map (IsRouted to) (λ (l : LinkPacket). l.packet) (filter t all) (λ k z lt. (All-filter t (IsCounted to sent) all are.each k z lt).routed);
+  }
+
+  pub made_for : AreFor to (is_made sent) (made_in all)
+  made_for = chosen_for is_filled (is_made sent) (λ k z lt. ap has_messages (are.each k z lt).counted)
+
+  counts_same : map (λ (l : LinkPacket). l.counted) all ≡ map (counted_to sent) (link_set to.source.links.now)
+  counts_same = counts all are.each ∙ ap (map (counted_to sent)) are.addresses
+    where
+      counts : (ls : List LinkPacket) → All (IsCounted to sent) ls → map (λ (l : LinkPacket). l.counted) ls ≡ map (counted_to sent) (map (λ (l : LinkPacket). l.packet.to) ls)
+      counts [] each = refl
+      counts (l ∷ ls) each = let here = (All-head (IsCounted to sent) l ls each).counted in let rest = counts ls (All-tail (IsCounted to sent) l ls each) in λ i. here i ∷ rest i
+
+  -- their counts
+  pub counts_are : counts_in all ≡ filter has_messages (map (counted_to sent) (link_set to.source.links.now))
+  counts_are = map_filter (λ (l : LinkPacket). l.counted) is_filled has_messages all (λ k z lt. refl) ∙ ap (filter has_messages) counts_same
+
+-- with the copies of a group
+module _ (to : Sending) (sent more : List Sent) (all : List LinkPacket) (are : AreCounted to sent all) where
+  abbrev next : List LinkPacket
+  next = map (with_group more) all
+
+  grown : (a : Address) → copies (sent ++ more) a ≡ copies sent a + copies more a
+  grown a = ap length (copies_append a sent more) ∙ length-append (copies_out a sent) (copies_out a more)
+
+  pub next_counted : AreCounted to (sent ++ more) next
+  next_counted = record {
+    addresses = map_twice (λ (l : LinkPacket). l.packet.to) (with_group more) all ∙ are.addresses;
+    each = All-map (IsCounted to (sent ++ more)) (with_group more) all (λ k z lt. let is = are.each k z lt in record { routed = is.routed; counted = ap (counted_with more) is.counted ∙ more_in sent more (get_or all k z).packet.to });
+  }
+
+  before : All (λ l. l.before ≡ copies sent l.packet.to) next
+  before = All-map (λ l. l.before ≡ copies sent l.packet.to) (with_group more) all (λ k z lt. ap (λ (c : CountedPacket). c.messages) (are.each k z lt).counted)
+
+  next_for : (t : LinkPacket → Bool) (q : Address → Bool) → ((l : LinkPacket) → l.before ≡ copies sent l.packet.to → l.counted.messages ≡ copies (sent ++ more) l.packet.to → t l ≡ q l.packet.to) → AreFor to q (map (λ l. l.packet) (filter t next))
+  next_for t q same = chosen_for to (sent ++ more) next next_counted t q (λ k z lt. same (get_or next k z) (before k z lt) (ap (λ (c : CountedPacket). c.messages) (next_counted.each k z lt).counted))
+
+  pub begun_for : AreFor to (is_begun sent more) (begun_in next)
+  begun_for = next_for is_first (is_begun sent more) (λ l was now. ap (λ (n : ℕ). (n == 0) && nat_lt 0 l.counted.messages) was ∙ ap (λ (n : ℕ). (copies sent l.packet.to == 0) && nat_lt 0 n) now ∙ ap (λ (b : Bool). b && nat_lt 0 (copies (sent ++ more) l.packet.to)) (none_is (copies sent l.packet.to)))
+    where
+      none_is : (n : ℕ) → (n == 0) ≡ not (nat_lt 0 n)
+      none_is n = elim (cases_Bool (nat_lt 0 n)) [
+        | inl some ↦ false_from_ne_true (n == 0) (λ e. let zero_is = eqb-true n 0 e in let lt = ltb-true 0 n some in omega (arith, zero_is, lt)) ∙ sym (ap not some)
+        | inr none ↦ let ge = ltb-false 0 n none in let zero_is : n ≡ 0 = omega (arith, ge) in ap (λ (m : ℕ). m == 0) zero_is ∙ sym (ap not none)
+      ]
+
+  pub copied_for : AreFor to (is_made more) (copied_in next)
+  copied_for = next_for is_longer (is_made more) (λ l was now. ap (λ (n : ℕ). nat_lt n l.counted.messages) was ∙ ap (λ (n : ℕ). nat_lt (copies sent l.packet.to) n) (now ∙ grown l.packet.to) ∙ longer_is (copies sent l.packet.to) (copies more l.packet.to))
+    where
+      longer_is : (m n : ℕ) → nat_lt m (m + n) ≡ nat_lt 0 n
+      longer_is m n = elim (cases_Bool (nat_lt 0 n)) [
+        | inl some ↦ let lt = ltb-true 0 n some in lt-ltb m (m + n) (omega (arith, lt)) ∙ sym some
+        | inr none ↦ let ge = ltb-false 0 n none in le-ltb m (m + n) (omega (arith, ge)) ∙ sym none
+      ]
+
 -- ---- nothing has changed
 
-pub growing_quiet : (to : Sending) (sent : List Sent) (d e : DiskState) → ChangesNothing d e → (a : Address) → IsGrowingTo to sent d a → IsGrowingTo to sent e a
-growing_quiet to sent d e quiet a was =
-    let same = quiet.seen (staging_to to a) in
-    record {
-      grow = record {
-        there = subst (λ (f : Option (List ℕ)). IsSome f) (sym same) was.grow.there;
-        named = quiet.named (staging_to to a) (λ h. h) was.grow.named;
-        alone = quiet.alone (staging_to to a) (λ h. h) was.grow.alone;
-      };
-      named = λ m inside. quiet.named m (λ h. h) (was.named m inside);
-      free = λ honest. quiet.seen (path_to to a) ∙ was.free (quiet.honest honest);
-      written = λ honest. ap bytes_in same ∙ was.written (quiet.honest honest);
-      bytes = λ honest. subst AreBytes (sym (ap bytes_in same)) (was.bytes (quiet.honest honest));
-    }
-
-pub making_quiet : (Own : List ℕ → Type 0) (to : Sending) (sent : List Sent) (d e : DiskState) (made : List CountedPacket) → ChangesNothing d e → IsMaking Own to sent d made → IsMaking Own to sent e made
-making_quiet Own to sent d e made quiet was = record {
-  are = was.are;
-  fit = was.fit;
-  grows = λ k z lt. growing_quiet to sent d e quiet (get_or (made_to to.source.links.now sent) k z) (was.grows k z lt);
-}
-
-pub counted_quiet : (Own : List ℕ → Type 0) (to : Sending) (sent : List Sent) (d e : DiskState) (pass : Pass) → ChangesNothing d e → IsCounted Own to sent d pass → IsCounted Own to sent e pass
-counted_quiet Own to sent d e pass quiet was = record { counts = was.counts; making = making_quiet Own to sent d e pass.made quiet was.making }
-
--- ---- at the start
-
-none_in : (file : LinkFile) → made_in file [] ≡ []
-none_in file = filter_mapped has_messages (counted_to []) (link_set file) ∙ ap (map (counted_to [])) (made_none file)
-
-pub new_counted : (Own : List ℕ → Type 0) (to : Sending) (d : DiskState) (pass : Pass) → IsNewPass to pass → IsCounted Own to [] d pass
-new_counted Own to d pass is =
-    let none = made_none to.source.links.now in
-    record {
-      counts = is.counts;
-      making = record {
-        are = is.made ∙ sym (none_in to.source.links.now);
-        fit = λ some. absurd (omega (arith, some, ap length is.made));
-        grows = subst (λ (l : List Address). All (IsGrowingTo to [] d) l) (sym none) (λ k z lt. absurd (omega (arith, lt)));
-      };
-    }
-
--- ---- a group
-
--- nothing was staged
-pub staged_none : (Own : List ℕ → Type 0) (to : Sending) (sent : List Sent) (s : StoreState) (made : List CountedPacket) → AreSettledByOwn s → s.is_ready → IsMaking Own to sent s.disk made → IsStagedTo Own to sent s s made
-staged_none Own to sent s made settled ready is = record { are = is.are; fit = is.fit; used = used_none (IsStagingTo to (made_to to.source.links.now sent)) s settled ready }
-
--- no packet has messages then
-pub making_none : (Own : List ℕ → Type 0) (to : Sending) (sent more : List Sent) (d : DiskState) (made now first : List CountedPacket) → IsMaking Own to sent d made → AreNext to sent more now first → now ≡ [] → IsMaking Own to (sent ++ more) d made
-making_none Own to sent more d made now first was next none =
-    let file = to.source.links.now in
-    let links = link_set file in
-    let later : made_to file (sent ++ more) ≡ [] = sym (made_are file (sent ++ more) now next.are) ∙ ap addresses_of none in
-    let before : made_to file sent ≡ [] = filter_narrow (is_made sent) (is_made (sent ++ more)) (made_later sent more) links ∙ ap (filter (is_made sent)) later in
-    let nobody : made ≡ [] = no_items made (let same = sym (length-map made (λ (p : CountedPacket). p.to)) ∙ ap length (made_are file sent made was.are ∙ before) in omega (arith, same)) in
-    record {
-      are = nobody ∙ sym none ∙ next.are;
-      fit = λ some. absurd (omega (arith, some, ap length nobody));
-      grows = subst (λ (l : List Address). All (IsGrowingTo to (sent ++ more) d) l) (sym later) (λ k z lt. absurd (omega (arith, lt)));
-    }
-
--- a packet's path is no staging path
-pub path_off : (to : Sending) (a : Address) → All IsNameByte (packet_name a to.source.from) → (all : List Address) → IsStagingTo to all (path_to to a) → ⊥
-path_off to a plain all (b, has, inl at) =
-    let name = packet_name a to.source.from in
-    let other = packet_name b to.source.from in
-    not_staging to.own.now name other plain (append_cancel_left to.outbound.now name (other ++ ending to.own.now) (at ∙ append_assoc to.outbound.now other (ending to.own.now)))
-path_off to a plain all (b, has, inr at) = trial_no_path to.outbound.now to.own.now (packet_name a to.source.from) plain (sym at)
-
--- the packets of a group, where they fit
-module _ (Own : List ℕ → Type 0) (to : Sending) (sent more : List Sent) (s : StoreState) (now first : List CountedPacket) (next : AreNext to sent more now first) (plan_all plan_first : Plan) (of_all : IsPlanOf to now plan_all)
-    (of_first : IsPlanOf to first plan_first) where
-  abbrev file : LinkFile
-  file = to.source.links.now
-
-  abbrev now_to : List Address
-  now_to = made_to file (sent ++ more)
-
-  abbrev begun : List Address
-  begun = begun_to file sent more
-
-  at_now : addresses_of now ≡ now_to
-  at_now = made_are file (sent ++ more) now next.are
-
-  pub group_fit : FitPlanned Own to.outbound.now to.own.now plan_all.planned → FitTo Own to now_to
-  group_fit fit = subst (λ (l : List _). FitPlanned Own to.outbound.now to.own.now l) (planned_is to now now_to at_now plan_all of_all) fit
-
-  pub group_unfit : (FitPlanned Own to.outbound.now to.own.now plan_all.planned → ⊥) → FitTo Own to now_to → ⊥
-  group_unfit unfit fit = unfit (plan_of_fit to now now_to at_now plan_all of_all Own fit)
-
-  pub unfit_taken : (why : PlacingError) → IsUnfit Own to.outbound.now to.own.now plan_all.planned why → why ≡ Taken → AreTakenTo Own to now_to s.disk.seen
-  unfit_taken why (inl unfit) is = inr (λ fit. group_unfit unfit.1 fit)
-  unfit_taken why (inr none) is = let other : Memory ≡ Taken = sym none ∙ is in absurd (cc other)
-
-  begun_fit : FitTo Own to now_to → FitTo Own to begun
-  begun_fit fit = fit_narrow Own to (is_begun sent more) (is_made (sent ++ more)) (λ a is. (begun_is sent more a is).1) (link_set file) fit
-
-  module _ (fit : FitTo Own to now_to) (packets firsts : List Outgoing) (trial_all trial_first : List ℕ) (at_all : trial_all ≡ plan_all.trial) (at_first : trial_first ≡ plan_first.trial) (all_sent_to : AreSent plan_all.planned plan_all.two packets)
-      (first_sent_to : AreSent plan_first.planned plan_first.two firsts) (inside : (m : List ℕ) → s.is_own m → Own m) (plain : All (λ b. b ≢ 47) to.own.now) where
-    pub all_going : AreGoing s.is_own to.outbound.now trial_all packets
-    all_going =
-        fit_going Own to.outbound.now to.own.now (λ a. []) plan_all.planned packets (fitting_of to now now_to at_now plan_all of_all Own packets fit all_sent_to) trial_all (at_all ∙ of_all.laid.trial) s inside plain
-
-    pub first_going : AreGoing s.is_own to.outbound.now trial_first firsts
-    first_going =
-        fit_going Own to.outbound.now to.own.now (λ a. []) plan_first.planned firsts (fitting_of to first begun next.begun plan_first of_first Own firsts (begun_fit fit) first_sent_to) trial_first (at_first ∙ of_first.laid.trial) s inside plain
-
-    pub all_batch : AreFor to now_to packets
-    all_batch = sent_for to now now_to at_now plan_all of_all packets all_sent_to
-
-    pub first_batch : AreFor to begun firsts
-    first_batch = sent_for to first begun next.begun plan_first of_first firsts first_sent_to
-
-    pub some_packets : 0 < length now → 0 < length packets
-    some_packets some = let many = all_batch.as_many in let there = some_made now now_to at_now some in omega (arith, many, there)
-
-    -- what was written is staged
-    pub group_staged : (s2 : StoreState) → 0 < length now → IsUsedAt (IsAtStaging packets trial_all) s s2 → IsStagedTo Own to (sent ++ more) s s2 now
-    group_staged s2 some used = record {
-      are = next.are;
-      fit = λ there. fit;
-      used =
-          used_wider (IsAtStaging packets trial_all) (IsStagingTo to now_to) s s2 (staging_at to now_to packets all_batch trial_all (at_all ∙ of_all.laid.trial) (some_made now now_to at_now some)) used;
-    }
-
-    pub group_making : (d : DiskState) → AreGrowing to (sent ++ more) d → IsMaking Own to (sent ++ more) d now
-    group_making d grows = record { are = next.are; fit = λ there. fit; grows = grows }
-
-    pub group_taken : (All (IsFree s.disk) packets → ⊥) → AreTakenTo Own to now_to s.disk.seen
-    group_taken taken = inl (fit, λ free. taken (all_for to now_to packets all_batch (λ a. s.disk.seen (path_to to a) ≡ None) (IsFree s.disk) (λ a p goes none. ap s.disk.seen goes.path ∙ none) free))
+growing_quiet : (to : Sending) (sent : List Sent) (d e : DiskState) → ChangesNothing d e → (a : Address) → IsGrowingTo to sent d a → IsGrowingTo to sent e a
+growing_quiet to sent d e quiet a was = growing_still to sent (λ m. ⊥) d e (only_nothing (λ m. ⊥) d e quiet) (λ m inside named. quiet.named m (λ h. h) named) a (λ h. h) (λ h. h) was
 
 -- ---- group after group
 
 module _ (Own : List ℕ → Type 0) (to : Sending) where
-  abbrev links_in : LinkFile
-  links_in = to.source.links.now
+  pub making_new : (d : DiskState) (all : List LinkPacket) → AreCounted to [] all → IsMaking Own to [] d all
+  making_new d all are = record { counted = are; fit = made_none to (Fits Own to); grows = made_none to (IsGrowingTo to [] d) }
 
-  -- of some messages, and then of others
-  pub staged_then : (sent now : List Sent) (s0 s1 s2 : StoreState) (made : List CountedPacket) → ((a : Address) → Contains (made_to links_in sent) a → Contains (made_to links_in now) a) → IsUsedAt (IsStagingTo to (made_to links_in sent)) s0 s1
-      → IsStagedTo Own to now s1 s2 made → IsStagedTo Own to now s0 s2 made
-  staged_then sent now s0 s1 s2 made wide one two = record {
-    are = two.are;
-    fit = two.fit;
-    used =
-        used_twice (IsStagingTo to (made_to links_in now)) s0 s1 s2
-        (used_wider (IsStagingTo to (made_to links_in sent)) (IsStagingTo to (made_to links_in now)) s0 s1 (staging_wider to (made_to links_in sent) (made_to links_in now) wide) one) two.used;
-  }
+  -- packets that begin fit where their paths are off the station's own
+  pub begun_fit : (sent more : List Sent) (packets : List Outgoing) → AreFor to (is_begun sent more) packets → FitTo Own to sent → All (IsOff Own to.trial.now) packets → FitTo Own to (sent ++ more)
+  begun_fit sent more packets for fit off =
+      let links = link_set to.source.links.now in
+      let old = to_each (Fits Own to) (is_made sent) links fit in
+      let new = to_each (Fits Own to) (is_begun sent more) links (for_all to (is_begun sent more) packets for (Fits Own to) (λ k z lt.
+      let o = off k z lt in
+      let is = for.routed k z lt in
+      record { path = λ own. o.path (subst Own (sym is.path) own); staging = λ own. o.staging (subst Own (sym is.staging) own); trial = o.off_trial })) in
+      of_each (Fits Own to) (is_made (sent ++ more)) links (λ k d lt made.
+      let a = get_or links k d in
+      elim (cases_Bool (is_made sent a)) [
+        | inl was ↦ old k d lt was
+        | inr first ↦ new k d lt (begun_if sent more a first made)
+      ])
 
-  -- the rest of the messages
-  pub rest_next : (base : Base) (sent : List Sent) (at : ℕ) (group : Group) → sent ++ sent_of links_in (drop at base.messages) ≡ all_sent to base → IsGroupFrom links_in base.messages at group
-      → (sent ++ group.sent) ++ sent_of links_in (drop group.next base.messages) ≡ all_sent to base
-  rest_next base sent at group was from =
-      append_assoc sent group.sent (sent_of links_in (drop group.next base.messages)) ∙ ap (λ (l : List Sent). sent ++ l) from ∙ was
+  -- the paths of those that begin are in use, or not off
+  pub begun_taken : (sent more : List Sent) (packets : List Outgoing) → AreFor to (is_begun sent more) packets → (d : DiskState) → (All (IsFree d) packets → ⊥) → AreTakenTo Own to (sent ++ more) d.seen
+  begun_taken sent more packets for d taken = inl (λ free.
+      taken (all_for to (is_begun sent more) packets for (λ a. d.seen (path_to to a) ≡ None) (IsFree d) (λ p is none. ap d.seen is.path ∙ none) (begun_narrow to sent more (λ a. d.seen (path_to to a) ≡ None) free)))
 
-  pub rest_none : (base : Base) (sent : List Sent) (at : ℕ) → sent ++ sent_of links_in (drop at base.messages) ≡ all_sent to base → length base.messages ≤ at → sent ≡ all_sent to base
-  rest_none base sent at was past =
-      let none : sent_of links_in (drop at base.messages) ≡ [] = ap (λ (l : List Filed). sent_of links_in l) (drop_all at base.messages past) in
-      sym (append-nil sent) ∙ ap (λ (l : List Sent). sent ++ l) (sym none) ∙ was
+  pub begun_unfit : (sent more : List Sent) (packets : List Outgoing) → AreFor to (is_begun sent more) packets → (seen : _) → (All (IsOff Own to.trial.now) packets → ⊥) → AreTakenTo Own to (sent ++ more) seen
+  begun_unfit sent more packets for seen off = inr (λ fit.
+      off (all_for to (is_begun sent more) packets for (Fits Own to) (IsOff Own to.trial.now)
+      (λ p is f. record { path = λ own. f.path (subst Own is.path own); staging = λ own. f.staging (subst Own is.staging own); off_trial = f.trial })
+      (begun_narrow to sent more (Fits Own to) fit)))
 
-  -- it stopped at a group
-  pub stopped_next : (sent more : List Sent) (s0 s1 s2 : StoreState) (made : List CountedPacket) → IsUsedAt (IsStagingTo to (made_to links_in sent)) s0 s1 → StagesNext Own to sent more s1 s2 made
-      → ((base : Base) → s2.disk.is_honest → s0.keeps base → (rest : List Sent) × (sent ++ (more ++ rest) ≡ all_sent to base)) → HasStaged Own to s0 s2 made
-  stopped_next sent more s0 s1 s2 made used (inl staged) part = record {
-    sent = sent;
-    staged = staged_then sent sent s0 s1 s2 made (λ a has. has) used staged;
-    part = λ honest base kept. let of = part base honest kept in (more ++ of.0, of.1);
-  }
-  stopped_next sent more s0 s1 s2 made used (inr staged) part = record {
-    sent = sent ++ more;
-    staged = staged_then sent (sent ++ more) s0 s1 s2 made (made_wider links_in sent more) used staged;
-    part = λ honest base kept. let of = part base honest kept in (of.0, append_assoc sent more of.0 ∙ of.1);
-  }
+  -- ---- a group was counted
 
-  -- the first of all messages stand for their packets
-  pub part_wider : (sent rest : List Sent) (base : Base) → sent ++ rest ≡ all_sent to base → (a : Address) → Contains (made_to links_in sent) a → Contains (made_to links_in (all_sent to base)) a
-  part_wider sent rest base is a has = subst (λ (l : List Sent). Contains (made_to links_in l) a) is (made_wider links_in sent rest a has)
+  module _ (s : StoreState) (can : CanSend Own to s) (sent more : List Sent) (all : List LinkPacket) (is : IsMaking Own to sent s.disk all) (counted : List LinkPacket) (counted_is : counted ≡ map (with_group more) all) where
+    group_counted : AreCounted to (sent ++ more) counted
+    group_counted = subst (λ (l : List LinkPacket). AreCounted to (sent ++ more) l) (sym counted_is) (next_counted to sent more all is.counted)
 
-  -- what is taken of some packets is of all
-  pub taken_all : (sent now rest : List Sent) (base : Base) (s0 s1 : StoreState) → now ++ rest ≡ all_sent to base → IsUsedAt (IsStagingTo to (made_to links_in sent)) s0 s1 → AreTakenTo Own to (made_to links_in now) s1.disk.seen
-      → IsTakenFor Own to base s0.disk.seen
-  taken_all sent now rest base s0 s1 is used (inl (fit, taken)) = inl (λ free.
-      taken (λ k d lt.
-      let all = made_to links_in now in
-      let a = get_or all k d in
-      let names = (fit_at Own to all fit).names in
-      let off = path_off to a (names k d lt).plain (made_to links_in sent) in
-      used.changes.seen (path_to to a) off ∙ all_narrow (λ x. s0.disk.seen (path_to to x) ≡ None) (is_made now) (is_made (all_sent to base))
-      (λ x made. subst (λ (l : List Sent). is_made l x ≡ true) is (made_later now rest x made)) (link_set links_in) free k d lt))
-  taken_all sent now rest base s0 s1 is used (inr unfit) = inr (λ fit.
-      unfit (fit_narrow Own to (is_made now) (is_made (all_sent to base)) (λ x made. subst (λ (l : List Sent). is_made l x ≡ true) is (made_later now rest x made)) (link_set links_in) fit))
+    -- nothing was staged
+    pub staged_none : HasStaged Own to (IsBetween sent (sent ++ more)) s s all
+    staged_none = record {
+      sent = sent;
+      part = record { part = ([], append-nil sent); rest = (more, refl) };
+      counted = is.counted;
+      fit = is.fit;
+      used = used_none (IsStagingTo to sent) s can.settled can.ready;
+    }
 
-  -- ---- the staging files are removed
+    -- the packets that begin do not fit
+    pub group_unfit : (All (IsOff Own to.trial.now) (begun_in counted) → ⊥) → AreTakenTo Own to (sent ++ more) s.disk.seen
+    group_unfit off = begun_unfit sent more (begun_in counted) (subst (λ (l : List LinkPacket). AreFor to (is_begun sent more) (begun_in l)) (sym counted_is) (begun_for to sent more all is.counted)) s.disk.seen off
 
-  drop_used : (s0 s1 s2 : StoreState) (made : List CountedPacket) (was : HasStaged Own to s0 s1 made) → IsUsedAt (IsStagingTo to (addresses_of made)) s1 s2 → IsUsedAt (IsStagingTo to (made_to links_in was.sent)) s0 s2
-  drop_used s0 s1 s2 made was drop =
-      used_twice (IsStagingTo to (made_to links_in was.sent)) s0 s1 s2 was.staged.used (subst (λ (l : List Address). IsUsedAt (IsStagingTo to l) s1 s2) (made_are links_in was.sent made was.staged.are) drop)
+    module _ (begun copied : List Outgoing) (begun_are : begun ≡ begun_in counted) (copied_are : copied ≡ copied_in counted) (off : All (IsOff Own to.trial.now) begun) where
+      for_begun : AreFor to (is_begun sent more) begun
+      for_begun = subst (λ (l : List Outgoing). AreFor to (is_begun sent more) l) (sym (begun_are ∙ ap begun_in counted_is)) (begun_for to sent more all is.counted)
 
-  pub dropped : (s0 s1 s2 : StoreState) (made : List CountedPacket) → HasStaged Own to s0 s1 made → IsUsedAt (IsStagingTo to (addresses_of made)) s1 s2 → HasStaged Own to s0 s2 made
-  dropped s0 s1 s2 made was drop = record {
+      for_copied : AreFor to (is_made more) copied
+      for_copied = subst (λ (l : List Outgoing). AreFor to (is_made more) l) (sym (copied_are ∙ ap copied_in counted_is)) (copied_for to sent more all is.counted)
+
+      group_fit : FitTo Own to (sent ++ more)
+      group_fit = begun_fit sent more begun for_begun is.fit off
+
+      copied_fit : All (Fits Own to) (links_to to (is_made more))
+      copied_fit = copied_narrow to sent more (Fits Own to) group_fit
+
+      pub group_appending : IsAppending to sent more s.disk copied begun
+      group_appending = record { routes = can.routes; copied_for = for_copied; begun_for = for_begun; grows = is.grows }
+
+      free_trial : 0 < length copied → s.is_own to.trial.now → ⊥
+      free_trial some o = trial_off to (is_made more) copied for_copied Own copied_fit some (can.own _ o)
+
+      pub copied_going : 0 < length copied → AreGoing s.is_own to.outbound.now to.trial.now copied
+      copied_going some = going to (is_made more) copied for_copied Own can.routes s can.own copied_fit (free_trial some)
+
+      pub begun_going : 0 < length copied → AreGoing s.is_own to.outbound.now to.trial.now begun
+      begun_going some = going to (is_begun sent more) begun for_begun Own can.routes s can.own (begun_narrow to sent more (Fits Own to) group_fit) (free_trial some)
+
+      staged_now : (e : StoreState) → IsUsedAt (IsStagingTo to (sent ++ more)) s e → HasStaged Own to (IsBetween sent (sent ++ more)) s e counted
+      staged_now e used = record { sent = sent ++ more; part = record { part = (more, refl); rest = ([], append-nil (sent ++ more)) }; counted = group_counted; fit = group_fit; used = used }
+
+      -- it was written
+      pub group_staged : 0 < length copied → (e : StoreState) → IsUsedAt (IsAtStaging copied to.trial.now) s e → HasStaged Own to (IsBetween sent (sent ++ more)) s e counted
+      group_staged some e used =
+          staged_now e (used_wider (IsAtStaging copied to.trial.now) (IsStagingTo to (sent ++ more)) s e
+          (λ m at. staging_wider to (is_made more) (is_made (sent ++ more)) (more_made sent more) m (staging_at to (is_made more) copied for_copied some m at)) used)
+
+      pub group_making : (d : DiskState) → AreGrowing to (sent ++ more) d → IsMaking Own to (sent ++ more) d counted
+      group_making d grows = record { counted = group_counted; fit = group_fit; grows = grows }
+
+      pub group_taken : (All (IsFree s.disk) begun → ⊥) → AreTakenTo Own to (sent ++ more) s.disk.seen
+      group_taken taken = begun_taken sent more begun for_begun s.disk taken
+
+      -- it has no copies
+      pub none_staged : HasStaged Own to (IsBetween sent (sent ++ more)) s s counted
+      none_staged = staged_now s (used_none (IsStagingTo to (sent ++ more)) s can.settled can.ready)
+
+      pub none_making : length copied ≡ 0 → IsMaking Own to (sent ++ more) s.disk counted
+      none_making none =
+          let links = link_set to.source.links.now in
+          let old = to_each (IsGrowingTo to sent s.disk) (is_made sent) links is.grows in
+          let nobody_in : All (λ a. ⊥) (links_to to (is_made more)) = λ k d lt. absurd (omega (arith, none, some_for to (is_made more) copied for_copied (omega (arith, lt)))) in
+          let no = to_each (λ (a : Address). ⊥) (is_made more) links nobody_in in
+          group_making s.disk (of_each (IsGrowingTo to (sent ++ more) s.disk) (is_made (sent ++ more)) links (λ k d lt made.
+          let a = get_or links k d in
+          let last : is_made more a ≡ false = false_from_ne_true (is_made more a) (λ yes. no k d lt yes) in
+          growing_same to sent more s.disk a last (old k d lt (made_before sent more a made last))))
+
+  -- a part was staged, and then more of it
+  pub staged_more : (P Q : List Sent → Type 0) (s0 s1 s2 : StoreState) (all : List LinkPacket) (was : HasStaged Own to P s0 s1 all) → (P was.sent → Q was.sent) → IsUsedAt (IsStagingTo to was.sent) s1 s2 → HasStaged Own to Q s0 s2 all
+  staged_more P Q s0 s1 s2 all was gives more = record {
     sent = was.sent;
-    staged = record { are = was.staged.are; fit = was.staged.fit; used = drop_used s0 s1 s2 made was drop };
-    part = λ honest base kept. was.part (drop.changes.honest honest) base kept;
+    part = gives was.part;
+    counted = was.counted;
+    fit = was.fit;
+    used = used_twice (IsStagingTo to was.sent) s0 s1 s2 was.used more;
   }
+
+  staging_front : (few all : List Sent) → IsFront all few → (m : List ℕ) → IsStagingTo to few m → IsStagingTo to all m
+  staging_front few all front m (a, has, at) = (a, made_wider to few front.0 all front.1 a has, at)
+
+  -- a path in use of some packets is one of all packets
+  taken_all : AreRoutes to → (sent now : List Sent) (base : Base) (s0 s1 : StoreState) → IsFront (all_sent to base) now → IsUsedAt (IsStagingTo to sent) s0 s1 → AreTakenTo Own to now s1.disk.seen → IsTakenFor Own to base s0.disk.seen
+  taken_all planned sent now base s0 s1 front used (inl taken) = inl (λ free.
+      taken (λ k d lt.
+      let a = get_or (links_to to (is_made now)) k d in
+      let linked = (kept_passes (is_made now) (link_set to.source.links.now) a (Contains-get_or (links_to to (is_made now)) k d lt)).0 in
+      used.changes.seen (path_to to a) (path_off to planned (is_made sent) a linked) ∙ made_narrow to now front.0 (all_sent to base) front.1 (λ x. s0.disk.seen (path_to to x) ≡ None) free k d lt))
+  taken_all planned sent now base s0 s1 front used (inr unfit) = inr (λ fit. unfit (made_narrow to now front.0 (all_sent to base) front.1 (Fits Own to) fit))
 
   -- where a path is that of a staging file or not
-  staging_or_not : (all : List Address) (m : List ℕ) → IsStagingTo to all m ⊎ (IsStagingTo to all m → ⊥)
-  staging_or_not all m = elim (among (staging_to to) m all) [
+  staging_or_not : (q : Address → Bool) (m : List ℕ) → IsStagingFor to q m ⊎ (IsStagingFor to q m → ⊥)
+  staging_or_not q m = elim (among (staging_to to) m (links_to to q)) [
     | inl found ↦ inl (found.0, found.1, inl found.2)
-    | inr none ↦ elim (among (λ (a : Address). trial_of to) m all) [
+    | inr none ↦ elim (among (λ (a : Address). to.trial.now) m (links_to to q)) [
       | inl found ↦ inl (found.0, found.1, inr found.2)
-      | inr off ↦ inr (λ at. ⊎_elim (λ (e : m ≡ staging_to to at.0). All-contains (λ a. m ≢ staging_to to a) all at.0 none at.1 e) (λ (e : m ≡ trial_of to). All-contains (λ a. m ≢ trial_of to) all at.0 off at.1 e) at.2)
+      | inr off ↦ inr (λ at. ⊎_elim (λ (e : m ≡ staging_to to at.0). All-contains (λ a. m ≢ staging_to to a) (links_to to q) at.0 none at.1 e) (λ (e : m ≡ to.trial.now). All-contains (λ a. m ≢ to.trial.now) (links_to to q) at.0 off at.1 e) at.2)
     ]
   ]
 
-  pub gone_or_same : (s0 s1 s2 : StoreState) (made : List CountedPacket) → HasStaged Own to s0 s1 made → IsUsedAt (IsStagingTo to (addresses_of made)) s1 s2 → ((m : List ℕ) → IsStagingTo to (addresses_of made) m → s2.disk.seen m ≡ None)
+  -- the staging files are removed
+  pub gone_or_same : (P : List Sent → Type 0) (s0 s1 s2 : StoreState) (all : List LinkPacket) (was : HasStaged Own to P s0 s1 all) → IsUsedAt (IsStagingTo to was.sent) s1 s2 → ((m : List ℕ) → IsStagingTo to was.sent m → s2.disk.seen m ≡ None)
       → AreGoneOrSame s0.disk.seen s2.disk.seen
-  gone_or_same s0 s1 s2 made was drop gone m =
-      let all = addresses_of made in
-      let used : IsUsedAt (IsStagingTo to all) s0 s2 = subst (λ (l : List Address). IsUsedAt (IsStagingTo to l) s0 s2) (sym (made_are links_in was.sent made was.staged.are)) (drop_used s0 s1 s2 made was drop) in
-      ⊎_elim (λ at. inl (gone m at)) (λ off. inr (used.changes.seen m off)) (staging_or_not all m)
+  gone_or_same P s0 s1 s2 all was drop gone m =
+      let used = used_twice (IsStagingTo to was.sent) s0 s1 s2 was.used drop in
+      ⊎_elim (λ at. inl (gone m at)) (λ off. inr (used.changes.seen m off)) (staging_or_not (is_made was.sent) m)
 
-  pub passed_staged : (s0 s1 : StoreState) (made : List CountedPacket) → HasPassed Own to s0 s1 made → HasStaged Own to s0 s1 made
-  passed_staged s0 s1 made passed = record { sent = passed.sent; staged = passed.staged; part = λ honest base kept. ([], append-nil passed.sent ∙ passed.whole honest base kept) }
-
-  -- the staging files are those of these packets, which the store does not own
-  pub drop_fit : (s0 s1 : StoreState) (made : List CountedPacket) → HasStaged Own to s0 s1 made → ((m : List ℕ) → s0.is_own m → Own m) → 0 < length made → FitTo s1.is_own to (addresses_of made)
-  drop_fit s0 s1 made was inside some =
-      subst (λ (l : List Address). FitTo s1.is_own to l) (sym (made_are links_in was.sent made was.staged.are)) (fit_inside Own to s1.is_own (λ m o. inside m ((was.staged.used.same.own m).0 o)) (made_to links_in was.sent) (was.staged.fit some))
+  pub passed_part : (s0 s1 s2 : StoreState) (all : List LinkPacket) (was : HasPassed Own to s0 s1 all) → (s2.disk.is_honest → s1.disk.is_honest) → IsPartOf to s0 s2 was.sent
+  passed_part s0 s1 s2 all was run = λ honest base kept. ([], append-nil was.sent ∙ was.part.whole (run honest) base kept)
 
 -- ---- the pass so far
 
-pub record IsPassing (Own : List ℕ → Type 0) (to : Sending) (s0 s : StoreState) (pass : Pass) (at : ℕ) : Type 0 where
-  pub sent : List Sent
-  pub counted : IsCounted Own to sent s.disk pass
-  pub used : IsUsedAt (IsStagingTo to (made_to to.source.links.now sent)) s0 s
+pub record IsAt (to : Sending) (s0 s : StoreState) (at : ℕ) (sent : List Sent) : Type 0 where
+  pub grows : AreGrowing to sent s.disk
   pub rest : Honestly s.disk ((base : Base) → s0.keeps base → sent ++ sent_of to.source.links.now (drop at base.messages) ≡ all_sent to base)
 
-module _ (Own : List ℕ → Type 0) (to : Sending) (s0 : StoreState) where
-  pub passing_starts : AreSettledByOwn s0 → s0.is_ready → (pass : Pass) → IsCounted Own to [] s0.disk pass → IsPassing Own to s0 s0 pass to.source.from
-  passing_starts settled ready pass is = record { sent = []; counted = is; used = used_none (IsStagingTo to (made_to to.source.links.now [])) s0 settled ready; rest = λ honest base kept. refl }
+abbrev pub IsPassing : (List ℕ → Type 0) → Sending → StoreState → StoreState → List LinkPacket → ℕ → Type 0
+IsPassing Own to s0 s all at = HasStaged Own to (IsAt to s0 s at) s0 s all
 
-  module _ (s : StoreState) (pass : Pass) (at : ℕ) (was : IsPassing Own to s0 s pass at) where
-    pub passing_staged : HasStaged Own to s0 s pass.made
-    passing_staged = record {
-      sent = was.sent;
-      staged = record { are = was.counted.making.are; fit = was.counted.making.fit; used = was.used };
-      part = λ honest base kept. (sent_of to.source.links.now (drop at base.messages), was.rest honest base kept);
-    }
+module _ (Own : List ℕ → Type 0) (to : Sending) (s0 : StoreState) (can : CanSend Own to s0) where
+  pub passing_starts : (all : List LinkPacket) → IsMaking Own to [] s0.disk all → IsPassing Own to s0 s0 all to.source.from
+  passing_starts all is = record {
+    sent = [];
+    part = record { grows = is.grows; rest = λ honest base kept. refl };
+    counted = is.counted;
+    fit = is.fit;
+    used = used_none (IsStagingTo to []) s0 can.settled can.ready;
+  }
 
-    pub passing_over : Honestly s.disk ((base : Base) → s0.keeps base → length base.messages ≤ at) → HasPassed Own to s0 s pass.made
+  module _ (s : StoreState) (all : List LinkPacket) (at : ℕ) (was : IsPassing Own to s0 s all at) where
+    part_now : (e : StoreState) → (e.disk.is_honest → s.disk.is_honest) → IsPartOf to s0 e was.sent
+    part_now e run honest base kept = (sent_of to.source.links.now (drop at base.messages), was.part.rest (run honest) base kept)
+
+    pub passing_staged : HasStaged Own to (IsPartOf to s0 s) s0 s all
+    passing_staged = record { sent = was.sent; part = part_now s (λ h. h); counted = was.counted; fit = was.fit; used = was.used }
+
+    pub passing_over : Honestly s.disk ((base : Base) → s0.keeps base → length base.messages ≤ at) → HasPassed Own to s0 s all
     passing_over past = record {
       sent = was.sent;
-      staged = record { are = was.counted.making.are; fit = was.counted.making.fit; used = was.used };
-      grows = was.counted.making.grows;
-      whole = λ honest base kept. rest_none Own to base was.sent at (was.rest honest base kept) (past honest base kept);
+      part = record {
+        grows = was.part.grows;
+        whole = λ honest base kept.
+            let none : sent_of to.source.links.now (drop at base.messages) ≡ [] = ap (λ (l : List Filed). sent_of to.source.links.now l) (drop_all at base.messages (past honest base kept)) in
+            sym (append-nil was.sent) ∙ ap (λ (l : List Sent). was.sent ++ l) (sym none) ∙ was.part.rest honest base kept;
+      };
+      counted = was.counted;
+      fit = was.fit;
+      used = was.used;
     }
 
     -- a group was read
     module _ (r : StoreState) (looks : LooksOn s r) where
-      pub used_read : IsUsedAt (IsStagingTo to (made_to to.source.links.now was.sent)) s0 r
-      used_read = used_looked (IsStagingTo to (made_to to.source.links.now was.sent)) s0 s r was.used looks
+      pub used_read : IsUsedAt (IsStagingTo to was.sent) s0 r
+      used_read = used_looked (IsStagingTo to was.sent) s0 s r was.used looks
 
-      pub read_staged : HasStaged Own to s0 r pass.made
-      read_staged = record {
-        sent = was.sent;
-        staged = record { are = was.counted.making.are; fit = was.counted.making.fit; used = used_read };
-        part = λ honest base kept. (sent_of to.source.links.now (drop at base.messages), was.rest (looks.quiet.honest honest) base kept);
+      pub read_staged : HasStaged Own to (IsPartOf to s0 r) s0 r all
+      read_staged = record { sent = was.sent; part = part_now r looks.quiet.honest; counted = was.counted; fit = was.fit; used = used_read }
+
+      pub read_can : CanSend Own to r
+      read_can = can_still Own (IsStagingTo to was.sent) to s0 r used_read can
+
+      pub read_making : IsMaking Own to was.sent r.disk all
+      read_making = record {
+        counted = was.counted;
+        fit = was.fit;
+        grows = λ k z lt. growing_quiet to was.sent s.disk r.disk looks.quiet (get_or (links_to to (is_made was.sent)) k z) (was.part.grows k z lt);
       }
 
-      pub read_counted : IsCounted Own to was.sent r.disk pass
-      read_counted = counted_quiet Own to was.sent s.disk r.disk pass looks.quiet was.counted
+      module _ (group : Group) (from : Honestly r.disk ((base : Base) → s.keeps base → IsGroupFrom to.source.links.now base.messages at group)) (e : StoreState) (now : List LinkPacket)
+          (stages : HasStaged Own to (IsBetween was.sent (was.sent ++ group.sent)) r e now) where
+        rest_next : e.disk.is_honest → (base : Base) → s0.keeps base → (was.sent ++ group.sent) ++ sent_of to.source.links.now (drop group.next base.messages) ≡ all_sent to base
+        rest_next honest base kept =
+            let at_r = stages.used.changes.honest honest in
+            append_assoc was.sent group.sent (sent_of to.source.links.now (drop group.next base.messages)) ∙ ap (λ (l : List Sent). was.sent ++ l) (from at_r base (was.used.holds.keeps base kept))
+            ∙ was.part.rest (looks.quiet.honest at_r) base kept
 
-      module _ (group : Group) (from : Honestly r.disk ((base : Base) → s.keeps base → IsGroupFrom to.source.links.now base.messages at group)) (e : StoreState) (now : Pass) (stages : StagesNext Own to was.sent group.sent r e now.made) where
-        stages_honest : e.disk.is_honest → r.disk.is_honest
-        stages_honest honest = ⊎_elim (λ staged. staged.used.changes.honest honest) (λ staged. staged.used.changes.honest honest) stages
+        used_next : IsUsedAt (IsStagingTo to stages.sent) s0 e
+        used_next = used_twice (IsStagingTo to stages.sent) s0 r e (used_wider (IsStagingTo to was.sent) (IsStagingTo to stages.sent) s0 r (staging_front Own to was.sent stages.sent stages.part.part) used_read) stages.used
 
         -- and written or not
-        pub written_staged : HasStaged Own to s0 e now.made
-        written_staged =
-            stopped_next Own to was.sent group.sent s0 r e now.made used_read stages
-            (λ base honest kept.
-            let at_r = stages_honest honest in (
-              sent_of to.source.links.now (drop group.next base.messages),
-              sym (append_assoc was.sent group.sent (sent_of to.source.links.now (drop group.next base.messages)))
-                  ∙ rest_next Own to base was.sent at group (was.rest (looks.quiet.honest at_r) base kept) (from at_r base (was.used.holds.keeps base kept)),
-            ))
-
-        wide : StagesNext Own to was.sent group.sent r e now.made → IsUsedAt (IsStagingTo to (made_to to.source.links.now (was.sent ++ group.sent))) s0 e
-        wide (inl staged) =
-            used_wider (IsStagingTo to (made_to to.source.links.now was.sent)) (IsStagingTo to (made_to to.source.links.now (was.sent ++ group.sent))) s0 e
-            (staging_wider to (made_to to.source.links.now was.sent) (made_to to.source.links.now (was.sent ++ group.sent)) (made_wider to.source.links.now was.sent group.sent))
-            (used_twice (IsStagingTo to (made_to to.source.links.now was.sent)) s0 r e used_read staged.used)
-        wide (inr staged) = (staged_then Own to was.sent (was.sent ++ group.sent) s0 r e now.made (made_wider to.source.links.now was.sent group.sent) used_read staged).used
+        pub written_staged : HasStaged Own to (IsPartOf to s0 e) s0 e now
+        written_staged = record {
+          sent = stages.sent;
+          part = λ honest base kept.
+              let more = stages.part.rest.0 in
+              let rest = sent_of to.source.links.now (drop group.next base.messages) in
+              (more ++ rest, sym (append_assoc stages.sent more rest) ∙ ap (λ (l : List Sent). l ++ rest) stages.part.rest.1 ∙ rest_next honest base kept);
+          counted = stages.counted;
+          fit = stages.fit;
+          used = used_next;
+        }
 
         -- the pass goes on
-        pub passing_next : IsCounted Own to (was.sent ++ group.sent) e.disk now → IsPassing Own to s0 e now group.next
-        passing_next counted = record {
+        pub passing_next : IsMaking Own to (was.sent ++ group.sent) e.disk now → IsPassing Own to s0 e now group.next
+        passing_next making = record {
           sent = was.sent ++ group.sent;
-          counted = counted;
-          used = wide stages;
-          rest = λ honest base kept.
-              let at_r = stages_honest honest in
-              rest_next Own to base was.sent at group (was.rest (looks.quiet.honest at_r) base kept) (from at_r base (was.used.holds.keeps base kept));
+          part = record { grows = making.grows; rest = rest_next };
+          counted = making.counted;
+          fit = making.fit;
+          used = used_wider (IsStagingTo to stages.sent) (IsStagingTo to (was.sent ++ group.sent)) s0 e (staging_front Own to stages.sent (was.sent ++ group.sent) stages.part.rest) used_next;
         }
 
         -- a path was in use
-        pub written_taken : e.disk.is_honest → AreTakenTo Own to (made_to to.source.links.now (was.sent ++ group.sent)) r.disk.seen → (base : Base) → s0.keeps base → IsTakenFor Own to base s0.disk.seen
+        pub written_taken : e.disk.is_honest → AreTakenTo Own to (was.sent ++ group.sent) r.disk.seen → (base : Base) → s0.keeps base → IsTakenFor Own to base s0.disk.seen
         written_taken honest taken base kept =
-            let at_r = stages_honest honest in
-            taken_all Own to was.sent (was.sent ++ group.sent) (sent_of to.source.links.now (drop group.next base.messages)) base s0 r
-            (rest_next Own to base was.sent at group (was.rest (looks.quiet.honest at_r) base kept) (from at_r base (was.used.holds.keeps base kept))) used_read taken
+            taken_all Own to can.routes was.sent (was.sent ++ group.sent) base s0 r (sent_of to.source.links.now (drop group.next base.messages), rest_next honest base kept) used_read taken
 
--- ---- counted packets are dropped
+-- ---- the packets with messages
 
-module _ (to : Sending) (s : StoreState) (made : List CountedPacket) (plan : Plan) (of : IsPlanOf to made plan) (planned : List PlannedPacket) (two : List TwoPaths) (trial : List ℕ) (listed packets : List Outgoing) (planned_is : planned ≡ plan.planned)
-    (two_is : two ≡ plan.two) (trial_is : trial ≡ plan.trial) (packets_is : packets ≡ listed) (sent : AreSent planned two listed) where
-  abbrev counted_to_drop : List Address
-  counted_to_drop = addresses_of made
+module _ (to : Sending) (planned : AreRoutes to) (sent : List Sent) (links : List LinkPacket) (are : AreCounted to sent links) (made : List Outgoing) (made_are : made ≡ made_in links) where
+  pub for_made : AreFor to (is_made sent) made
+  for_made = subst (λ (l : List Outgoing). AreFor to (is_made sent) l) (sym made_are) (made_for to sent links are)
 
-  pub drop_sent : AreSent plan.planned plan.two packets
-  drop_sent = subst (λ (l : List Outgoing). AreSent plan.planned plan.two l) (sym packets_is) (subst (λ (t : List TwoPaths). AreSent plan.planned t listed) two_is (subst (λ (p : List PlannedPacket). AreSent p two listed) planned_is sent))
+  pub made_going : (Own : List ℕ → Type 0) (s : StoreState) → CanSend Own to s → FitTo Own to sent → 0 < length made → AreGoing s.is_own to.outbound.now to.trial.now made
+  made_going Own s can fit some = going to (is_made sent) made for_made Own planned s can.own fit (λ o. trial_off to (is_made sent) made for_made Own fit some (can.own _ o))
 
-  pub drop_for : AreFor to counted_to_drop packets
-  drop_for = sent_for to made counted_to_drop refl plan of packets drop_sent
+  pub made_used : (s e : StoreState) → 0 < length made → IsUsedAt (IsAtStaging made to.trial.now) s e → IsUsedAt (IsStagingTo to sent) s e
+  made_used s e some used = used_wider (IsAtStaging made to.trial.now) (IsStagingTo to sent) s e (staging_at to (is_made sent) made for_made some) used
 
-  at_end : trial ≡ trial_of to
-  at_end = trial_is ∙ of.laid.trial
+  pub made_gone : (e : DiskState) → AreGone made to.trial.now e → (m : List ℕ) → IsStagingTo to sent m → e.seen m ≡ None
+  made_gone e gone m at = ⊎_elim (λ b. ap e.seen b.2 ∙ All-contains (IsStagingGone e) made b.0 gone.0 b.1) (λ t. ap e.seen t ∙ gone.1) (staging_of to (is_made sent) made for_made m at)
 
-  pub drop_going : FitTo s.is_own to counted_to_drop → All (λ b. b ≢ 47) to.own.now → AreGoing s.is_own to.outbound.now trial packets
-  drop_going fit plain =
-      fit_going s.is_own to.outbound.now to.own.now (λ a. []) plan.planned packets (fitting_of to made counted_to_drop refl plan of s.is_own packets fit drop_sent) trial at_end s (λ m o. o) plain
+  pub made_nowhere : length made ≡ 0 → (m : List ℕ) → IsStagingTo to sent m → ⊥
+  made_nowhere none m (a, (k, lt, is), at) = omega (arith, none, some_for to (is_made sent) made for_made (omega (arith, lt)))
 
-  pub drop_used_at : (e : StoreState) → 0 < length made → IsUsedAt (IsAtStaging packets trial) s e → IsUsedAt (IsStagingTo to counted_to_drop) s e
-  drop_used_at e some used =
-      used_wider (IsAtStaging packets trial) (IsStagingTo to counted_to_drop) s e (staging_at to counted_to_drop packets drop_for trial at_end (some_made made counted_to_drop refl some)) used
+  -- the paths of packets are those of names
+  pub made_touched : (Other : List ℕ → Type 0) (m : List ℕ) → IsGoingAt made to.trial.now m → IsTouched Other to.outbound.now m
+  made_touched Other m (inl (p, has, at)) =
+      let is = All-contains (IsRouted to) made p for_made.routed has in
+      let linked = (kept_passes (is_made sent) (link_set to.source.links.now) p.to (address_for to (is_made sent) made for_made p has)).0 in
+      inr (to.own.now, (packet_name p.to to.source.from, plain_name to planned p.to linked, ⊎_elim (λ e. inl (e ∙ is.staging)) (λ e. inr (e ∙ is.path)) at))
+  made_touched Other m (inr at) =
+      inr (to.own.now, ([], λ k d lt. absurd (omega (arith, lt)), inl (at ∙ planned.tried ∙ ap (λ (l : List ℕ). staging_path l to.own.now) (sym (append-nil to.outbound.now)))))
 
-  -- what was removed is gone
-  pub drop_gone : (e : DiskState) → AreGone packets trial e → (m : List ℕ) → IsStagingTo to counted_to_drop m → e.seen m ≡ None
-  drop_gone e gone m at =
-      ⊎_elim (λ b. ap e.seen b.2 ∙ All-contains (IsStagingGone e) packets b.0 gone.0 b.1) (λ t. ap e.seen t ∙ gone.1) (at_staging_of to counted_to_drop packets drop_for trial at_end m at)
+-- a run at staging paths keeps all else
+pub staged_keeps : (Own : List ℕ → Type 0) (to : Sending) → AreRoutes to → (sent : List Sent) → FitTo Own to sent → (s0 s1 : StoreState) → IsUsedAt (IsStagingTo to sent) s0 s1 → KeepsStoreBut (IsTouched s0.is_own to.outbound.now) s0 s1
+staged_keeps Own to planned sent fit s0 s1 used = record {
+  same = used.same;
+  keeps =
+      keeps_wider (IsStagingTo to sent) (IsTouched s0.is_own to.outbound.now) s0.disk s1.disk (λ m at. inr (to.own.now, (staging_named Own to planned (is_made sent) fit m at).0))
+      (keeps_only (IsStagingTo to sent) s0.disk s1.disk used.changes);
+}
 
 -- ---- the pass stopped
 
-pub stops_none : (Own : List ℕ → Type 0) (to : Sending) (s : StoreState) (why : PublishError) → AreSettledByOwn s → s.is_ready → StopsPassing Own to s s why
-stops_none Own to s why settled ready =
-    let nobody : List CountedPacket = [] in
-    record {
-      made = nobody;
-      staged = record {
-        sent = [];
-        staged = record { are = sym (none_in to.source.links.now); fit = λ some. absurd (omega (arith, some)); used = used_none (IsStagingTo to (made_to to.source.links.now [])) s settled ready };
-        part = λ honest base kept. (all_sent to base, refl);
-      };
-      gone = λ honest dropped m. inr refl;
-    }
-
-pub stops_dropped : (Own : List ℕ → Type 0) (to : Sending) (s0 s1 s2 : StoreState) (made : List CountedPacket) (why : PublishError) (done : Result (Unit {0}) DiskError) → HasStaged Own to s0 s1 made → IsUsedAt (IsStagingTo to (addresses_of made)) s1 s2
-    → Honestly s2.disk (OnOk done ((m : List ℕ) → IsStagingTo to (addresses_of made) m → s2.disk.seen m ≡ None)) → (AreDropped why → done ≡ Ok tt) → StopsPassing Own to s0 s2 why
-stops_dropped Own to s0 s1 s2 made why done staged drop gone all = record {
-  made = made;
-  staged = dropped Own to s0 s1 s2 made staged drop;
-  gone = λ honest is. gone_or_same Own to s0 s1 s2 made staged drop (subst (λ (r : Result (Unit {0}) DiskError). OnOk r ((m : List ℕ) → IsStagingTo to (addresses_of made) m → s2.disk.seen m ≡ None)) (all is) (gone honest));
+-- the packets for all links, without messages
+abbrev none_for : Sending → Address → LinkPacket
+none_for to a = record {
+  packet = record { path = record { ref_ptr = (0, 0); now = path_to to a }; staging = record { ref_ptr = (0, 0); now = staging_to to a }; to = a };
+  before = 0;
+  counted = counted_to [] a;
 }
+
+none_counted : (to : Sending) → AreCounted to [] (map (none_for to) (link_set to.source.links.now))
+none_counted to =
+    let links = link_set to.source.links.now in
+    record { addresses = map_twice (λ (l : LinkPacket). l.packet.to) (none_for to) links ∙ map-id links; each = All-map (IsCounted to []) (none_for to) links (λ k z lt. record { routed = record { path = refl; staging = refl }; counted = refl }) }
+
+pub stops_none : (Own : List ℕ → Type 0) (to : Sending) (s : StoreState) (why : PublishError) → CanSend Own to s → StopsPassing Own to s s why
+stops_none Own to s why can = record {
+  all = map (none_for to) (link_set to.source.links.now);
+  staged = record { sent = []; part = λ honest base kept. (all_sent to base, refl); counted = none_counted to; fit = made_none to (Fits Own to); used = used_none (IsStagingTo to []) s can.settled can.ready };
+  gone = λ honest dropped m. inr refl;
+}
+
+pub stops_dropped : (Own : List ℕ → Type 0) (to : Sending) (s0 s1 s2 : StoreState) (all : List LinkPacket) (why : PublishError) (done : Result (Unit {0}) DiskError) → HasStaged Own to (IsPartOf to s0 s1) s0 s1 all
+    → ((sent : List Sent) → AreCounted to sent all → IsUsedAt (IsStagingTo to sent) s1 s2) → Honestly s2.disk (OnOk done ((sent : List Sent) → AreCounted to sent all → (m : List ℕ) → IsStagingTo to sent m → s2.disk.seen m ≡ None))
+    → (AreDropped why → done ≡ Ok tt) → StopsPassing Own to s0 s2 why
+stops_dropped Own to s0 s1 s2 all why done staged used gone ends =
+    let drop = used staged.sent staged.counted in
+    record {
+      all = all;
+      staged = staged_more Own to (IsPartOf to s0 s1) (IsPartOf to s0 s2) s0 s1 s2 all staged (λ part honest base kept. part (drop.changes.honest honest) base kept) drop;
+      gone = λ honest is.
+          gone_or_same Own to (IsPartOf to s0 s1) s0 s1 s2 all staged drop
+          (subst (λ (r : Result (Unit {0}) DiskError). OnOk r ((sent : List Sent) → AreCounted to sent all → (m : List ℕ) → IsStagingTo to sent m → s2.disk.seen m ≡ None)) (ends is) (gone honest) staged.sent staged.counted);
+    }

@@ -22,7 +22,7 @@ use Rattle.disk_atomic.specs.declared.placing_error.PlacingError.TheVariants as 
 use Rattle.station_scan.specs.declared.publish_error.PublishError.{PublishError}
 use Rattle.station_scan.specs.declared.publish_error.PublishError.TheVariants.{Base as OfBase, Packets, Reading, Staging}
 
--- none of the store's own paths is a packet's
+-- no own path of the store belongs to a packet
 pub own_not_of : (s : StoreState) (packets : List Outgoing) → All (IsApartFrom s.is_own) packets → (m : List ℕ) → s.is_own m → IsOfOne packets m → ⊥
 own_not_of s packets apart m own (p, is, at) =
     let away : IsApartFrom s.is_own p = All-contains (IsApartFrom s.is_own) packets p apart is in
@@ -35,9 +35,9 @@ own_not_staging s outbound trial packets going m own at = ⊎_elim (λ b. own_no
 pub apart_still : (packets : List Outgoing) (s0 s1 : StoreState) → IsSameStore s0 s1 → All (IsApartFrom s0.is_own) packets → All (IsApartFrom s1.is_own) packets
 apart_still packets s0 s1 same apart k z lt = record { path = λ o. (apart k z lt).path ((same.own _).0 o); staging = λ o. (apart k z lt).staging ((same.own _).0 o) }
 
--- ---- what stands still
+-- ---- unchanged files
 
--- but for these paths
+-- except at these paths
 pub keeps_then : (paths : List ℕ → Type 0) (d0 d1 d2 : DiskState) → UnchangedExcept paths d0 d1 → UnchangedExcept paths d1 d2 → UnchangedExcept paths d0 d2
 keeps_then paths d0 d1 d2 one two = record {
   seen = λ m other. two.seen m other ∙ one.seen m other;
@@ -74,7 +74,7 @@ keeps_nothing paths d0 d1 quiet = record {
 pub store_wider : (few many : List ℕ → Type 0) (s0 s1 : StoreState) → ((m : List ℕ) → few m → many m) → KeepsStoreBut few s0 s1 → KeepsStoreBut many s0 s1
 store_wider few many s0 s1 more kept = record { same = kept.same; keeps = keeps_wider few many s0.disk s1.disk more kept.keeps }
 
--- ---- what is committed
+-- ---- commits
 
 pub commits_still : (s0 s1 s2 : StoreState) → Commits s0 s1 → HoldsAsBefore s1 s2 → (s2.disk.is_honest → s1.disk.is_honest) → Commits s0 s2
 commits_still s0 s1 s2 commits holds honest = record {
@@ -90,7 +90,7 @@ holds_still s0 s1 s2 one two = record { ready = two.ready; keeps = λ base h. tw
 pub holds_now : (s : StoreState) → s.is_ready → HoldsAsBefore s s
 holds_now s ready = record { ready = ready; keeps = λ base h. h; committed = λ base h. h }
 
--- ---- what packets have, by another function
+-- ---- the content of packets by another function
 
 module _ (one other : Outgoing → List ℕ) (packets : List Outgoing) (same : All (λ p. one p ≡ other p) packets) where
   pub whole_as : (c : Files) → All (StandsWhole one c) packets → All (StandsWhole other c) packets
@@ -107,9 +107,9 @@ module _ (one other : Outgoing → List ℕ) (packets : List Outgoing) (same : A
   pub filled_as : (d : DiskState) → All (IsFilled one d) packets → All (IsFilled other d) packets
   filled_as d all k z lt = subst (HasOnDisk d (get_or packets k z).staging.now) (same k z lt) (all k z lt)
 
--- ---- what a crash leaves
+-- ---- crashes
 
--- packets stand beside their paths, and the store is committed
+-- packets are in staging files, and the store is committed
 module _ (packets : List Outgoing) (s0 : StoreState) (apart : All (IsApartFrom s0.is_own) packets) (s1 : StoreState) (may : MayCommit s0 s1) (staged : AreStaged packets s0.disk) where
   abbrev has : Outgoing → List ℕ
   has = staged_in s0.disk.seen
@@ -120,7 +120,7 @@ module _ (packets : List Outgoing) (s0 : StoreState) (apart : All (IsApartFrom s
       let off = (apart k z lt).staging in
       record { seen = may.beside.seen _ off ∙ file.seen; named = may.beside.named _ off file.named; flushed = may.beside.flushed _ off file.flushed }
 
-  -- where that failed they stay there
+  -- after a failure they stay there
   pub all_filled : All (IsFilled has s1.disk) packets
   all_filled k z lt = filled_still k z lt
 
@@ -168,7 +168,7 @@ module _ (packets : List Outgoing) (s0 : StoreState) (apart : All (IsApartFrom s
         );
       })
 
--- packets are written beside their paths, and a path is tried
+-- packets are written into staging files, and a path is tried
 module _ (outbound trial : List ℕ) (content : Outgoing → List ℕ) (packets : List Outgoing) (s0 : StoreState) (going : AreGoing s0.is_own outbound trial packets) (ready : s0.is_ready) (s1 : StoreState) (used : IsUsedAt (IsAtStaging packets trial) s0 s1) where
   abbrev May : Base → Base → Files → Type 0
   May first next c = PublishesOn s0 content packets trial first next c
@@ -200,7 +200,7 @@ module _ (outbound trial : List ℕ) (content : Outgoing → List ℕ) (packets 
             (λ all. inr ((used.same.stands next c).0 all.0, whole_as (staged_in s1.disk.seen) content packets written c all.1, bytes_as (staged_in s1.disk.seen) content packets written all.2)) with.either;
       }))
 
-  -- and what it touches
+  -- and the paths that it touches
   pub publish_keeps : (s2 : StoreState) → KeepsStoreBut (IsPublishedAt s1 (IsOfOne packets)) s1 s2 → KeepsStoreBut (IsPublishedAt s0 (IsGoingAt packets trial)) s0 s2
   publish_keeps s2 kept =
       let at = IsPublishedAt s0 (IsGoingAt packets trial) in
@@ -217,7 +217,7 @@ module _ (outbound trial : List ℕ) (content : Outgoing → List ℕ) (packets 
     keeps = keeps_wider (IsAtStaging packets trial) (IsPublishedAt s0 (IsGoingAt packets trial)) s0.disk s1.disk (λ m is. inr (going_at m is)) (keeps_only (IsAtStaging packets trial) s0.disk s1.disk used.changes);
   }
 
--- what was committed after it was used is committed from before
+-- a commit after a use is a commit from before it
 pub commits_used : (paths : List ℕ → Type 0) (s0 s1 s2 : StoreState) → IsUsedAt paths s0 s1 → Commits s1 s2 → Commits s0 s2
 commits_used paths s0 s1 s2 used commits = record {
   ready = commits.ready;

@@ -1,5 +1,6 @@
 -- Leftover packets are finished, and then the packets of a scan are put in place.
 use Rattle.std.proofs.Common.{◌≡◌, ◌⊎◌, inl, inr, ⊎_elim, ◌∙◌, ◌<◌, ℕ, List, [], ◌++◌, Result, Ok, Err, refl, sym, subst, ap, append_assoc, arith}
+use Rattle.std.proofs.lemmas.Result.{on_ok_weaker}
 use Rattle.std.specs.Prelude.{All, IfErr, IsErrOf, None, OnOk}
 use Rattle.std.proofs.lemmas.List.{append_cancel_left}
 use Rattle.std.proofs.lemmas.List.Elements.{All-contains}
@@ -24,7 +25,7 @@ use Rattle.base_store.specs.Store.{StoreState, all_scanned}
 use Rattle.base_store.specs.declared.store_error.StoreError.TheVariants as error
 use Rattle.station.specs.Beneath.{HoldsAsBefore}
 use Rattle.station_scan.specs.Beneath.{IsUsedAt}
-use Rattle.station_scan.specs.Beside.{IsMoved, IsPutBeside, ScansBeside, StopsBeside, TellsBeside, files_reported, from_number, left_cause, left_told, told_as}
+use Rattle.station_scan.specs.Moved.{IsMoved, IsPutFrom, ScansFrom, StopsFrom, ReportsFrom, files_reported, from_number, left_cause, left_reported, reported_as}
 use Rattle.station_scan.specs.Fitting.{AreTaken}
 use Rattle.station_scan.specs.Left.{AreFreeLeft, EndsLeft, IsLeftOf, IsOfNameOff}
 use Rattle.station_scan.specs.Scanning.{IsPutOn, IsTaken, ScansOnStore, SendsOut, StopsScan, TriesOn, packets_in}
@@ -43,15 +44,14 @@ use Rattle.station_scan.proofs.Outs.{is_ended, not_sent, sends_out, stopped_cras
 use Rattle.station_scan.proofs.Scans.{stops_quiet}
 use Rattle.station_scan.proofs.Staged.{tried_after}
 use Rattle.station_scan.proofs.Stops.{put_wider}
-use Rattle.station_scan.proofs.Through.{on_ok_gives}
-use Rattle.station_scan.proofs.Told.{reported_whole, told_wider}
+use Rattle.station_scan.proofs.Reports.{reported_whole, reports_wider}
 
 -- a staging path is no packet's path
 path_not_staging : (outbound own : List ℕ) (files : List PacketFile) (m n : List ℕ) → IsStagingOfPacket outbound own files m → All IsNameByte n → m ≡ outbound ++ n → ⊥
 path_not_staging outbound own files m n (inl (sent, has, plain, at)) is e = not_staging own n sent.name is (append_cancel_left outbound n (sent.name ++ ending own) (sym e ∙ at ∙ append_assoc outbound sent.name (ending own)))
 path_not_staging outbound own files m n (inr at) is e = trial_no_path outbound own n is (sym at ∙ e)
 
-stopped_ok : (P failed : Type 0) (before after : Files) (why : CommandError) (result : Result (Unit {0}) ScanError) → TellsBeside failed before after why result → OnOk result P
+stopped_ok : (P failed : Type 0) (before after : Files) (why : CommandError) (result : Result (Unit {0}) ScanError) → ReportsFrom failed before after why result → OnOk result P
 stopped_ok P failed before after why result (inl (is, gone)) = subst (λ (r : Result (Unit {0}) ScanError). OnOk r P) (sym is) tt
 stopped_ok P failed before after why result (inr (left, is, cause)) = subst (λ (r : Result (Unit {0}) ScanError). OnOk r P) (sym is) tt
 
@@ -100,7 +100,7 @@ module _ (Own : List ℕ → Type 0) (to : Sending) (own_is : to.own.now ≡ dot
           path_not_staging outbound own files m like.0 of like.1.plain (e ∙ like.1.path)) is.2))
     ]
 
-    stops_put : (some : Type 0) → (some → failed) → (files : List PacketFile) (why : CommandError) (result : Result (Unit {0}) ScanError) → StopsBeside outbound own some s1 s2 base files why result
+    stops_put : (some : Type 0) → (some → failed) → (files : List PacketFile) (why : CommandError) (result : Result (Unit {0}) ScanError) → StopsFrom outbound own some s1 s2 base files why result
         → StopsScan is_true failed Own outbound own (s0.stands base) cursor files s0.disk s2.disk why result
     stops_put some wider files why result stops = record {
       found = found;
@@ -108,11 +108,11 @@ module _ (Own : List ℕ → Type 0) (to : Sending) (own_is : to.own.now ≡ dot
       crash = stopped_crash Own outbound own is_true failed cursor files s0 s1 inside used moved.ready honest0 base (all_scanned base) moved.committed (Ok tt) ends s2 stops.crash;
       shown = (used.same.stands base s2.disk.seen).0 stops.shown;
       others = λ m other. stops.others m (λ of. other (inr of)) ∙ ends.changes.seen m (λ of. other (inl of));
-      told = ⊎_elim (λ told. inl (told.0, λ m of. gone_or_was files m of (told.1 m))) (λ told. inr told) (told_wider some failed s1.disk.seen s2.disk.seen why result wider stops.told);
+      reported = ⊎_elim (λ reported. inl (reported.0, λ m of. gone_or_was files m of (reported.1 m))) (λ reported. inr reported) (reports_wider some failed s1.disk.seen s2.disk.seen why result wider stops.reported);
     }
 
     module _ {D : Type 0} (state : D → DiskState) (some : Type 0) (wider : some → failed) (out now : Output) (result : Result (Unit {0}) ScanError) where
-      put_made : (made : Result (List PacketFile) CommandError) → IsPutBeside state Own outbound own some s1 s2 base packets made result → IsPutOn Own outbound own IsTrue failed s0 s2 base packets made result
+      put_made : (made : Result (List PacketFile) CommandError) → IsPutFrom state Own outbound own some s1 s2 base packets made result → IsPutOn Own outbound own IsTrue failed s0 s2 base packets made result
       put_made (Ok files) put =
           subst (λ (n : ℕ). SendsOut is_true failed Own outbound own (s0.stands base) (s0.stands (all_scanned base)) n files s0.disk s2.disk result) same_cursor
           (sends_out Own outbound own is_true failed cursor files s0 s1 inside used moved.ready honest0 base (all_scanned base) moved.committed ends s2 honest2 put.keeps moved.keeps (λ b. files) refl result put.sent put.crash
@@ -120,7 +120,7 @@ module _ (Own : List ℕ → Type 0) (to : Sending) (own_is : to.own.now ≡ dot
           (put_wider some failed (AreTaken Own outbound own files s1.disk.seen) (AreTaken Own outbound own files s1.disk.seen) (most < base.cursor) result wider (λ t. t) put.why)))
       put_made (Err why) put = subst (λ (n : ℕ). StopsScan is_true failed Own outbound own (s0.stands base) n packets s0.disk s2.disk why result) same_cursor (stops_put some wider packets why result put)
 
-      pub scans_put : ScansBeside state Own to some s1 s2 out now base result → ScansOnStore to.source.stamp Own outbound IsTrue failed s0 s2 out now to.source.links.now base result
+      pub scans_put : ScansFrom state Own to some s1 s2 out now base result → ScansOnStore to.source.stamp Own outbound IsTrue failed s0 s2 out now to.source.links.now base result
       scans_put scans = record { made = scans.made; answer = scans.answer; put = put_as s2 scans.made result (put_made scans.made scans.put); whole = scans.whole }
 
       tried_at : (files : List PacketFile) → WasTriedFor state Own outbound own files s1.disk → WasTriedFor state Own outbound (dotted to.source.links.now.system) files s0.disk
@@ -129,14 +129,14 @@ module _ (Own : List ℕ → Type 0) (to : Sending) (own_is : to.own.now ≡ dot
           subst (λ (o : List ℕ). WasTriedFor state Own outbound o files s0.disk) own_is
           (inr (tried_after state (IsOfNameOff Own outbound own) (IsOfNameOff Own outbound own) (staging_path outbound own) s0.disk s1.disk (λ m is. is) used.changes.seen was))
 
-      tries_made : (made : Result (List PacketFile) CommandError) → ScansOn to.source.stamp (state_in to.source.links.now base) out now made → IsPutBeside state Own outbound own some s1 s2 base packets made result
+      tries_made : (made : Result (List PacketFile) CommandError) → ScansOn to.source.stamp (state_in to.source.links.now base) out now made → IsPutFrom state Own outbound own some s1 s2 base packets made result
           → OnOk result (TriesOn state to.source.stamp Own outbound s0 s2 out now to.source.links.now base)
       tries_made (Ok files) answer put =
-          on_ok_gives result (λ tried.
+          on_ok_weaker result (λ tried.
           ⊎_elim (λ (h : HoldsAsBefore s1 s2). inl (h.ready, h.committed base (used.holds.committed base moved.committed))) (λ (was : WasTriedFor state Own outbound own files s1.disk). inr (files, answer, tried_at files was)) tried) put.tried
-      tries_made (Err why) answer put = stopped_ok _ some s1.disk.seen s2.disk.seen why result put.told
+      tries_made (Err why) answer put = stopped_ok _ some s1.disk.seen s2.disk.seen why result put.reported
 
-      pub tries_put : ScansBeside state Own to some s1 s2 out now base result → OnOk result (TriesOn state to.source.stamp Own outbound s0 s2 out now to.source.links.now base)
+      pub tries_put : ScansFrom state Own to some s1 s2 out now base result → OnOk result (TriesOn state to.source.stamp Own outbound s0 s2 out now to.source.links.now base)
       tries_put scans = tries_made scans.made scans.answer scans.put
 
   -- they were not, and the lines were printed or not
@@ -164,11 +164,11 @@ module _ (Own : List ℕ → Type 0) (to : Sending) (own_is : to.own.now ≡ dot
           then_nothing s0.disk s1.disk s2.disk _ (stopped_only Own outbound own is_true failed cursor packets s0 s1 inside used moved.ready honest0 base (all_scanned base) moved.committed result1 ends) quiet;
       shown = (used.same.stands base s2.disk.seen).0 (subst (λ (f : Files). s1.stands base f) (sym (same_seen s1.disk s2.disk quiet)) (s1.shown honest1 used.holds.ready base (used.holds.committed base moved.committed)));
       others = λ m other. quiet.seen m ∙ ends.changes.seen m (λ of. other (inl of));
-      told = inr (left_cause cause stop, refl, left_why stop device_of cause refl);
+      reported = inr (left_cause cause stop, refl, left_why stop device_of cause refl);
     }
 
     pub scans_left : (out now : Output) (reported : Result (Unit {0}) CommandError) → ScansOn to.source.stamp (state_in to.source.links.now (from_number to.source.from base)) out now (files_reported to.source (all_scanned base) reported)
-        → (IsErrOf (store_answer reported) error.Device → failed) → ScansOnStore to.source.stamp Own outbound IsTrue failed s0 s2 out now to.source.links.now base (left_told cause reported)
+        → (IsErrOf (store_answer reported) error.Device → failed) → ScansOnStore to.source.stamp Own outbound IsTrue failed s0 s2 out now to.source.links.now base (left_reported cause reported)
     scans_left out now (Ok done) answer device_of = record {
       made = Ok packets;
       answer = subst (λ (n : ℕ). ScansOn to.source.stamp (state_in to.source.links.now (from_number n base)) out now (Ok (packets_in to.source.stamp to.source.links.now (from_number n base)))) moved.at answer;
@@ -193,7 +193,7 @@ pub scans_early : (Own : List ℕ → Type 0) (outbound : List ℕ) (source : So
     → IsMoved s0 source.from base → s0.disk.is_honest → ChangesNothing s0.disk s2.disk → ((e : CommandError) → why ≡ Command e → ⊥)
     → IsOfPlacing failed (IsTaken Own outbound (dotted source.links.now.system) base.cursor [] (packets_in source.stamp source.links.now base) s0.disk.seen) (most < base.cursor) why
     → ScansOn source.stamp (state_in source.links.now (from_number source.from base)) out now (files_reported source (all_scanned base) reported) → (IsErrOf (store_answer reported) error.Damaged → ⊥)
-    → ScansOnStore source.stamp Own outbound IsTrue failed s0 s2 out now source.links.now base (told_as why reported)
+    → ScansOnStore source.stamp Own outbound IsTrue failed s0 s2 out now source.links.now base (reported_as why reported)
 scans_early Own outbound source IsTrue failed s0 s2 base out now why (Ok done) moved honest quiet not is answer whole = record {
   made = Ok (packets_in source.stamp source.links.now base);
   answer = subst (λ (n : ℕ). ScansOn source.stamp (state_in source.links.now (from_number n base)) out now (Ok (packets_in source.stamp source.links.now (from_number n base)))) moved.at answer;

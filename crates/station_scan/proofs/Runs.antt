@@ -18,7 +18,7 @@ use Rattle.station.specs.Place.{IsOfPlace, KeepsElsewhere, Place, StandsAlone, S
 use Rattle.station_scan.specs.Fitting.{AreFit}
 use Rattle.station_scan.specs.Left.{AreAllLeft, IsLeftOf}
 use Rattle.station_scan.specs.Publishing.{IsOnDisk, UnchangedExcept, KeepsStoreBut}
-use Rattle.station_scan.specs.Scanning.{AreSentOut, CommitsScan, IsPutAs, IsOnItsWay, IsPreparing, IsPutIn, IsPutOn, IsScanOn, IsTaken, IsTouched, MayLeave, PreparesScan, ScansOnStore, SendsOut, StopsScan, StopsScanIn, TellsStop, packets_in}
+use Rattle.station_scan.specs.Scanning.{AreSentOut, CommitsScan, IsPutAs, IsOnItsWay, IsPreparing, IsPutIn, IsPutOn, IsScanOn, IsTaken, IsTouched, MayLeave, PreparesScan, ScansOnStore, SendsOut, StopsScan, StopsScanIn, ReportsStop, packets_in}
 use Rattle.station_scan.specs.Sends.{IsOfThese}
 use Rattle.station_scan.specs.declared.scan_error.ScanError.{ScanError}
 use Rattle.station_scan.specs.declared.scan_error.ScanError.TheVariants.{Staying}
@@ -27,7 +27,7 @@ use Rattle.station_scan.proofs.Looked.{same_seen}
 use Rattle.station_scan.proofs.Published.{keeps_nothing, keeps_then, keeps_wider}
 use Rattle.station_scan.proofs.Stops.{put_wider}
 
--- what is of one set of own paths, as of another one of the same paths
+-- the same for another name of the same own paths
 module _ (Own Own2 : List ℕ → Type 0) (out : (m : List ℕ) → Own2 m → Own m) (outbound own : List ℕ) where
   left_as : (is_true : Type 0) (l : Left) → IsLeftOf is_true Own outbound own l → IsLeftOf is_true Own2 outbound own l
   left_as is_true l (name, like, numbered) = (
@@ -57,7 +57,7 @@ module _ (Own Own2 : List ℕ → Type 0) (out : (m : List ℕ) → Own2 m → O
     trial = λ o. fit.trial (into _ o);
   }
 
-  -- what has a path
+  -- the two paths of a packet
   taken_as : (cursor : ℕ) (found : List Left) (files : List PacketFile) (seen : Files) → ((m : List ℕ) → Own m → Own2 m) → IsTaken Own outbound own cursor found files seen → IsTaken Own2 outbound own cursor found files seen
   taken_as cursor found files seen into (inl left) =
       inl (λ free. left (λ name to. free name (record { plain = to.plain; off = record { path = λ o. to.off.path (out _ o); staging = λ o. to.off.staging (out _ o) }; there = to.there })))
@@ -115,9 +115,9 @@ module _ (place : Place) (d0 d2 : DiskState) (s1 s2 : StoreState) (begun : IsOpe
           (then_run d0 s1.disk s2.disk May Prepares_on (weaker_run d0 s1.disk (StandsOrWasLeft place d0 base) May (begun.run base stands) opened_prepares) crash (λ c on. inr (prepared_on c on)))
           quiet
 
-    -- what is reported where it stopped
-    stopped_told : (files : List PacketFile) (some failed : Type 0) (why : CommandError) (result : Result (Unit {0}) ScanError) → (some → failed) → TellsStop some outbound own files s1.disk.seen s2.disk.seen why result
-        → TellsStop failed outbound own files s1.disk.seen d2.seen why result
+    -- the report of a scan that stopped
+    stopped_told : (files : List PacketFile) (some failed : Type 0) (why : CommandError) (result : Result (Unit {0}) ScanError) → (some → failed) → ReportsStop some outbound own files s1.disk.seen s2.disk.seen why result
+        → ReportsStop failed outbound own files s1.disk.seen d2.seen why result
     stopped_told files some failed why result wider (inl (is, gone)) = inl (is, λ m at. ⊎_elim (λ none. inl (quiet.seen m ∙ none)) (λ same. inr (quiet.seen m ∙ same)) (gone m at))
     stopped_told files some failed why result wider (inr (left, is, cause)) = inr (left, is, put_wider some failed ⊥ ⊥ ⊥ (Err (Staying left)) wider (λ none. none) cause)
 
@@ -132,7 +132,7 @@ module _ (place : Place) (d0 d2 : DiskState) (s1 s2 : StoreState) (begun : IsOpe
       lasts = λ c left. prepared_on files stops.found c (left_now s1.disk s2.disk (Prepares_on files stops.found) stops.crash c (quiet.no_more c left));
       shown = subst Stays (sym (same_seen s2.disk d2 quiet)) ((of.stands base s2.disk.seen).0 stops.shown);
       others = λ m other. quiet.seen m ∙ stops.others m other;
-      told = stopped_told files some failed why result wider stops.told;
+      reported = stopped_told files some failed why result wider stops.reported;
     }
 
     module _ (files : List PacketFile) (is_true : Type 0) (some : Type 0) (result : Result (Unit {0}) ScanError) (sends : SendsOut is_true some Own outbound own (s1.stands base) (s1.stands (all_scanned base)) base.cursor files s1.disk s2.disk result) where
@@ -212,7 +212,7 @@ module _ (place : Place) (d0 d2 : DiskState) (s1 s2 : StoreState) (begun : IsOpe
     put_as IsTrue some failed packets (Ok files) result wider sent = put_in files IsTrue some failed result wider sent
     put_as IsTrue some failed packets (Err why) result wider stops = stopped_in packets IsTrue some failed why result wider stops
 
-  -- what is so of the scan
+  -- the scan of a station
   pub scanned_on : (stamp : Stamp) (IsTrue : Files → Type 0) (some failed : Type 0) (out now : Output) (file : LinkFile) (base : Base) (result : Result (Unit {0}) ScanError) → place.stands_for base d0.seen → (some → failed)
       → ScansOnStore stamp Own outbound IsTrue some s1 s2 out now file base result → IsScanOn stamp place outbound IsTrue failed d0 d2 out now file base result
   scanned_on stamp IsTrue some failed out now file base result stands wider scans = record {

@@ -36,7 +36,7 @@ stops_quiet is_true failed Own outbound own cursor files s1 new base why honest 
       (λ c left. (c, left, record { between = c; ends = finishes_none cursor [] c; writes = λ m other. refl; stands = s1.stays honest ready base is c left }));
   shown = subst (λ (c : Files). s1.stands base c) (sym (same_seen s1.disk new quiet)) (s1.shown honest ready base is);
   others = λ m other. quiet.seen m;
-  told = inl (refl, λ m of. inr (quiet.seen m));
+  reported = inl (refl, λ m of. inr (quiet.seen m));
 }
 
 pub scans_stopped : (stamp : Stamp) (Own : List ℕ → Type 0) (outbound : List ℕ) (IsTrue : Files → Type 0) (failed : Type 0) (s1 s2 : StoreState) (out now : Output) (file : LinkFile) (base : Base) (why : CommandError) → s1.disk.is_honest → s1.is_ready

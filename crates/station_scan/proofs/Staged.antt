@@ -1,4 +1,4 @@
--- Packets that stand beside their paths, while a path is tried with the first of them.
+-- Packets in staging files, while a path is tried with the first of them.
 use Rattle.std.proofs.Common.{◌≡◌, ◌≢◌, ◌⊎◌, inl, inr, ⊎_elim, ◌∙◌, ◌<◌, ◌≤◌, ℕ, List, ap, arith, get_or, length, subst, sym}
 use Rattle.std.specs.Prelude.{All, Contains, IsSome}
 use Rattle.std.proofs.lemmas.Bool.{cases_lt}

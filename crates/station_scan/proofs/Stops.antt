@@ -38,7 +38,7 @@ module _ (failed taken far : Type 0) where
       subst (λ (r : Result (Unit {0}) ScanError). IfErr r (IsOfPlacing failed taken far)) (sym is)
       (stop_why why (λ e. packets (cc e)) (λ e. free (cc e)) (λ e. staging (cc e)) (λ e. base (cc e)) (λ e. whole (cc e)) (λ e. read (cc e)) (λ e. unread (cc e)))
 
-  -- what earlier scans left was not brought to its end
+  -- leftover packets were not finished
   pub placing_why : (cause : PlacingError) → (cause ≡ placing.Device → failed) → (cause ≡ placing.Taken → taken) → IsOfPlacing failed taken far (Placing cause)
   placing_why placing.Device device free = device refl
   placing_why placing.Memory device free = tt

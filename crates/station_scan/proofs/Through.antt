@@ -1,5 +1,6 @@
--- What is so of a disk once nothing more has changed, and before.
+-- Facts about a disk before and after calls that change nothing.
 use Rattle.std.proofs.Common.{inl, inr, ⊎_elim, ◌∙◌, ℕ, List, get_or, refl, subst, sym}
+use Rattle.std.proofs.lemmas.Result.{on_ok_weaker}
 use Rattle.std.specs.Prelude.{All, Err, IfOk, IsSome, Ok, OnOk, Result}
 use Rattle.disk_io.specs.Disk.{DiskState, Files}
 use Rattle.disk_io.specs.Runs.{ChangesNothing, LeavesOnly, OneStepOn}
@@ -21,10 +22,6 @@ use Rattle.station_scan.proofs.Looked.{same_seen}
 pub ok_gives : {T E : Type 0} (r : Result T E) (P Q : T → Type 0) → ((value : T) → P value → Q value) → IfOk r P → IfOk r Q
 ok_gives (Ok value) P Q gives is = gives value is
 ok_gives (Err cause) P Q gives is = tt
-
-pub on_ok_gives : {T E P Q : Type 0} (r : Result T E) → (P → Q) → OnOk r P → OnOk r Q
-on_ok_gives (Ok value) gives is = gives is
-on_ok_gives (Err cause) gives is = tt
 
 module _ (d e : DiskState) (quiet : ChangesNothing d e) where
   file_through : (path bytes : List ℕ) → HasOnDisk d path bytes → HasOnDisk e path bytes
@@ -83,7 +80,7 @@ module _ (a d e b : DiskState) (before : ChangesNothing a d) (after : ChangesNot
   ended_back cursor found m (l, is, at) = (l, is, ⊎_elim (λ o. inl o) (λ p. inr (p.0, ⊎_elim (λ below. inl below) (λ none. inr (sym (after.seen m) ∙ none)) p.1)) at)
 
   over_after : (cursor : ℕ) (found : List Left) (folder : List ℕ) (r : Result (Unit {0}) PlacingError) → OnOk r (All (IsOver cursor a e) found) → OnOk r (All (IsOver cursor a b) found)
-  over_after cursor found folder r over = on_ok_gives r (λ all k z lt. over_still cursor a e b after (get_or found k z) (all k z lt)) over
+  over_after cursor found folder r over = on_ok_weaker r (λ all k z lt. over_still cursor a e b after (get_or found k z) (all k z lt)) over
 
   pub ends_through : (IsTrue : Files → Type 0) (Own : List ℕ → Type 0) (folder own : List ℕ) (cursor : ℕ) (r : Result (Unit {0}) PlacingError) → EndsLeft (IsTrue d.seen) Own folder own cursor d e r
       → EndsLeft (IsTrue a.seen) Own folder own cursor a b r
@@ -95,8 +92,8 @@ module _ (a d e b : DiskState) (before : ChangesNothing a d) (after : ChangesNot
         each = subst (λ (f : Files). All (IsLeftOf (IsTrue f) Own folder own) found) seen ends.each;
         all = subst (λ (f : Files). OnOk r (AreAllLeft (IsTrue f) Own folder own f found)) seen ends.all;
         over = over_after cursor found folder r (on_ok_over cursor found a d e r before.seen ends.over);
-        named = on_ok_gives r (λ named m is. after.named m (λ h. h) (named m is)) ends.named;
-        flushed = on_ok_gives r (λ flushed m is. after.flushed m (λ h. h) (flushed m (ended_back cursor found m is))) ends.flushed;
+        named = on_ok_weaker r (λ named m is. after.named m (λ h. h) (named m is)) ends.named;
+        flushed = on_ok_weaker r (λ flushed m is. after.flushed m (λ h. h) (flushed m (ended_back cursor found m is))) ends.flushed;
         any_moment = then_nothing a e b (OneStepOn (FinishesEach cursor found) a) (quiet_then a d e (FinishesEach cursor found) (FinishesEach cursor found) before (finishes_none cursor found) ends.any_moment (λ x c f. f)) after;
         changes = then_only (IsOfLeft found) a e b (then_only (IsOfLeft found) a d e (only_nothing (IsOfLeft found) a d before) ends.changes) (only_nothing (IsOfLeft found) e b after);
       }

@@ -24,7 +24,7 @@ use Rattle.station_scan.proofs.Published.{apart_still, holds_now, holds_still}
 use Rattle.station_scan.proofs.Staged.{tried_after}
 use Rattle.station_scan.proofs.Through.{open_through}
 
--- ---- a store whose disk is used time and again
+-- ---- a store after several uses of its disk
 
 module _ (paths : List ℕ → Type 0) where
   pub used_none : (s : StoreState) → AreSettledByOwn s → s.is_ready → IsUsedAt paths s s
@@ -79,7 +79,7 @@ pub tried_written : {D : Type 0} (state : D → DiskState) (packets : List Outgo
 tried_written state packets trial s0 s1 used (inl none) = inl none
 tried_written state packets trial s0 s1 used (inr was) = inr (tried_after state (IsAtStaging packets trial) (IsAtStaging packets trial) trial s0.disk s1.disk (λ m is. is) used.changes.seen was)
 
--- ---- what is so once the disk was given back
+-- ---- facts after the disk was given back
 
 pub begun_if : (batch : Batch) → ArePlaced batch.outbound.now batch.packets.now → (d e : DiskState) → ChangesNothing d e → (done : Result Bool DiskError) → IfOk done (λ free. free ≡ true → All (IsMade d) batch.packets.now)
     → IfOk done (λ free. free ≡ true → (m : List ℕ) → IsIn batch.outbound.now m → d.is_named m) → Honestly d (IfOk done (λ free. free ≡ true → All (IsFree d) batch.packets.now)) → IfOk done (λ free. free ≡ true → IsBegun batch e)

@@ -65,15 +65,15 @@ Adds Own folder own packet before after =
     (after ≡ before) ⊎ ((l : LeftPaths) × (after ≡ before ++ l ∷ []) × IsFoundAs Own folder own packet l × All (HaveOtherLeft l) before)
 
 -- The same packet, with its paths borrowed.
-pub record IsLent (two : LeftPaths) (l : Left) : Type 0 where
+pub record IsSameLeft (two : LeftPaths) (l : Left) : Type 0 where
   pub path : l.path.now ≡ two.two.path
   pub staging : l.staging.now ≡ two.two.staging
   pub before : l.before ≡ two.before
 
 -- These are the same packets, one by one.
-pub record AreLent (paths : List LeftPaths) (found : List Left) : Type 0 where
+pub record AreSameLeft (paths : List LeftPaths) (found : List Left) : Type 0 where
   pub as_many : length found ≡ length paths
-  pub each : (k : ℕ) (w : LeftPaths) (l : Left) → k < length paths → IsLent (get_or paths k w) (get_or found k l)
+  pub each : (k : ℕ) (w : LeftPaths) (l : Left) → k < length paths → IsSameLeft (get_or paths k w) (get_or found k l)
 
 -- The staging path of one of these; or the path of one, if its scan was committed or its path leads to no file.
 abbrev pub IsEndedAt : ℕ → List Left → Files → List ℕ → Type 0
@@ -83,7 +83,7 @@ IsEndedAt cursor found c m = (l : Left) × Contains found l × ((m ≡ l.staging
 -- at least. It leaves no other packet at its path.
 pub record EndsThese (cursor : ℕ) (paths : List LeftPaths) (old new : DiskState) (result : Result (Unit {0}) PlacingError) : Type 0 where
   pub found : List Left
-  pub lent : AreLent paths found
+  pub lent : AreSameLeft paths found
   pub over : OnOk result (All (IsOver cursor old new) found)
   pub named : OnOk result ((m : List ℕ) → IsOfLeft found m → new.is_named m)
   pub flushed : OnOk result ((m : List ℕ) → IsEndedAt cursor found new.seen m → new.is_flushed m)

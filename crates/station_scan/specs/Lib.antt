@@ -8,4 +8,4 @@ pub mod Stops
 pub mod Scanning
 pub mod Writing
 pub mod Passing
-pub mod Beside
+pub mod Moved

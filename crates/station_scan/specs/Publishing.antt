@@ -163,7 +163,7 @@ pub record KeepsStoreBut (paths : List ℕ → Type 0) (old new : StoreState) : 
 abbrev pub IsPublishedAt : StoreState → (List ℕ → Type 0) → List ℕ → Type 0
 IsPublishedAt s paths m = s.is_own m ⊎ paths m
 
--- what is in the staging files before a commit, whatever the base
+-- the content of the staging files before a commit, for any base
 abbrev pub staged_before : StoreState → Base → Outgoing → List ℕ
 staged_before old base = staged_in old.disk.seen
 
@@ -175,7 +175,7 @@ ended_in seen p = staged_in seen p ++ word 0
 abbrev pub ended_before : StoreState → Base → Outgoing → List ℕ
 ended_before old base = ended_in old.disk.seen
 
--- A crash at any moment from the commit on leaves such files. Each packet has what was in its staging file before.
+-- A crash at any moment from the commit on leaves such files. Each packet has the bytes of its staging file.
 abbrev pub MayCommitWith : List Outgoing → StoreState → StoreState → Type 0
 MayCommitWith packets old new =
     Honestly new.disk ((first next : Base) → old.committed first → old.keeps next → LeavesOnly old.disk new.disk (CommitsWith old (IsOfOne packets) (staged_in old.disk.seen) packets first next))

@@ -27,7 +27,7 @@ use Rattle.station.specs.Running.{IsNotRun, IsStopped}
 use Rattle.station_scan.specs.Fitting.{AreTaken}
 use Rattle.station_scan.specs.Left.{AreAllLeft, AreFreeLeft, IsEnded, IsEndedAt, IsLeftOf, IsOfName}
 use Rattle.station_scan.specs.Publishing.{IsOnDisk}
-use Rattle.station_scan.specs.Sending.{HasBytes, IsAtItsPath, IsStagingOfPacket, IsFreeAt, IsStagingGone, StandsWhole}
+use Rattle.station_scan.specs.Sending.{HasBytes, IsAtItsPath, IsStagingOfPacket, IsFreeAt, IsStagingGone, IsWhole}
 use Rattle.station_scan.specs.Sends.{IsOfThese, WasTriedFor}
 use Rattle.station_scan.specs.Stops.{IsOfPlacing, as_scan, most}
 use Rattle.station_scan.specs.declared.scan_error.ScanError.{ScanError}
@@ -54,7 +54,7 @@ pub record CommitsScan (Own : List ℕ → Type 0) (outbound own : List ℕ) (On
   pub ended : All (IsEnded cursor seen between) found
   pub staging_them : DifferAt (IsOfLeft found) seen between
   pub others : (m : List ℕ) → (IsOfThese Own outbound own files m → ⊥) → (OnDisk m × (IsOfLeft found m → ⊥)) ⊎ IsEndedAt cursor found between m → after m ≡ between m
-  pub either : (Stays after × All (IsFreeAt outbound after) files) ⊎ (Comes after × All (StandsWhole outbound own after) files × All HasBytes files)
+  pub either : (Stays after × All (IsFreeAt outbound after) files) ⊎ (Comes after × All (IsWhole outbound own after) files × All HasBytes files)
 
 -- The leftover packets were finished. Then the packets of this scan and the new base were put on the disk.
 pub record AreSentOut (is_true : Type 0) (Own : List ℕ → Type 0) (outbound own : List ℕ) (Comes : Files → Type 0) (cursor : ℕ) (found : List Left) (files : List PacketFile) (seen : Files) (new : DiskState) : Type 0 where
@@ -93,8 +93,8 @@ packets_in stamp file base = map (file_sent base.cursor) (scanned file base.mess
 
 -- It is reported why the scan stopped. Then each of its staging files is gone, or that path is as before. Or it is reported that staging files
 -- may be left, and a device failed, or there was no memory.
-abbrev pub TellsStop : Type 0 → List ℕ → List ℕ → List PacketFile → Files → Files → CommandError → Result (Unit {0}) ScanError → Type 0
-TellsStop failed outbound own files before after why result =
+abbrev pub ReportsStop : Type 0 → List ℕ → List ℕ → List PacketFile → Files → Files → CommandError → Result (Unit {0}) ScanError → Type 0
+ReportsStop failed outbound own files before after why result =
     ((result ≡ Err (Command why)) × ((m : List ℕ) → IsStagingOfPacket outbound own files m → (after m ≡ None) ⊎ (after m ≡ before m)))
     ⊎ ((left : DiskError) × (result ≡ Err (Staying left)) × IsOfPlacing failed ⊥ ⊥ (Staying left))
 
@@ -106,7 +106,7 @@ pub record StopsScan (is_true failed : Type 0) (Own : List ℕ → Type 0) (outb
   pub crash : LeavesOnly old new (OneStepOn (PreparesScan outbound own Stays cursor found files) old)
   pub shown : Stays new.seen
   pub others : DifferAt (λ m. IsOfLeft found m ⊎ IsStagingOfPacket outbound own files m) old.seen new.seen
-  pub told : TellsStop failed outbound own files old.seen new.seen why result
+  pub reported : ReportsStop failed outbound own files old.seen new.seen why result
 
 -- The packets that a scan of a store returned are sent out. Or the scan stopped while these packets were made.
 abbrev pub IsPutOn : (List ℕ → Type 0) → List ℕ → List ℕ → (Files → Type 0) → Type 0 → StoreState → StoreState → Base → List PacketFile → Result (List PacketFile) CommandError → Result (Unit {0}) ScanError → Type 0
@@ -168,7 +168,7 @@ pub record StopsScanIn (place : Place) (outbound own : List ℕ) (IsTrue : Files
   pub lasts : (c : Files) → new.may_leave c → IsPreparing place outbound own old base found files c
   pub shown : place.stands_for base new.seen
   pub others : DifferAt (λ m. IsOfLeft found m ⊎ IsStagingOfPacket outbound own files m) opened new.seen
-  pub told : TellsStop failed outbound own files opened new.seen why result
+  pub reported : ReportsStop failed outbound own files opened new.seen why result
 
 -- The packets that the scan returned get their paths. Or the scan stopped while these packets were made.
 abbrev pub IsPutAs : Place → List ℕ → List ℕ → (Files → Type 0) → Type 0 → DiskState → DiskState → Base → List PacketFile → Result (List PacketFile) CommandError → Result (Unit {0}) ScanError → Type 0
@@ -201,7 +201,7 @@ abbrev pub ScansIn : Stamp → Place → List ℕ → (Files → Type 0) → (Li
 ScansIn stamp place outbound IsTrue Reads Shut Stops failed old new old_out new_out result =
     IsScanRun stamp place outbound IsTrue Reads failed old new old_out new_out result ⊎ IsScanNotRun place Shut Stops old new old_out new_out result
 
--- The base stands that was committed before. Or, for the packets of this scan, it was tried whether a file of the folder gets a second path,
+-- The base committed before is still committed. Or the scan first tried whether a file of the folder gets a second path,
 -- before anything else was done there.
 abbrev pub TriesOn : {D : Type 0} → (D → DiskState) → Stamp → (List ℕ → Type 0) → List ℕ → StoreState → StoreState → Output → Output → LinkFile → Base → Type 0
 TriesOn state stamp Own outbound old new old_out new_out file base =

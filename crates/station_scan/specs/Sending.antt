@@ -1,19 +1,46 @@
 -- The packets of a scan, on their way to their paths.
-use Rattle.std.specs.Prelude.{◌≡◌, ◌≢◌, ◌⊎◌, ◌<◌, ℕ, List, [], ◌++◌, length, get_or, All, Contains, Some, None}
+use Rattle.std.specs.Prelude.{◌≡◌, ◌≢◌, ◌⊎◌, ◌<◌, ◌^◌, ℕ, List, [], ◌++◌, map, All, Contains, Some, None}
 use Rattle.disk_io.specs.Fixed.{AreBytes}
 use Rattle.disk_io.specs.Disk.{DiskState, Files}
 use Rattle.echo_addr.specs.declared.address.Address.{Address}
-use Rattle.cmd_report.specs.declared.scanning.PlannedPacket.{PlannedPacket}
+use Rattle.echo_links.specs.Links.{LinkFile}
+use Rattle.echo_toss.specs.Counts.{link_set}
+use Rattle.cmd_report.specs.Scanned.{packet_name}
 use Rattle.model_steps.specs.PacketFiles.{PacketFile}
 use Rattle.disk_atomic.specs.Changes.{HasOnDisk}
 use Rattle.disk_atomic.specs.declared.outgoing.Outgoing.{Outgoing}
 use Rattle.disk_atomic.specs.ListStaged.{IsNameByte}
-use Rattle.disk_atomic.specs.StagingPaths.{staging_path}
+use Rattle.disk_atomic.specs.StagingPaths.{dotted, staging_path}
+use Rattle.station_scan.specs.declared.sending.Route.{Route}
+use Rattle.station_scan.specs.declared.sending.Sending.{Sending}
 use Rattle.station_scan.specs.declared.sending.TwoPaths.{TwoPaths}
 
 -- The path of a packet of this name in the folder, and its staging path.
 abbrev pub two_paths : List ℕ → List ℕ → List ℕ → TwoPaths
 two_paths folder own name = record { path = folder ++ name; staging = staging_path (folder ++ name) own }
+
+-- Where the packet for an address goes, after this number of scanned messages.
+abbrev pub route_to : List ℕ → List ℕ → ℕ → Address → Route
+route_to folder own from a = record { to = a; two = two_paths folder own (packet_name a from) }
+
+-- Each part of the address has 16 bits.
+pub record IsSized (a : Address) : Type 0 where
+  pub zone : a.zone < 2 ^ 16
+  pub net : a.net < 2 ^ 16
+  pub node : a.node < 2 ^ 16
+
+-- The name of the system in staging paths, the trial path, and a route for each link.
+pub record IsPlanned (file : LinkFile) (outbound : List ℕ) (from : ℕ) (own trial : List ℕ) (routes : List Route) : Type 0 where
+  pub system : own ≡ dotted file.system
+  pub plain : All (λ b. b ≢ 47) own
+  pub tried : trial ≡ staging_path outbound own
+  pub routed : routes ≡ map (route_to outbound own from) (link_set file)
+  pub sized : All IsSized (link_set file)
+  pub numbered : from < 2 ^ 64
+
+-- The same of what a scan sends.
+abbrev pub AreRoutes : Sending → Type 0
+AreRoutes to = IsPlanned to.source.links.now to.outbound.now to.source.from to.own.now to.trial.now to.routes.now
 
 -- A packet's name: it is not empty.
 pub record IsNamed (name : List ℕ) : Type 0 where
@@ -33,24 +60,9 @@ pub record IsOffOwn (Own : List ℕ → Type 0) (two : TwoPaths) : Type 0 where
   pub path : Own two.path → ⊥
   pub staging : Own two.staging → ⊥
 
--- The two paths of a planned packet.
-abbrev pub planned_paths : List ℕ → List ℕ → PlannedPacket → TwoPaths
-planned_paths folder own planned = two_paths folder own planned.name
-
 -- What each packet has, by its address.
 abbrev pub for_address : (Address → List ℕ) → Outgoing → List ℕ
 for_address content packet = content packet.to
-
--- The planned packet goes to these paths.
-pub record IsSent (planned : PlannedPacket) (two : TwoPaths) (packet : Outgoing) : Type 0 where
-  pub path : packet.path.now ≡ two.path
-  pub staging : packet.staging.now ≡ two.staging
-  pub to : packet.to ≡ planned.to
-
--- These packets are those that were planned, one by one.
-pub record AreSent (planned : List PlannedPacket) (paths : List TwoPaths) (packets : List Outgoing) : Type 0 where
-  pub as_many : length packets ≡ length planned
-  pub each : (k : ℕ) (f : PlannedPacket) (t : TwoPaths) (p : Outgoing) → k < length planned → IsSent (get_or planned k f) (get_or paths k t) (get_or packets k p)
 
 -- The packet is on the disk, at its path, with just its bytes.
 abbrev pub IsAtItsPath : List ℕ → DiskState → PacketFile → Type 0
@@ -61,8 +73,8 @@ abbrev pub HasBytes : PacketFile → Type 0
 HasBytes sent = AreBytes sent.bytes
 
 -- It is whole at one of its two paths.
-abbrev pub StandsWhole : List ℕ → List ℕ → Files → PacketFile → Type 0
-StandsWhole folder own c sent = (c (folder ++ sent.name) ≡ Some sent.bytes) ⊎ (c (staging_path (folder ++ sent.name) own) ≡ Some sent.bytes)
+abbrev pub IsWhole : List ℕ → List ℕ → Files → PacketFile → Type 0
+IsWhole folder own c sent = (c (folder ++ sent.name) ≡ Some sent.bytes) ⊎ (c (staging_path (folder ++ sent.name) own) ≡ Some sent.bytes)
 
 -- Nothing has its path.
 abbrev pub IsFreeAt : List ℕ → Files → PacketFile → Type 0

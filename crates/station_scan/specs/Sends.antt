@@ -10,14 +10,14 @@ use Rattle.model_steps.specs.PacketFiles.{PacketFile}
 use Rattle.base_store.specs.Store.{Commits, StoreState}
 use Rattle.station_scan.specs.Left.{IsOfNameOff}
 use Rattle.station_scan.specs.Publishing.{IsOnDisk}
-use Rattle.station_scan.specs.Sending.{HasBytes, IsAtItsPath, IsStagingOfPacket, IsFreeAt, IsStagingGone, IsOfPacket, StandsWhole}
+use Rattle.station_scan.specs.Sending.{HasBytes, IsAtItsPath, IsStagingOfPacket, IsFreeAt, IsStagingGone, IsOfPacket, IsWhole}
 
 -- one of these paths, or one of the two paths of a packet
 abbrev pub IsOfThese : (List ℕ → Type 0) → List ℕ → List ℕ → List PacketFile → List ℕ → Type 0
 IsOfThese Own outbound own files m = Own m ⊎ IsOfPacket outbound own files m
 
 -- before the commit: staging files are written, and the files hold the committed base
-pub record WritesBeside (old : StoreState) (outbound own : List ℕ) (files : List PacketFile) (first : Base) (c : Files) : Type 0 where
+pub record WritesStaging (old : StoreState) (outbound own : List ℕ) (files : List PacketFile) (first : Base) (c : Files) : Type 0 where
   pub writes : OneStepOn (DifferAt (IsStagingOfPacket outbound own files)) old.disk c
   pub stands : old.stands first c
 
@@ -25,11 +25,11 @@ pub record WritesBeside (old : StoreState) (outbound own : List ℕ) (files : Li
 -- store's new base, and each packet, which is bytes, is whole at one of its two paths. All else on the disk is as it was seen.
 pub record CommitsThese (old : StoreState) (outbound own : List ℕ) (files : List PacketFile) (first next : Base) (c : Files) : Type 0 where
   pub others : (m : List ℕ) → (IsOfThese old.is_own outbound own files m → ⊥) → IsOnDisk old.disk m → c m ≡ old.disk.seen m
-  pub either : (old.stands first c × All (IsFreeAt outbound c) files) ⊎ (old.stands next c × All (StandsWhole outbound own c) files × All HasBytes files)
+  pub either : (old.stands first c × All (IsFreeAt outbound c) files) ⊎ (old.stands next c × All (IsWhole outbound own c) files × All HasBytes files)
 
 -- What a crash at any time during the steps may leave.
 abbrev pub SendsThese : StoreState → List ℕ → List ℕ → List PacketFile → Base → Base → Files → Type 0
-SendsThese old outbound own files first next c = WritesBeside old outbound own files first c ⊎ CommitsThese old outbound own files first next c
+SendsThese old outbound own files first next c = WritesStaging old outbound own files first c ⊎ CommitsThese old outbound own files first next c
 
 -- Each packet is on the disk at its path alone, and what the store held is committed.
 pub record AreSentOn (outbound own : List ℕ) (files : Base → List PacketFile) (old new : StoreState) : Type 0 where

@@ -37,6 +37,6 @@ pub record HasStopCause {S T : Type 0} (state : S → StoreState) (old new : Sto
   pub many : IsErrOf result (Reading store.TooMany) → IsFullOnWay state old
 
 -- Why packets were not written, with no staging file left.
-abbrev pub stop_told : PassStop → PublishError
-stop_told (Placing cause) = Packets cause
-stop_told (Reading cause) = OfReading cause
+abbrev pub publish_stop : PassStop → PublishError
+publish_stop (Placing cause) = Packets cause
+publish_stop (Reading cause) = OfReading cause

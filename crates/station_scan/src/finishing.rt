@@ -6,7 +6,7 @@ ghost use Rattle.disk_atomic.specs.Changes.{ChangesOnly};
 ghost use Rattle.disk_atomic.specs.Finishing.{AreLeftIn};
 ghost use Rattle.disk_atomic.specs.Publishing.{HasPlacingCause};
 ghost use Rattle.disk_atomic.specs.declared.finishing.Left.{Left};
-ghost use Rattle.station_scan.specs.Left.{AreFreeLeft, AreLent, EndsLeft, EndsThese, IsStagingThere, IsFreeFound, IsOfNameOff, IsOfPaths};
+ghost use Rattle.station_scan.specs.Left.{AreFreeLeft, AreSameLeft, EndsLeft, EndsThese, IsStagingThere, IsFreeFound, IsOfNameOff, IsOfPaths};
 
 use crate::finding::{LeftPaths, find_left};
 use disk_atomic::{Left, ListStaged, PlacingError, finish_stopped};
@@ -15,8 +15,8 @@ use station::OwnPaths;
 use std::alloc::{AllocError, Global};
 
 // The packets with these paths.
-fn lend<'a>(alloc: Global, paths: &'a [LeftPaths]) -> Result<Vec<Left<'a>>, AllocError>
-    ensures { IfOk result (λ found. AreLent paths.now found.items) }
+fn left_packets<'a>(alloc: Global, paths: &'a [LeftPaths]) -> Result<Vec<Left<'a>>, AllocError>
+    ensures { IfOk result (λ found. AreSameLeft paths.now found.items) }
 {
     let mut found = Vec::with_capacity(alloc, paths.len())?;
     'paths: for i in 0..paths.len() {
@@ -38,14 +38,14 @@ fn end_these<D: Disk>(
     paths: &[LeftPaths],
     cursor: u32,
 ) -> Result<(), PlacingError>
-    requires placed { (found : List Left) → AreLent paths.now found → AreLeftIn folder.now found }
+    requires placed { (found : List Left) → AreSameLeft paths.now found → AreLeftIn folder.now found }
     requires there { Honestly (D.state disk.old) (All (IsStagingThere (D.state disk.old).seen) paths.now) }
     ensures ends { Honestly (D.state disk.new) (EndsThese cursor paths.now (D.state disk.old) (D.state disk.new) result) }
     ensures taken { Honestly (D.state disk.new) (IsErrOf result PlacingError.Taken → All (IsFreeFound (D.state disk.old).seen) paths.now → ⊥) }
     ensures changes { ChangesOnly (IsOfPaths paths.now) (D.state disk.old) (D.state disk.new) }
     ensures cause { HasPlacingCause (D.failures disk.old) (D.failures disk.new) result }
 {
-    let found = lend(alloc, paths)?;
+    let found = left_packets(alloc, paths)?;
     if !finish_stopped(alloc, disk, folder, &found, cursor)? {
         return Err(PlacingError::Taken);
     }

@@ -7,14 +7,14 @@ ghost use Rattle.echo_toss.specs.Exports.{Outgoing as Sent};
 ghost use Rattle.station.specs.Beneath.{AreSettledByOwn};
 ghost use Rattle.station_scan.specs.Beneath.{IsUsedAt};
 ghost use Rattle.station_scan.specs.Passing.{AreGrowing, IsAppending, header_for};
-ghost use Rattle.station_scan.specs.Publishing.{IsWritten};
+ghost use Rattle.station_scan.specs.Publishing.{AreGoing, IsWritten};
 ghost use Rattle.station_scan.specs.Writing.{IsBatchOff, IsBegun, IsOpen};
 
 use crate::beneath::Used;
 use crate::pieces::{Copies, Headers};
 use crate::sending::Sending;
 use crate::writing::{Batch, append_on, begin_on};
-use disk_atomic::PlacingError;
+use disk_atomic::{Outgoing, PlacingError};
 use disk_io::Disk;
 use echo_toss::Group;
 use station::LendStation;
@@ -88,26 +88,41 @@ fn begin_first<'a, D: Disk, P: LendStation<'a, D>>(
     }
 }
 
-/// Begins the packets that have their first copies in the group, and writes the copies of the group into all.
+/// Begins the packets that have their first copies in the group, and writes the copies of the group.
 pub(crate) fn append_group<'a, D: Disk, P: LendStation<'a, D>>(
     alloc: Global,
     store: P::Kept,
     sending: Sending<'_>,
-    all: Batch<'_>,
-    first: Batch<'_>,
+    copied: &[Outgoing<'_>],
+    begun: &[Outgoing<'_>],
     group: &Group,
 ) -> Used<P::Kept, Result<(), PlacingError>>
-    requires ready { (P.Kept.state store).is_ready }
-    requires settled { AreSettledByOwn (P.Kept.state store) }
-    requires off { IsBatchOff (P.Kept.state store) all × IsBatchOff (P.Kept.state store) first }
-    requires some { 0 < length all.packets.now }
-    requires appending { (sent : List Sent) × IsAppending sending sent group.now.sent (P.Kept.state store).disk all first }
-    ensures used { IsUsedAt (IsAtStaging all.entry.packets.now all.entry.trial.now) (P.Kept.state store) (P.Kept.state result.store) }
-    ensures grows { (sent : List Sent) → IsAppending sending.entry sent group.now.sent (P.Kept.state store).disk all.entry first.entry
+    requires ready { (P.Kept.state store).is_ready × AreSettledByOwn (P.Kept.state store) }
+    requires some { 0 < length copied.now }
+    requires copied { AreGoing (P.Kept.state store).is_own sending.outbound.now sending.trial.now copied.now }
+    requires begun { AreGoing (P.Kept.state store).is_own sending.outbound.now sending.trial.now begun.now }
+    requires appending { (sent : List Sent) × IsAppending sending sent group.now.sent (P.Kept.state store).disk copied.now begun.now }
+    ensures used { IsUsedAt (IsAtStaging copied.now sending.entry.trial.now) (P.Kept.state store) (P.Kept.state result.store) }
+    ensures grows { (sent : List Sent) → IsAppending sending.entry sent group.now.sent (P.Kept.state store).disk copied.now begun.now
         → OnOk result.done (AreGrowing sending.entry (sent ++ group.now.sent) (P.Kept.state result.store).disk) }
-    ensures taken { Honestly (P.Kept.state result.store).disk (IsErrOf result.done PlacingError.Taken → All (IsFree (P.Kept.state store).disk) all.entry.packets.now → ⊥) }
+    ensures taken { Honestly (P.Kept.state result.store).disk (IsErrOf result.done PlacingError.Taken → All (IsFree (P.Kept.state store).disk) begun.now → ⊥) }
     ensures cause { HasPlacingCause (P.Kept.failures store) (P.Kept.failures result.store) result.done }
 {
+    let Sending {
+        outbound,
+        trial,
+        ..
+    } = sending;
+    let first = Batch {
+        outbound,
+        trial,
+        packets: begun,
+    };
+    let all = Batch {
+        outbound,
+        trial,
+        packets: copied,
+    };
     let Used { store, done } = begin_first::<D, P>(alloc, store, sending, first);
     match done {
         Ok(()) => {

@@ -7,22 +7,23 @@
 //! during the scan leaves the base from before and no packet of this scan at its path, or the new base and each packet
 //! whole.
 //!
-//! Begin with `scanning` (the command) and `putting` (the cursor, then earlier packets, then these). `outgoing` makes the
-//! packets and sends them out. For that `passing` goes over the messages once, and `making` and `growing` write each
-//! group of them into staging files. `stopping` removes these files where the pass stops. `ending` and `publishing` end
-//! the packets and commit. They use `sending` (the two paths of each packet), `fitting` (whether nothing else uses these
-//! paths), `pieces` (what comes next in a packet), `writing` and `staging` (staging files on the disk). `finding` and
-//! `finishing` end what earlier scans left. `beneath` works on the disk of a store, `reporting` prints the lines of a scan
-//! that stops, and `reported` reports progress. `publish_error` and `scan_error` are the errors.
+//! Begin with `scanning` (the command) and `putting` (the cursor, then earlier packets, then these). `sending` plans two
+//! paths for each link before the pass. `outgoing` makes the packets and sends them out. For that `passing` goes over the
+//! messages once. `counting` keeps one list of the packets for the links. `fitting` judges the paths of packets that begin,
+//! and `growing` writes each group into staging files. `stopping` removes these files where the pass stops. `ending` and
+//! `publishing` end the packets and commit. They use `pieces` (the next bytes of a packet), `writing` and `staging`
+//! (staging files on the disk). `finding` and `finishing` end what earlier scans left. `beneath` works on the disk of a
+//! store, `reporting` prints the lines of a scan that stops, and `reported` reports progress. `publish_error` and
+//! `scan_error` are the errors.
 #![tactic(auto)]
 
 mod beneath;
+mod counting;
 mod ending;
 mod finding;
 mod finishing;
 mod fitting;
 mod growing;
-mod making;
 mod outgoing;
 mod passing;
 mod pieces;

@@ -1,32 +1,30 @@
 //! The messages of a store are gone over once, and their packets sent out with its commit.
-ghost use Rattle.std.specs.Prelude.{◌≡◌, ◌≢◌, ℕ, List, true, All, IfErr, OnOk};
+ghost use Rattle.std.specs.Prelude.{◌≡◌, ◌⊎◌, ℕ, List, IfErr, OnOk};
 ghost use Rattle.base_file.specs.Base.{Base};
 ghost use Rattle.disk_io.specs.Device.{Failed};
 ghost use Rattle.disk_io.specs.Disk.{Honestly};
 ghost use Rattle.base_store.specs.Store.{Commits, MayCommit};
 ghost use Rattle.cmd_status.specs.Devices.{output_of};
 ghost use Rattle.echo_toss.specs.Exports.{Outgoing as Sent};
-ghost use Rattle.model_steps.specs.Stamps.{is_stamp};
-ghost use Rattle.station.specs.Beneath.{AreSettledByOwn};
-ghost use Rattle.station_scan.specs.Beside.{HasScanCause, IsMoved, ScansBeside, SendsBeside};
-ghost use Rattle.station_scan.specs.Passing.{HasPassed, IsMaking};
+ghost use Rattle.station_scan.specs.Moved.{HasScanCause, IsMoved, ScansFrom, SendsFrom};
+ghost use Rattle.station_scan.specs.Passing.{CanSend, HasPassed, IsMaking};
 ghost use Rattle.station_scan.specs.Publishing.{HasPublishCause, KeepsStoreBut};
 ghost use Rattle.station_scan.specs.Scanning.{IsTouched, packets_in};
 ghost use Rattle.station_scan.specs.Stops.{IsOfBase, scan_done};
 
 use crate::beneath::Used;
+use crate::counting::{LinkPacket, made_of, print_made};
 use crate::publish_error::PublishError;
 use crate::publishing::publish;
-use crate::reporting::{report, told_as};
+use crate::reporting::{report, reported_as};
 use crate::scan_error::ScanError;
-use crate::sending::{Sending, outgoing_of, plan_of};
+use crate::sending::Sending;
 use crate::stopping::{drop_made, pass_waiting};
 use crate::writing::Batch;
 use base_store::Store;
 use cmd_status::MessageProgress;
-use cmd_store::{CommandError, print_counted};
+use cmd_store::CommandError;
 use disk_io::{Disk, DiskError, Sink};
-use echo_toss::CountedPacket;
 use station::LendStation;
 use std::alloc::Global;
 
@@ -59,46 +57,36 @@ fn publish_made<'a, D: Disk, P: LendStation<'a, D>>(
     store: P::Kept,
     paths: &P::Paths,
     sending: Sending<'_>,
-    made: &[CountedPacket],
+    packets: &[LinkPacket<'_>],
 ) -> Used<P::Kept, Result<(), PublishError>>
-    requires plain { All (λ b. b ≢ 47) sending.own.now }
-    requires ready { (P.Kept.state store).is_ready × (is_stamp sending.source.stamp ≡ true) }
-    requires own { (m : List ℕ) → (P.Kept.state store).is_own m → P.Paths.is_own paths.now m }
-    requires making { (sent : List Sent) × IsMaking (P.Paths.is_own paths.now) sending sent (P.Kept.state store).disk made.now }
+    requires ready { CanSend (P.Paths.is_own paths.now) sending (P.Kept.state store) }
+    requires making { (sent : List Sent) × IsMaking (P.Paths.is_own paths.now) sending sent (P.Kept.state store).disk packets.now }
 
     // The store and its disk as they were before the messages were gone over.
-    ensures sends { (before : P.Kept) → HasPassed (P.Paths.is_own paths.now) sending.entry (P.Kept.state before) (P.Kept.state store) made.now
+    ensures sends { (before : P.Kept) → HasPassed (P.Paths.is_own paths.now) sending.entry (P.Kept.state before) (P.Kept.state store) packets.now
         → Honestly (P.Kept.state result.store).disk ((base : Base) → IsMoved (P.Kept.state before) sending.entry.source.from base
-        → SendsBeside D.state (P.Paths.is_own paths.now) sending.entry.outbound.now sending.entry.own.now (Failed (P.Kept.failures store) (P.Kept.failures result.store)) (P.Kept.state before) (P.Kept.state result.store)
+        → SendsFrom D.state (P.Paths.is_own paths.now) sending.entry.outbound.now sending.entry.own.now (Failed (P.Kept.failures store) (P.Kept.failures result.store)) (P.Kept.state before) (P.Kept.state result.store)
         base (packets_in sending.entry.source.stamp sending.entry.source.links.now base) (scan_done result.done)) }
     ensures keeps { KeepsStoreBut (IsTouched (P.Kept.state store).is_own sending.entry.outbound.now) (P.Kept.state store) (P.Kept.state result.store) }
     ensures cause { HasPublishCause P.Kept.state (P.Kept.state store) (P.Kept.state result.store) (P.Kept.failures store) (P.Kept.failures result.store) result.done }
 {
-    if made.is_empty() {
+    let made = match made_of(alloc, packets) {
+        Ok(made) => made,
+        Err(_refused) => {
+            return Used {
+                store,
+                done: Err(PublishError::Staging(DiskError::Memory)),
+            };
+        }
+    };
+    let ended = made.as_slice();
+    if ended.is_empty() {
         return commit_alone::<D, P>(store);
     }
-    let plan = match plan_of(alloc, sending, made) {
-        Ok(plan) => plan,
-        Err(_refused) => {
-            return Used {
-                store,
-                done: Err(PublishError::Staging(DiskError::Memory)),
-            };
-        }
-    };
-    let packets = match outgoing_of(alloc, plan.planned.as_slice(), plan.two.as_slice()) {
-        Ok(packets) => packets,
-        Err(_refused) => {
-            return Used {
-                store,
-                done: Err(PublishError::Staging(DiskError::Memory)),
-            };
-        }
-    };
     let batch = Batch {
         outbound: sending.outbound,
-        trial: plan.trial.as_slice(),
-        packets: &packets,
+        trial: sending.trial,
+        packets: ended,
     };
     publish::<D, P>(alloc, store, batch)
 }
@@ -109,30 +97,28 @@ fn send_made<'a, D: Disk, P: LendStation<'a, D>, W: Sink>(
     store: P::Kept,
     paths: &P::Paths,
     sending: Sending<'_>,
-    made: &[CountedPacket],
+    packets: &[LinkPacket<'_>],
     out: &mut W,
 ) -> Used<P::Kept, Result<(), ScanError<'a>>>
-    requires plain { All (λ b. b ≢ 47) sending.own.now }
-    requires ready { (P.Kept.state store).is_ready × AreSettledByOwn (P.Kept.state store) × (is_stamp sending.source.stamp ≡ true) }
-    requires own { (m : List ℕ) → (P.Kept.state store).is_own m → P.Paths.is_own paths.now m }
-    requires making { (sent : List Sent) × IsMaking (P.Paths.is_own paths.now) sending sent (P.Kept.state store).disk made.now }
+    requires ready { CanSend (P.Paths.is_own paths.now) sending (P.Kept.state store) }
+    requires making { (sent : List Sent) × IsMaking (P.Paths.is_own paths.now) sending sent (P.Kept.state store).disk packets.now }
 
     // The store and its disk as they were before the messages were gone over.
-    ensures sends { (before : P.Kept) → HasPassed (P.Paths.is_own paths.now) sending.entry (P.Kept.state before) (P.Kept.state store) made.now
+    ensures sends { (before : P.Kept) → HasPassed (P.Paths.is_own paths.now) sending.entry (P.Kept.state before) (P.Kept.state store) packets.now
         → Honestly (P.Kept.state result.store).disk ((base : Base) → IsMoved (P.Kept.state before) sending.entry.source.from base
-        → ScansBeside D.state (P.Paths.is_own paths.now) sending.entry (Failed (P.Kept.failures store) (P.Kept.failures result.store)) (P.Kept.state before) (P.Kept.state result.store)
+        → ScansFrom D.state (P.Paths.is_own paths.now) sending.entry (Failed (P.Kept.failures store) (P.Kept.failures result.store)) (P.Kept.state before) (P.Kept.state result.store)
         (output_of W.contents W.failures W.holds out.old) (output_of W.contents W.failures W.holds out.new) base result.done) }
     ensures keeps { KeepsStoreBut (IsTouched (P.Kept.state store).is_own sending.entry.outbound.now) (P.Kept.state store) (P.Kept.state result.store) }
     ensures cause { HasScanCause P.Kept.state (P.Kept.state store) (P.Kept.failures store) (P.Kept.failures result.store) result.done }
 {
-    match print_counted(alloc, made, sending.source.from, out) {
-        Ok(_planned) => {
-            let Used { store, done } = publish_made::<D, P>(alloc, store, paths, sending, made);
+    match print_made(alloc, packets, out) {
+        Ok(()) => {
+            let Used { store, done } = publish_made::<D, P>(alloc, store, paths, sending, packets);
             let done = stop_done(done);
             Used { store, done }
         }
         Err(stop) => {
-            let Used { store, done } = drop_made::<D, P>(alloc, store, sending, made);
+            let Used { store, done } = drop_made::<D, P>(alloc, store, paths, sending, packets);
             match done {
                 Ok(()) => Used {
                     store,
@@ -157,22 +143,20 @@ pub(crate) fn send_on<'a, D: Disk, P: LendStation<'a, D>, T: MessageProgress, W:
     watch: &T,
     out: &mut W,
 ) -> Used<P::Kept, Result<(), ScanError<'a>>>
-    requires plain { All (λ b. b ≢ 47) sending.own.now }
-    requires ready { (P.Kept.state store).is_ready × AreSettledByOwn (P.Kept.state store) × (is_stamp sending.source.stamp ≡ true) }
-    requires own { (m : List ℕ) → (P.Kept.state store).is_own m → P.Paths.is_own paths.now m }
+    requires ready { CanSend (P.Paths.is_own paths.now) sending (P.Kept.state store) }
     ensures sends { Honestly (P.Kept.state result.store).disk ((base : Base) → IsMoved (P.Kept.state store) sending.entry.source.from base
-        → ScansBeside D.state (P.Paths.is_own paths.now) sending.entry (Failed (P.Kept.failures store) (P.Kept.failures result.store)) (P.Kept.state store) (P.Kept.state result.store)
+        → ScansFrom D.state (P.Paths.is_own paths.now) sending.entry (Failed (P.Kept.failures store) (P.Kept.failures result.store)) (P.Kept.state store) (P.Kept.state result.store)
         (output_of W.contents W.failures W.holds out.old) (output_of W.contents W.failures W.holds out.new) base result.done) }
     ensures keeps { KeepsStoreBut (IsTouched (P.Kept.state store).is_own sending.entry.outbound.now) (P.Kept.state store) (P.Kept.state result.store) }
     ensures cause { HasScanCause P.Kept.state (P.Kept.state store) (P.Kept.failures store) (P.Kept.failures result.store) result.done }
 {
     let Used { store, done } = pass_waiting::<D, P, T>(alloc, store, paths, sending, watch);
     match done {
-        Ok(made) => send_made::<D, P, W>(alloc, store, paths, sending, made.as_slice(), out),
+        Ok(packets) => send_made::<D, P, W>(alloc, store, paths, sending, &packets, out),
         Err(why) => match why {
             PublishError::Packets(cause) => {
                 let Used { store, done } = report(alloc, sending.source, store, watch, out);
-                let done = told_as(ScanError::Placing(cause), done);
+                let done = reported_as(ScanError::Placing(cause), done);
                 Used { store, done }
             }
             PublishError::Reading(cause) => Used {

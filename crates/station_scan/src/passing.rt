@@ -1,42 +1,45 @@
 //! A pass over the messages of a store: packets are counted, and their copies are written while they are read.
-ghost use Rattle.std.specs.Prelude.{◌≡◌, ◌≢◌, ◌≤◌, ◌<◌, ◌++◌, [], ℕ, List, All, IfOk, IsErrOf, OnOk, length, filter, map};
+ghost use Rattle.std.specs.Prelude.{◌≡◌, ◌≢◌, ◌⊎◌, ◌≤◌, ◌<◌, ◌++◌, [], ℕ, List, All, IfErr, IfOk, IsErrOf, OnOk, length, map};
 ghost use Rattle.base_file.specs.Base.{Base};
 ghost use Rattle.base_store.specs.Store.{HasStoreCause, LooksOn};
 ghost use Rattle.disk_io.specs.Disk.{Honestly};
 ghost use Rattle.disk_atomic.specs.Publishing.{HasPlacingCause};
+ghost use Rattle.disk_atomic.specs.declared.placing_error.PlacingError.TheVariants as placing;
 ghost use Rattle.echo_toss.specs.Bounds.{IsFullWhenRead};
-ghost use Rattle.echo_toss.specs.Counts.{IsGroupFrom, begun_with, counted_with, has_messages};
+ghost use Rattle.echo_toss.specs.Counts.{IsGroupFrom};
 ghost use Rattle.echo_toss.specs.Exports.{Outgoing as Sent};
-ghost use Rattle.station.specs.Beneath.{AreSettledByOwn};
-ghost use Rattle.station_scan.specs.Passing.{AreTakenTo, HasPassed, HasStaged, IsCounted, IsTakenFor, StagesNext, made_to};
+ghost use Rattle.station_scan.specs.Fitting.{IsOff};
+ghost use Rattle.station_scan.specs.Passing.{AreTakenTo, CanSend, HasPassed, HasStaged, IsBetween, IsMaking, IsPartOf, IsTakenFor, begun_in, copied_in, with_group};
 ghost use Rattle.station_scan.specs.Writing.{HasStopCause};
 
 use crate::beneath::Used;
-use crate::making::{Counted, write_group};
+use crate::counting::{LinkPacket, begun_of, copied_of, count_group};
+use crate::fitting::are_off_own;
+use crate::growing::append_group;
 use crate::reported::ReportedStore;
 use crate::sending::Sending;
 use base_store::{Store, StoreError};
 use cmd_status::MessageProgress;
-use disk_atomic::PlacingError;
+use disk_atomic::{Outgoing, PlacingError};
 use disk_io::Disk;
-use echo_addr::Items;
 use echo_links::LinkFile;
-use echo_toss::{CountedPacket, Counting, Group, group_from};
-use station::LendStation;
-use std::alloc::{AllocError, Global};
-
-/// What a pass has counted so far, and the packets that may have staging files.
-#[derive(Drop)]
-pub(crate) struct Pass {
-    pub counts: Counting,
-    pub made: Items<CountedPacket>,
-}
+use echo_toss::{Group, group_from};
+use station::{LendStation, OwnPaths};
+use std::alloc::Global;
 
 /// Why a pass stopped: a message was not read, or a packet was not written.
 #[derive(Clone, Copy, Debug)]
 pub(crate) enum PassStop {
     Reading(StoreError),
     Placing(PlacingError),
+}
+
+// The packets with the copies of a group: those that begin with it, and those that get copies of it.
+#[derive(Drop)]
+struct Going<'p> {
+    pub counted: Vec<LinkPacket<'p>>,
+    pub begun: Vec<Outgoing<'p>>,
+    pub copied: Vec<Outgoing<'p>>,
 }
 
 // The next group of messages. The watcher hears of each message.
@@ -63,74 +66,85 @@ fn read_group<S: Store, T: MessageProgress>(
     Used { store, done }
 }
 
-// Counts the group.
-fn count_group(alloc: Global, counts: &mut Counting, group: &Group) -> Result<Counted, AllocError>
-    ensures added { OnOk result (counts.new ≡ map (counted_with group.now.sent) counts.old) }
-    ensures made { IfOk result (λ counted. counted.made ≡ filter has_messages counts.new) }
-    ensures first { IfOk result (λ counted. counted.first ≡ begun_with group.now.sent counts.old) }
+// Counts the group, and judges the paths of the packets that begin with it.
+fn going_of<'p, O: OwnPaths>(
+    alloc: Global,
+    own: &O,
+    trial: &[u8],
+    packets: &[LinkPacket<'p>],
+    group: &Group,
+) -> Result<Going<'p>, PlacingError>
+    ensures counted { IfOk result (λ going. going.counted.items ≡ map (with_group group.now.sent) packets.now) }
+    ensures begun { IfOk result (λ going. going.begun.items ≡ begun_in going.counted.items) }
+    ensures copied { IfOk result (λ going. going.copied.items ≡ copied_in going.counted.items) }
+    ensures off { IfOk result (λ going. All (IsOff (O.is_own own.now) trial.now) going.begun.items) }
+    ensures err { IfErr result (λ why. (why ≡ placing.Memory) ⊎ ((why ≡ placing.Taken) × (All (IsOff (O.is_own own.now) trial.now) (begun_in (map (with_group group.now.sent) packets.now)) → ⊥))) }
 {
-    let first = counts.first_of(alloc, group)?;
-    counts.add(alloc, group)?;
-    let made = counts.made(alloc)?;
-    Ok(Counted {
-        made: Items::new(made),
-        first: Items::new(first),
+    let counted = count_group(alloc, packets, group)?;
+    let begun = begun_of(alloc, &counted)?;
+    if !are_off_own(own, trial, &begun) {
+        return Err(PlacingError::Taken);
+    }
+    let copied = copied_of(alloc, &counted)?;
+    Ok(Going {
+        counted,
+        begun,
+        copied,
     })
 }
 
 // Counts the group, and writes its copies.
-fn add_group<'a, D: Disk, P: LendStation<'a, D>>(
+fn add_group<'a, 'p, D: Disk, P: LendStation<'a, D>>(
     alloc: Global,
     store: P::Kept,
     paths: &P::Paths,
-    sending: Sending<'_>,
-    pass: &mut Pass,
+    sending: Sending<'p>,
+    packets: &mut Vec<LinkPacket<'p>>,
     group: &Group,
 ) -> Used<P::Kept, Result<(), PlacingError>>
-    requires plain { All (λ b. b ≢ 47) sending.own.now }
-    requires ready { (P.Kept.state store).is_ready × AreSettledByOwn (P.Kept.state store) }
-    requires own { (m : List ℕ) → (P.Kept.state store).is_own m → P.Paths.is_own paths.now m }
-    requires counted { (sent : List Sent) × IsCounted (P.Paths.is_own paths.now) sending sent (P.Kept.state store).disk pass.old }
-    ensures stages { (sent : List Sent) → IsCounted (P.Paths.is_own paths.now) sending.entry sent (P.Kept.state store).disk pass.old
-        → StagesNext (P.Paths.is_own paths.now) sending.entry sent group.now.sent (P.Kept.state store) (P.Kept.state result.store) pass.new.made }
-    ensures counted { (sent : List Sent) → IsCounted (P.Paths.is_own paths.now) sending.entry sent (P.Kept.state store).disk pass.old
-        → OnOk result.done (IsCounted (P.Paths.is_own paths.now) sending.entry (sent ++ group.now.sent) (P.Kept.state result.store).disk pass.new) }
-    ensures taken { Honestly (P.Kept.state result.store).disk (IsErrOf result.done PlacingError.Taken → (sent : List Sent) → IsCounted (P.Paths.is_own paths.now) sending.entry sent (P.Kept.state store).disk pass.old
-        → AreTakenTo (P.Paths.is_own paths.now) sending.entry (made_to sending.entry.source.links.now (sent ++ group.now.sent)) (P.Kept.state store).disk.seen) }
+    requires ready { CanSend (P.Paths.is_own paths.now) sending (P.Kept.state store) }
+    requires making { (sent : List Sent) × IsMaking (P.Paths.is_own paths.now) sending sent (P.Kept.state store).disk packets.old.items }
+    ensures stages { (sent : List Sent) → IsMaking (P.Paths.is_own paths.now) sending.entry sent (P.Kept.state store).disk packets.old.items
+        → HasStaged (P.Paths.is_own paths.now) sending.entry (IsBetween sent (sent ++ group.now.sent)) (P.Kept.state store) (P.Kept.state result.store) packets.new.items }
+    ensures making { (sent : List Sent) → IsMaking (P.Paths.is_own paths.now) sending.entry sent (P.Kept.state store).disk packets.old.items
+        → OnOk result.done (IsMaking (P.Paths.is_own paths.now) sending.entry (sent ++ group.now.sent) (P.Kept.state result.store).disk packets.new.items) }
+    ensures taken { Honestly (P.Kept.state result.store).disk (IsErrOf result.done PlacingError.Taken → (sent : List Sent) → IsMaking (P.Paths.is_own paths.now) sending.entry sent (P.Kept.state store).disk packets.old.items
+        → AreTakenTo (P.Paths.is_own paths.now) sending.entry (sent ++ group.now.sent) (P.Kept.state store).disk.seen) }
     ensures cause { HasPlacingCause (P.Kept.failures store) (P.Kept.failures result.store) result.done }
 {
-    match count_group(alloc, &mut pass.counts, group) {
-        Ok(counted) => write_group::<D, P>(
-            alloc,
+    let going = match going_of(alloc, paths, sending.trial, packets, group) {
+        Ok(going) => going,
+        Err(cause) => {
+            return Used {
+                store,
+                done: Err(cause),
+            };
+        }
+    };
+    *packets = going.counted;
+    let copied = going.copied.as_slice();
+    if copied.is_empty() {
+        return Used {
             store,
-            paths,
-            sending,
-            &mut pass.made,
-            counted,
-            group,
-        ),
-        Err(refused) => Used {
-            store,
-            done: Err(PlacingError::from(refused)),
-        },
+            done: Ok(()),
+        };
     }
+    append_group::<D, P>(alloc, store, sending, copied, &going.begun, group)
 }
 
-/// Goes over the messages, and writes their copies. What was counted and which packets were made is in `pass`.
-pub(crate) fn pass_on<'a, D: Disk, P: LendStation<'a, D>, T: MessageProgress>(
+/// Goes over the messages, and writes their copies. It updates the counts of the packets.
+pub(crate) fn pass_on<'a, 'p, D: Disk, P: LendStation<'a, D>, T: MessageProgress>(
     alloc: Global,
     store: P::Kept,
     paths: &P::Paths,
-    sending: Sending<'_>,
+    sending: Sending<'p>,
     watch: &T,
-    pass: &mut Pass,
+    packets: &mut Vec<LinkPacket<'p>>,
 ) -> Used<P::Kept, Result<(), PassStop>>
-    requires plain { All (λ b. b ≢ 47) sending.own.now }
-    requires ready { (P.Kept.state store).is_ready × AreSettledByOwn (P.Kept.state store) }
-    requires own { (m : List ℕ) → (P.Kept.state store).is_own m → P.Paths.is_own paths.now m }
-    requires begins { IsCounted (P.Paths.is_own paths.now) sending [] (P.Kept.state store).disk pass.old }
-    ensures staged { HasStaged (P.Paths.is_own paths.now) sending.entry (P.Kept.state store) (P.Kept.state result.store) pass.new.made }
-    ensures passed { OnOk result.done (HasPassed (P.Paths.is_own paths.now) sending.entry (P.Kept.state store) (P.Kept.state result.store) pass.new.made) }
+    requires ready { CanSend (P.Paths.is_own paths.now) sending (P.Kept.state store) }
+    requires begins { IsMaking (P.Paths.is_own paths.now) sending [] (P.Kept.state store).disk packets.old.items }
+    ensures staged { HasStaged (P.Paths.is_own paths.now) sending.entry (IsPartOf sending.entry (P.Kept.state store) (P.Kept.state result.store)) (P.Kept.state store) (P.Kept.state result.store) packets.new.items }
+    ensures passed { OnOk result.done (HasPassed (P.Paths.is_own paths.now) sending.entry (P.Kept.state store) (P.Kept.state result.store) packets.new.items) }
     ensures taken { Honestly (P.Kept.state result.store).disk (IsErrOf result.done (PassStop.Placing PlacingError.Taken) → (base : Base) → (P.Kept.state store).keeps base
         → IsTakenFor (P.Paths.is_own paths.now) sending.entry base (P.Kept.state store).disk.seen) }
     ensures cause { HasStopCause P.Kept.state (P.Kept.state store) (P.Kept.state result.store) (P.Kept.failures store) (P.Kept.failures result.store) result.done }
@@ -151,7 +165,7 @@ pub(crate) fn pass_on<'a, D: Disk, P: LendStation<'a, D>, T: MessageProgress>(
             }
         };
         let Used { store: back, done } = add_group::<D, P>(
-            alloc, read, paths, sending, pass, &group,
+            alloc, read, paths, sending, packets, &group,
         );
         store = back;
         match done {

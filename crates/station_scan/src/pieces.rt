@@ -1,4 +1,4 @@
-//! What comes next in each packet of a scan: its header, the copies of a group of messages, its end.
+//! The pieces of a packet: its header, the copies of a group of messages, its end.
 ghost use Rattle.echo_packet.specs.Header.{header_bytes, word};
 ghost use Rattle.echo_packet.specs.Message.{messages_bytes};
 ghost use Rattle.model_steps.specs.Scanning.{header_to};

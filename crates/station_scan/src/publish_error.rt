@@ -12,7 +12,7 @@ pub enum PublishError {
     /// committed.
     #[error("{0}")]
     Packets(PlacingError),
-    /// The base could not be read again while packets were written, and no staging file is left.
+    /// A message of the base could not be read, and no staging file is left.
     #[error("{0}")]
     Reading(StoreError),
     /// A packet was not written, and some staging files may be left.

@@ -5,23 +5,23 @@ ghost use Rattle.disk_io.specs.Device.{Failed};
 ghost use Rattle.disk_io.specs.Disk.{Honestly};
 ghost use Rattle.cmd_status.specs.Devices.{output_of};
 ghost use Rattle.model_steps.specs.Stamps.{is_stamp};
-ghost use Rattle.station_scan.specs.Beside.{HasScanCause, IsMoved};
+ghost use Rattle.station_scan.specs.Moved.{HasScanCause, IsMoved};
 ghost use Rattle.station_scan.specs.Publishing.{KeepsStoreBut};
 ghost use Rattle.station_scan.specs.Scanning.{IsTouched, ScansOnStore, TriesOn};
 
 use crate::beneath::{Used, finish_on};
 use crate::outgoing::send_on;
 use crate::pieces::Source;
-use crate::reporting::{left_told, report, told_as};
+use crate::reporting::{left_reported, report, reported_as};
 use crate::scan_error::ScanError;
 use crate::scanning::Scan;
-use crate::sending::Sending;
+use crate::sending::{Sending, plan_of};
 use base_store::Store;
 use cmd_status::MessageProgress;
 use disk_atomic::ListStaged;
 use disk_io::{Disk, Sink};
 use echo_links::LinkFile;
-use station::{LendStation, OwnPaths, system_name};
+use station::{LendStation, OwnPaths};
 use std::alloc::Global;
 
 /// The most scanned messages that the number in a packet's name can count: it is read back as four bytes.
@@ -46,7 +46,8 @@ pub(crate) fn put_moved<
     out: &mut W,
     from: usize,
 ) -> Used<P::Kept, Result<(), ScanError<'a>>>
-    requires ready { (P.Kept.state store).is_ready × (is_stamp scan.old.stamp ≡ true) }
+    requires ready { (P.Kept.state store).is_ready }
+    requires stamp { is_stamp scan.old.stamp ≡ true }
     requires own { (m : List ℕ) → (P.Kept.state store).is_own m → P.Paths.is_own paths.now m }
     ensures scans { Honestly (P.Kept.state result.store).disk ((base : Base) → IsMoved (P.Kept.state store) from base
         → ScansOnStore scan.old.stamp (P.Paths.is_own paths.now) scan.old.outbound.now (G.is_true scan.new.listing)
@@ -66,20 +67,22 @@ pub(crate) fn put_moved<
     };
     if from > MOST {
         let Used { store, done } = report(alloc, source, store, &scan.watch, out);
-        let done = told_as(ScanError::TooFar, done);
+        let done = reported_as(ScanError::TooFar, done);
         return Used { store, done };
     }
-    let own = match system_name(alloc, links) {
-        Ok(own) => own,
+    let plan = match plan_of(alloc, links, scan.outbound, from) {
+        Ok(plan) => plan,
         Err(refused) => {
             let Used { store, done } = report(alloc, source, store, &scan.watch, out);
-            let done = told_as(ScanError::from(refused), done);
+            let done = reported_as(ScanError::from(refused), done);
             return Used { store, done };
         }
     };
     let sending = Sending {
         outbound: scan.outbound,
-        own: &own,
+        own: plan.own.as_slice(),
+        trial: plan.trial.as_slice(),
+        routes: plan.routes.as_slice(),
         source,
     };
     let Used { store, done } = finish_on::<D, P, G>(
@@ -94,7 +97,7 @@ pub(crate) fn put_moved<
         Ok(()) => send_on::<D, P, T, W>(alloc, store, paths, sending, &scan.watch, out),
         Err(cause) => {
             let Used { store, done } = report(alloc, source, store, &scan.watch, out);
-            let done = left_told(cause, done);
+            let done = left_reported(cause, done);
             Used { store, done }
         }
     }

@@ -2,7 +2,7 @@
 ghost use Rattle.std.specs.Prelude.{◌≡◌, true};
 ghost use Rattle.cmd_status.specs.Devices.{output_of};
 ghost use Rattle.model_steps.specs.Stamps.{is_stamp};
-ghost use Rattle.station_scan.specs.Beside.{HasReported, left_cause, left_told, told_as};
+ghost use Rattle.station_scan.specs.Moved.{HasReported, left_cause, left_reported, reported_as};
 
 use crate::beneath::Used;
 use crate::pieces::Source;
@@ -33,16 +33,10 @@ pub(crate) fn report<'a, S: Store, T: MessageProgress, W: Sink>(
     let counted = counted_from(alloc, source.links, &mut reported, source.from);
     let ReportedStore { store, .. } = reported;
     match counted {
-        Ok(packets) => match print_counted(alloc, &packets, source.from, out) {
-            Ok(_planned) => Used {
-                store,
-                done: Ok(()),
-            },
-            Err(stop) => Used {
-                store,
-                done: Err(stop),
-            },
-        },
+        Ok(packets) => {
+            let done = print_counted(alloc, &packets, out);
+            Used { store, done }
+        }
         Err(cause) => Used {
             store,
             done: Err(CommandError::Store(cause)),
@@ -51,11 +45,11 @@ pub(crate) fn report<'a, S: Store, T: MessageProgress, W: Sink>(
 }
 
 /// Why the scan stopped, once that was reported or could not be.
-pub(crate) fn told_as<'a>(
+pub(crate) fn reported_as<'a>(
     why: ScanError<'a>,
     reported: Result<(), CommandError<'a>>,
 ) -> Result<(), ScanError<'a>>
-    ensures { result ≡ told_as why.entry reported.entry }
+    ensures { result ≡ reported_as why.entry reported.entry }
 {
     match reported {
         Ok(()) => Err(why),
@@ -79,11 +73,11 @@ fn left_cause(cause: PlacingError, stop: CommandError<'_>) -> DiskError
 }
 
 /// The same where leftover packets were not finished.
-pub(crate) fn left_told<'a>(
+pub(crate) fn left_reported<'a>(
     cause: PlacingError,
     reported: Result<(), CommandError<'a>>,
 ) -> Result<(), ScanError<'a>>
-    ensures { result ≡ left_told cause reported.entry }
+    ensures { result ≡ left_reported cause reported.entry }
 {
     match reported {
         Ok(()) => Err(ScanError::Placing(cause)),

@@ -1,13 +1,16 @@
-//! The packets of a scan, each with its two paths.
-ghost use Rattle.std.specs.Prelude.{◌≡◌, map, length, IfOk};
-ghost use Rattle.station_scan.specs.Passing.{IsPlanOf};
-ghost use Rattle.station_scan.specs.Sending.{AreSent, planned_paths, two_paths};
+//! Where the packets of a scan go.
+ghost use Rattle.std.specs.Prelude.{◌≡◌, All, IfOk, map};
+ghost use Rattle.disk_atomic.specs.StagingPaths.{staging_path};
+ghost use Rattle.echo_toss.specs.Counts.{link_set};
+ghost use Rattle.station_scan.specs.Sending.{IsPlanned, IsSized, route_to, two_paths};
 
 use crate::pieces::Source;
-use cmd_report::{PlannedPacket, planned_packets};
-use disk_atomic::{Outgoing, staging_path};
-use echo_addr::Items;
-use echo_toss::CountedPacket;
+use cmd_report::packet_name;
+use disk_atomic::staging_path;
+use echo_addr::{Address, Items};
+use echo_links::LinkFile;
+use echo_toss::link_set;
+use station::system_name;
 use std::alloc::{AllocError, Global};
 
 /// The path of a packet, and its staging path before that.
@@ -17,21 +20,29 @@ pub struct TwoPaths {
     pub staging: Items<u8>,
 }
 
-/// What the packets of a scan are made of, and their folder: a path that ends in a slash or is empty. The own name is in
-/// their staging paths.
+/// Where the packet for a link goes.
+#[derive(Drop)]
+pub struct Route {
+    pub to: Address,
+    pub two: TwoPaths,
+}
+
+/// The system's name in staging paths, the path that is tried, and a route for each link.
+#[derive(Drop)]
+pub(crate) struct Plan {
+    pub own: Items<u8>,
+    pub trial: Items<u8>,
+    pub routes: Items<Route>,
+}
+
+/// What the packets of a scan are made of, and where they go. The folder is a path that ends in a slash, or is empty.
 #[derive(Clone, Copy)]
 pub(crate) struct Sending<'p> {
     pub outbound: &'p [u8],
     pub own: &'p [u8],
+    pub trial: &'p [u8],
+    pub routes: &'p [Route],
     pub source: Source<'p>,
-}
-
-/// Packets of a scan by their names, the two paths of each, and the path that is tried in their folder.
-#[derive(Drop)]
-pub(crate) struct Plan {
-    pub planned: Items<PlannedPacket>,
-    pub two: Items<TwoPaths>,
-    pub trial: Items<u8>,
 }
 
 /// The two paths of a packet of this name in this folder.
@@ -52,60 +63,57 @@ pub(crate) fn two_paths(
     })
 }
 
-/// The two paths of each packet.
-pub(crate) fn paths_of(
+// Where the packet for the address goes.
+fn route_to(
     alloc: Global,
     folder: &[u8],
     own: &[u8],
-    planned: &[PlannedPacket],
-) -> Result<Vec<TwoPaths>, AllocError>
-    ensures { IfOk result (λ all. all.items ≡ map (planned_paths folder.now own.now) planned.now) }
+    from: usize,
+    to: Address,
+) -> Result<Route, AllocError>
+    ensures route { IfOk result (λ route. route ≡ route_to folder.now own.now from to) }
+    ensures sized { IsSized to }
 {
-    let mut all = Vec::with_capacity(alloc, planned.len())?;
-    'planned: for packet in planned {
-        let two = two_paths(alloc, folder, own, packet.name.as_slice())?;
-        all.push(two)?;
-    }
-    Ok(all)
+    let name = packet_name(alloc, to, from)?;
+    let two = two_paths(alloc, folder, own, &name)?;
+    Ok(Route { to, two })
 }
 
-/// The planned packets, at these paths.
-pub(crate) fn outgoing_of<'a>(
+// Where the packets for these addresses go.
+fn routes_to(
     alloc: Global,
-    planned: &[PlannedPacket],
-    paths: &'a [TwoPaths],
-) -> Result<Vec<Outgoing<'a>>, AllocError>
-    requires { length paths.now ≡ length planned.now }
-    ensures { IfOk result (λ all. AreSent planned.now paths.now all.items) }
+    folder: &[u8],
+    own: &[u8],
+    from: usize,
+    addresses: &[Address],
+) -> Result<Vec<Route>, AllocError>
+    ensures routes { IfOk result (λ all. all.items ≡ map (route_to folder.now own.now from) addresses.now) }
+    ensures sized { IfOk result (λ all. All IsSized addresses.now) }
 {
-    let mut all = Vec::with_capacity(alloc, planned.len())?;
-    'planned: for i in 0..planned.len() {
-        let to = planned[i].to;
-        let two = &paths[i];
-        all.push(Outgoing {
-            path: two.path.as_slice(),
-            staging: two.staging.as_slice(),
-            to,
-        })?;
+    let mut all = Vec::with_capacity(alloc, addresses.len())?;
+    'addresses: for to in addresses {
+        let route = route_to(alloc, folder, own, from, *to)?;
+        all.push(route)?;
     }
     Ok(all)
 }
 
-/// Where the counted packets go.
+/// Where the packets for all links go.
 pub(crate) fn plan_of(
     alloc: Global,
-    sending: Sending<'_>,
-    made: &[CountedPacket],
+    links: &LinkFile,
+    outbound: &[u8],
+    from: usize,
 ) -> Result<Plan, AllocError>
-    ensures { IfOk result (IsPlanOf sending.entry made.now) }
+    ensures { IfOk result (λ plan. IsPlanned links.now outbound.now from plan.own plan.trial plan.routes) }
 {
-    let mut lines = Vec::new(alloc);
-    let planned = planned_packets(alloc, made, sending.source.from, &mut lines)?;
-    let two = paths_of(alloc, sending.outbound, sending.own, &planned)?;
-    let trial = staging_path(alloc, sending.outbound, sending.own)?;
+    let own = system_name(alloc, links)?;
+    let trial = staging_path(alloc, outbound, &own)?;
+    let addresses = link_set(alloc, links)?;
+    let routes = routes_to(alloc, outbound, &own, from, &addresses)?;
     Ok(Plan {
-        planned: Items::new(planned),
-        two: Items::new(two),
+        own: Items::new(own),
         trial: Items::new(trial),
+        routes: Items::new(routes),
     })
 }

@@ -1,7 +1,7 @@
-use Rattle.std.proofs.Common.{◌≡◌, ◌≤◌, ◌∙◌, ◌++◌, List, ap, arith, append_assoc, drop, length, map, sym}
+use Rattle.std.proofs.Common.{◌≡◌, ◌≤◌, ◌∙◌, ◌++◌, List, ap, arith, append_assoc, drop, filter, length, map, sym}
 use Rattle.std.proofs.lemmas.List.{append-nil, drop_all}
 use Rattle.base_store.proofs.Runs.{looks_twice}
-use Rattle.echo_toss.specs.Counts.{counted_with, link_set}
+use Rattle.echo_toss.specs.Counts.{counted_with, has_messages, link_set}
 use Rattle.echo_toss.specs.Exports.{Outgoing, sent_of}
 use Rattle.echo_toss.proofs.Counts.{all_counted, group_counted}
 use Rattle.std.proofs.lemmas.Result.{err_from_is_err_and}
@@ -21,7 +21,7 @@ groups-preserved g c =
             was.0,
             (
               sent ++ more,
-              c.in_ok-add.ensures.added ∙ ap (map (counted_with more)) was.1.1 ∙ group_counted sent more (link_set file),
+              c.in_ok-more.ensures ∙ ap (λ (l : List Outgoing). map (counted_with l) c.deref-in-groups.result.now) c.sent.ensures ∙ ap (map (counted_with more)) c.deref-in-groups.ensures.value ∙ ap (map (counted_with more)) was.1.1 ∙ group_counted sent more (link_set file),
               ap (λ (n : _). sent ++ more ++ sent_of file (drop n base.messages)) c.next-at.ensures ∙ append_assoc sent more rest
                   ∙ ap (λ (l : List Outgoing). sent ++ l) (c.in_ok-group.ensures.group honest base (so.1.keeps base kept)) ∙ was.1.2,
             ),
@@ -38,7 +38,7 @@ returns-clause-packets g c = λ honest base kept stamp.
     let past : length base.messages ≤ c.groups.at = omega (arith, was.0, c.groups-test.false) in
     let all : sent ≡ sent_of file (drop c.args.from base.messages) =
     sym (append-nil sent) ∙ ap (λ (l : _). sent ++ sent_of file l) (sym (drop_all c.groups.at base.messages past)) ∙ was.1.2 in
-    c.in_ok-made.ensures ∙ all_counted file base.messages c.args.from sent _ all was.1.1 stamp
+    c.in_ok-with_messages.ensures ∙ ap (filter has_messages) c.deref-2.ensures.value ∙ all_counted file base.messages c.args.from sent c.groups.counts.items all was.1.1 stamp
 
 pub returns-in_err-group-clause-many : goal.returns-in_err-group-clause-many
 returns-in_err-group-clause-many g c =

@@ -11,7 +11,7 @@ abbrev pub invariant-groups : goal.invariant-groups
 invariant-groups g l =
     Honestly (g.T.Store.state l.store).disk ((base : Base) → (g.T.Store.state l.fn.store).keeps base
     → (l.end ≡ length base.messages)
-    × ((sent : List Outgoing) × (l.counts ≡ map (counted_to sent) (link_set l.links))
+    × ((sent : List Outgoing) × (l.counts.items ≡ map (counted_to sent) (link_set l.links))
     × (sent ++ sent_of l.links (drop l.at base.messages) ≡ sent_of l.links (drop l.from base.messages))))
     × LooksOn (g.T.Store.state l.fn.store) (g.T.Store.state l.store)
     × (g.T.Store.failures l.fn.store ≤ g.T.Store.failures l.store)

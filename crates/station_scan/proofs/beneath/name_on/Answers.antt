@@ -5,7 +5,7 @@ use Rattle.disk_atomic.specs.Outgoing.{IsOfOne, staged_in}
 use Rattle.station_scan.proofs.Published.{own_not_of}
 use Rattle.station_scan.proofs.Through.{are_staged, have_their_paths, names_through, ok_gives}
 use Rattle.station_scan.proofs.Looked.{same_seen}
-use Rattle.station_scan.proofs.Lent.{held, used}
+use Rattle.station_scan.proofs.UsedDisks.{held, used}
 use Rattle.station_scan.proofs.beneath.name_on.Goals as goal
 
 pub give_back-store-requires : goal.give_back-store-requires

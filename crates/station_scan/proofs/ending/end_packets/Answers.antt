@@ -1,10 +1,11 @@
 use Rattle.std.proofs.Common.{◌≡◌, ◌∙◌, subst, true}
+use Rattle.std.proofs.lemmas.Result.{on_ok_weaker}
 use Rattle.std.specs.Prelude.{All, OnOk, Result}
 use Rattle.disk_io.specs.declared.disk_error.DiskError.{DiskError}
 use Rattle.disk_atomic.specs.Outgoing.{IsAtStaging, IsLonger, staged_in}
 use Rattle.echo_packet.specs.Header.{word}
 use Rattle.station_scan.specs.Publishing.{IsTriedWith, IsWritten}
-use Rattle.station_scan.proofs.Through.{ok_gives, on_ok_gives}
+use Rattle.station_scan.proofs.Through.{ok_gives}
 use Rattle.station_scan.proofs.Written.{tried_written, used_twice}
 use Rattle.station_scan.proofs.ending.end_packets.Goals as goal
 
@@ -20,7 +21,7 @@ returns-in-Ok-clause-ended g c = λ honest.
     let d1 = (g.P.Kept.Store.state c.append_on-store.result.store).disk in
     let d2 = (g.P.Kept.Store.state c.end_on.result.store).disk in
     let longer = subst (λ (r : Result (Unit {0}) DiskError). OnOk r (All (IsLonger (λ to. word 0) d0 d1) packets)) c.in-Ok.is (c.append_on-store.ensures.longer (c.end_on.ensures.used.changes.honest honest)) in
-    on_ok_gives c.end_on.result.done (λ (same : All (IsWritten (staged_in d1.seen) d2.seen) packets) k z lt. same k z lt ∙ longer k z lt) c.end_on.ensures.same
+    on_ok_weaker c.end_on.result.done (λ (same : All (IsWritten (staged_in d1.seen) d2.seen) packets) k z lt. same k z lt ∙ longer k z lt) c.end_on.ensures.same
 
 pub returns-in-Ok-clause-tried : goal.returns-in-Ok-clause-tried
 returns-in-Ok-clause-tried g c =

@@ -1,4 +1,4 @@
--- What was listed up to here is found.
+-- The listed packets up to here are found.
 use Rattle.std.proofs.Common.{◌≤◌}
 use Rattle.std.specs.Prelude.{All}
 use Rattle.std.specs.List.{AllWithin}

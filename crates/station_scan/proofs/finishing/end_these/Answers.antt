@@ -2,13 +2,13 @@ use Rattle.std.proofs.Common.{subst, sym}
 use Rattle.std.proofs.lemmas.Result.{err_from_is_err_and}
 use Rattle.disk_atomic.specs.Finishing.{IsOfLeft}
 use Rattle.disk_atomic.proofs.Changes.{only_nothing, then_only, wider}
-use Rattle.station_scan.specs.Left.{AreLent, IsOfPaths}
+use Rattle.station_scan.specs.Left.{AreSameLeft, IsOfPaths}
 use Rattle.station_scan.proofs.Lefts.{are_free, are_there, nothing_these, of_paths, quiet_start, settled_these, unsettled_these}
 use Rattle.station_scan.proofs.finishing.end_these.Goals as goal
 
 pub finish_stopped-requires-clause-there : goal.finish_stopped-requires-clause-there
 finish_stopped-requires-clause-there g c = λ honest.
-    let lent = subst (AreLent c.args.paths.now) (sym c.deref.ensures.value) c.in_ok-found.ensures in
+    let lent = subst (AreSameLeft c.args.paths.now) (sym c.deref.ensures.value) c.in_ok-found.ensures in
     are_there c.args.paths.now c.deref.result.now lent (g.D.Disk.state c.args.disk.now) (c.requires.there honest)
 
 pub returns-in_err-found-clause-ends : goal.returns-in_err-found-clause-ends
@@ -19,19 +19,19 @@ returns-in_err-found-clause-ends g c = λ honest.
 
 pub returns-in_err-finish_stopped-clause-changes : goal.returns-in_err-finish_stopped-clause-changes
 returns-in_err-finish_stopped-clause-changes g c =
-    let lent = subst (AreLent c.args.paths.now) (sym c.deref.ensures.value) c.in_ok-found.ensures in
+    let lent = subst (AreSameLeft c.args.paths.now) (sym c.deref.ensures.value) c.in_ok-found.ensures in
     wider (IsOfLeft c.deref.result.now) (IsOfPaths c.args.paths.now) (g.D.Disk.state c.args.disk.now) (g.D.Disk.state c.finish_stopped.new.disk) (of_paths c.args.paths.now c.deref.result.now lent)
     c.finish_stopped.ensures.changes
 
 pub returns-then-not-branch-clause-changes : goal.returns-then-not-branch-clause-changes
 returns-then-not-branch-clause-changes g c =
-    let lent = subst (AreLent c.args.paths.now) (sym c.deref.ensures.value) c.in_ok-found.ensures in
+    let lent = subst (AreSameLeft c.args.paths.now) (sym c.deref.ensures.value) c.in_ok-found.ensures in
     wider (IsOfLeft c.deref.result.now) (IsOfPaths c.args.paths.now) (g.D.Disk.state c.args.disk.now) (g.D.Disk.state c.finish_stopped.new.disk) (of_paths c.args.paths.now c.deref.result.now lent)
     c.finish_stopped.ensures.changes
 
 pub returns-in_err-sync_folder_of-clause-changes : goal.returns-in_err-sync_folder_of-clause-changes
 returns-in_err-sync_folder_of-clause-changes g c =
-    let lent = subst (AreLent c.args.paths.now) (sym c.deref.ensures.value) c.in_ok-found.ensures in
+    let lent = subst (AreSameLeft c.args.paths.now) (sym c.deref.ensures.value) c.in_ok-found.ensures in
     let at = IsOfPaths c.args.paths.now in
     let d0 = g.D.Disk.state c.args.disk.now in
     let d1 = g.D.Disk.state c.finish_stopped.new.disk in
@@ -40,7 +40,7 @@ returns-in_err-sync_folder_of-clause-changes g c =
 
 pub returns-clause-changes : goal.returns-clause-changes
 returns-clause-changes g c =
-    let lent = subst (AreLent c.args.paths.now) (sym c.deref.ensures.value) c.in_ok-found.ensures in
+    let lent = subst (AreSameLeft c.args.paths.now) (sym c.deref.ensures.value) c.in_ok-found.ensures in
     let at = IsOfPaths c.args.paths.now in
     let d0 = g.D.Disk.state c.args.disk.now in
     let d1 = g.D.Disk.state c.finish_stopped.new.disk in
@@ -49,7 +49,7 @@ returns-clause-changes g c =
 
 pub returns-in_err-sync_folder_of-clause-ends : goal.returns-in_err-sync_folder_of-clause-ends
 returns-in_err-sync_folder_of-clause-ends g c = λ honest.
-    let lent = subst (AreLent c.args.paths.now) (sym c.deref.ensures.value) c.in_ok-found.ensures in
+    let lent = subst (AreSameLeft c.args.paths.now) (sym c.deref.ensures.value) c.in_ok-found.ensures in
     let found = c.deref.result.now in
     let d0 = g.D.Disk.state c.args.disk.now in
     let d1 = g.D.Disk.state c.finish_stopped.new.disk in
@@ -60,7 +60,7 @@ returns-in_err-sync_folder_of-clause-ends g c = λ honest.
 
 pub returns-clause-ends : goal.returns-clause-ends
 returns-clause-ends g c = λ honest.
-    let lent = subst (AreLent c.args.paths.now) (sym c.deref.ensures.value) c.in_ok-found.ensures in
+    let lent = subst (AreSameLeft c.args.paths.now) (sym c.deref.ensures.value) c.in_ok-found.ensures in
     let found = c.deref.result.now in
     let d0 = g.D.Disk.state c.args.disk.now in
     let d1 = g.D.Disk.state c.finish_stopped.new.disk in
@@ -71,5 +71,5 @@ returns-clause-ends g c = λ honest.
 
 pub returns-then-not-branch-clause-taken : goal.returns-then-not-branch-clause-taken
 returns-then-not-branch-clause-taken g c honest is free =
-    let lent = subst (AreLent c.args.paths.now) (sym c.deref.ensures.value) c.in_ok-found.ensures in
+    let lent = subst (AreSameLeft c.args.paths.now) (sym c.deref.ensures.value) c.in_ok-found.ensures in
     c.in_ok-finish_stopped.ensures.taken honest c.if-not-branch.true (are_free c.args.paths.now c.deref.result.now lent (g.D.Disk.state c.args.disk.now).seen free)

@@ -1,12 +1,13 @@
-use Rattle.std.proofs.Common.{◌≡◌, ◌≤◌, ◌∙◌, List, Result, Err, ap, arith, subst, sym}
-use Rattle.std.specs.Prelude.{IfErr, IfOk}
+use Rattle.std.proofs.Common.{◌≡◌, ◌≤◌, ◌∙◌, List, Result, Err, ap, arith, refl, subst, sym}
+use Rattle.std.specs.Prelude.{IfErr, IfOk, Vec}
+use Rattle.std.specs.declared.alloc.Global.{Global}
 use Rattle.disk_io.specs.Device.{Failed}
 use Rattle.base_store.specs.Store.{all_scanned}
 use Rattle.cmd_status.specs.Devices.{output_of}
-use Rattle.echo_toss.specs.declared.counting.CountedPacket.{CountedPacket}
+use Rattle.station_scan.specs.declared.counting.LinkPacket.{LinkPacket}
 use Rattle.station.proofs.Failures.{failed_wider}
-use Rattle.station_scan.specs.Beside.{ScansBeside}
-use Rattle.station_scan.specs.Passing.{HasPassed, IsStagingTo, StopsPassing, made_to}
+use Rattle.station_scan.specs.Moved.{ScansFrom}
+use Rattle.station_scan.specs.Passing.{HasPassed, IsStagingTo, StopsPassing}
 use Rattle.station_scan.specs.declared.publish_error.PublishError.{PublishError}
 use Rattle.station_scan.specs.declared.publish_error.PublishError.TheVariants.{Base as OfBase, Packets, Reading, Staging}
 use Rattle.base_store.specs.declared.store_error.StoreError.{StoreError}
@@ -16,10 +17,19 @@ use Rattle.disk_io.specs.declared.disk_error.DiskError.TheVariants as disk
 use Rattle.disk_atomic.specs.declared.placing_error.PlacingError.{PlacingError}
 use Rattle.disk_atomic.specs.declared.placing_error.PlacingError.TheVariants as placing
 use Rattle.station_scan.specs.declared.scan_error.ScanError.{ScanError}
-use Rattle.station_scan.proofs.Files.{staged_keeps}
-use Rattle.station_scan.proofs.Passes.{used_looked}
-use Rattle.station_scan.proofs.Told.{err_of, scans_of_base, scans_reading, scans_reported, scans_staying, scans_wider, touched_after, touched_looked}
+use Rattle.station_scan.proofs.Passes.{can_still, staged_keeps, used_looked}
+use Rattle.station_scan.proofs.Reports.{err_of, scans_reading, scans_reported, scans_staying, scans_wider, touched_after, touched_looked}
 use Rattle.station_scan.proofs.outgoing.send_on.Goals as goal
+
+pub send_made-requires : goal.send_made-requires
+send_made-requires g c κs =
+    let Own = g.P.Paths.OwnPaths.is_own c.args.paths.now in
+    let to = c.args.sending in
+    let s0 = g.P.Kept.Store.state c.args.store in
+    let s1 = g.P.Kept.Store.state c.pass_waiting-store.result.store in
+    let pass = c.pass_waiting-store.ensures in
+    let passed = subst (λ (l : List LinkPacket). HasPassed Own to s0 s1 l) (sym c.deref.ensures.value) (subst (λ (r : Result (Vec LinkPacket Global) PublishError). IfOk r (λ all. HasPassed Own to s0 s1 all.items)) c.in-Ok.is pass.passed) in
+    ((refl, tt), (can_still Own (IsStagingTo to passed.sent) to s0 s1 passed.used c.requires.ready, (passed.sent, record { counted = passed.counted; fit = passed.fit; grows = passed.part.grows })))
 
 pub returns-in-Ok-clause-sends : goal.returns-in-Ok-clause-sends
 returns-in-Ok-clause-sends g c = λ honest base moved.
@@ -28,8 +38,7 @@ returns-in-Ok-clause-sends g c = λ honest base moved.
     let s0 = g.P.Kept.Store.state c.args.store in
     let s1 = g.P.Kept.Store.state c.pass_waiting-store.result.store in
     let pass = c.pass_waiting-store.ensures in
-    let made = c.as_slice.result.now in
-    let passed = subst (λ (l : List CountedPacket). HasPassed Own to s0 s1 l) (sym c.as_slice.ensures) (subst (λ (r : Result (List CountedPacket) PublishError). IfOk r (HasPassed Own to s0 s1)) c.in-Ok.is pass.passed) in
+    let passed = subst (λ (l : List LinkPacket). HasPassed Own to s0 s1 l) (sym c.deref.ensures.value) (subst (λ (r : Result (Vec LinkPacket Global) PublishError). IfOk r (λ all. HasPassed Own to s0 s1 all.items)) c.in-Ok.is pass.passed) in
     let f0 = g.P.Kept.Store.failures c.args.store in
     let f1 = g.P.Kept.Store.failures c.pass_waiting-store.result.store in
     let out = output_of g.W.Write.contents g.W.Sink.failures g.W.Sink.holds c.args.out.now in
@@ -46,9 +55,8 @@ returns-in-Ok-clause-keeps g c =
     let s0 = g.P.Kept.Store.state c.args.store in
     let s1 = g.P.Kept.Store.state c.pass_waiting-store.result.store in
     let pass = c.pass_waiting-store.ensures in
-    let made = c.as_slice.result.now in
-    let passed = subst (λ (l : List CountedPacket). HasPassed Own to s0 s1 l) (sym c.as_slice.ensures) (subst (λ (r : Result (List CountedPacket) PublishError). IfOk r (HasPassed Own to s0 s1)) c.in-Ok.is pass.passed) in
-    touched_after to.outbound.now s0 s1 (g.P.Kept.Store.state c.send_made.result.store) (staged_keeps Own to passed.sent s0 s1 made passed.staged) c.send_made.ensures.keeps
+    let passed = subst (λ (r : Result (Vec LinkPacket Global) PublishError). IfOk r (λ all. HasPassed Own to s0 s1 all.items)) c.in-Ok.is pass.passed in
+    touched_after to.outbound.now s0 s1 (g.P.Kept.Store.state c.send_made.result.store) (staged_keeps Own to c.requires.ready.routes passed.sent passed.fit s0 s1 passed.used) c.send_made.ensures.keeps
 
 pub returns-in-Packets-clause-sends : goal.returns-in-Packets-clause-sends
 returns-in-Packets-clause-sends g c = λ honest base moved.
@@ -58,7 +66,7 @@ returns-in-Packets-clause-sends g c = λ honest base moved.
     let s1 = g.P.Kept.Store.state c.pass_waiting-store.result.store in
     let pass = c.pass_waiting-store.ensures in
     let is : c.pass_waiting-store.result.done ≡ Err (Packets c.in-Packets.cause) = c.in-Err.is ∙ ap (λ (w : PublishError). Err w) c.in-Packets.is in
-    let stops = subst (λ (r : Result (List CountedPacket) PublishError). IfErr r (StopsPassing Own to s0 s1)) is pass.stopped in
+    let stops = subst (λ (r : Result (Vec LinkPacket Global) PublishError). IfErr r (StopsPassing Own to s0 s1)) is pass.stopped in
     let f0 = g.P.Kept.Store.failures c.args.store in
     let f1 = g.P.Kept.Store.failures c.pass_waiting-store.result.store in
     let out = output_of g.W.Write.contents g.W.Sink.failures g.W.Sink.holds c.args.out.now in
@@ -69,12 +77,12 @@ returns-in-Packets-clause-sends g c = λ honest base moved.
     let f2 = g.P.Kept.Store.failures c.report-store.result.store in
     let now = output_of g.W.Write.contents g.W.Sink.failures g.W.Sink.holds c.report-store.new.out in
     let honest1 = report.looks.quiet.honest honest in
-    let kept = stops.staged.staged.used.holds.keeps (all_scanned base) moved.keeps in
+    let kept = stops.staged.used.holds.keeps (all_scanned base) moved.keeps in
     let later : f1 ≤ f2 = report.cause.later in
-    subst (λ (r : Result (Unit {0}) ScanError). ScansBeside g.D.Disk.state Own to (Failed f0 f2) s0 s2 out now base r) (sym c.told_as-done.ensures)
-    (scans_reported g.D.Disk.state Own to (Failed f0 f2) s0 s1 stops.made stops.staged base moved c.requires.ready.2 c.requires.own honest1 s2 report.looks.quiet out now cause reported
+    subst (λ (r : Result (Unit {0}) ScanError). ScansFrom g.D.Disk.state Own to (Failed f0 f2) s0 s2 out now base r) (sym c.reported_as-done.ensures)
+    (scans_reported g.D.Disk.state Own to (Failed f0 f2) s0 s1 stops.all stops.staged base moved (can_still Own (IsStagingTo to stops.staged.sent) to s0 s1 stops.staged.used c.requires.ready) honest1 s2 report.looks.quiet out now cause reported
     (λ e. failed_wider f0 f0 f1 f2 (omega arith) later (pass.cause.packets (err_of c.pass_waiting-store.result.done (Packets cause) (Packets placing.Device) is (ap (λ (w : PlacingError). Packets w) e)))) (λ e. pass.taken honest1 (err_of c.pass_waiting-store.result.done (Packets cause) (Packets placing.Taken) is (ap (λ (w : PlacingError). Packets w) e)) (all_scanned base) moved.keeps) (stops.gone honest1 tt)
-    (used_looked (IsStagingTo to (made_to to.source.links.now stops.staged.sent)) s0 s1 s2 stops.staged.staged.used report.looks) (report.answers honest (all_scanned base) kept) (λ e. report.cause.damaged honest e (all_scanned base) kept))
+    (used_looked (IsStagingTo to stops.staged.sent) s0 s1 s2 stops.staged.used report.looks) (report.answers honest (all_scanned base) kept) (λ e. report.cause.damaged honest e (all_scanned base) kept))
 
 pub returns-in-Packets-clause-keeps : goal.returns-in-Packets-clause-keeps
 returns-in-Packets-clause-keeps g c =
@@ -84,9 +92,9 @@ returns-in-Packets-clause-keeps g c =
     let s1 = g.P.Kept.Store.state c.pass_waiting-store.result.store in
     let pass = c.pass_waiting-store.ensures in
     let is : c.pass_waiting-store.result.done ≡ Err (Packets c.in-Packets.cause) = c.in-Err.is ∙ ap (λ (w : PublishError). Err w) c.in-Packets.is in
-    let stops = subst (λ (r : Result (List CountedPacket) PublishError). IfErr r (StopsPassing Own to s0 s1)) is pass.stopped in
+    let stops = subst (λ (r : Result (Vec LinkPacket Global) PublishError). IfErr r (StopsPassing Own to s0 s1)) is pass.stopped in
     let s2 = g.P.Kept.Store.state c.report-store.result.store in
-    touched_after to.outbound.now s0 s1 s2 (staged_keeps Own to stops.staged.sent s0 s1 stops.made stops.staged.staged) (touched_looked to.outbound.now s1 s2 c.report-store.ensures.looks)
+    touched_after to.outbound.now s0 s1 s2 (staged_keeps Own to c.requires.ready.routes stops.staged.sent stops.staged.fit s0 s1 stops.staged.used) (touched_looked to.outbound.now s1 s2 c.report-store.ensures.looks)
 
 pub returns-in-Reading-clause-sends : goal.returns-in-Reading-clause-sends
 returns-in-Reading-clause-sends g c = λ honest base moved.
@@ -96,11 +104,11 @@ returns-in-Reading-clause-sends g c = λ honest base moved.
     let s1 = g.P.Kept.Store.state c.pass_waiting-store.result.store in
     let pass = c.pass_waiting-store.ensures in
     let is : c.pass_waiting-store.result.done ≡ Err (Reading c.in-Reading.cause) = c.in-Err.is ∙ ap (λ (w : PublishError). Err w) c.in-Reading.is in
-    let stops = subst (λ (r : Result (List CountedPacket) PublishError). IfErr r (StopsPassing Own to s0 s1)) is pass.stopped in
+    let stops = subst (λ (r : Result (Vec LinkPacket Global) PublishError). IfErr r (StopsPassing Own to s0 s1)) is pass.stopped in
     let f0 = g.P.Kept.Store.failures c.args.store in
     let f1 = g.P.Kept.Store.failures c.pass_waiting-store.result.store in
     let out = output_of g.W.Write.contents g.W.Sink.failures g.W.Sink.holds c.args.out.now in
-    scans_reading g.D.Disk.state Own to (Failed f0 f1) s0 s1 base out moved c.requires.ready.2 c.requires.own honest c.in-Reading.cause stops (λ e. pass.cause.unread honest (err_of c.pass_waiting-store.result.done (Reading c.in-Reading.cause) (Reading error.Damaged) is (ap (λ (w : StoreError). Reading w) e)) (all_scanned base) moved.keeps)
+    scans_reading g.D.Disk.state Own to (Failed f0 f1) s0 s1 base out moved c.requires.ready honest (Reading c.in-Reading.cause) stops c.in-Reading.cause tt (λ e. pass.cause.unread honest (err_of c.pass_waiting-store.result.done (Reading c.in-Reading.cause) (Reading error.Damaged) is (ap (λ (w : StoreError). Reading w) e)) (all_scanned base) moved.keeps)
 
 pub returns-in-Reading-clause-keeps : goal.returns-in-Reading-clause-keeps
 returns-in-Reading-clause-keeps g c =
@@ -110,33 +118,8 @@ returns-in-Reading-clause-keeps g c =
     let s1 = g.P.Kept.Store.state c.pass_waiting-store.result.store in
     let pass = c.pass_waiting-store.ensures in
     let is : c.pass_waiting-store.result.done ≡ Err (Reading c.in-Reading.cause) = c.in-Err.is ∙ ap (λ (w : PublishError). Err w) c.in-Reading.is in
-    let stops = subst (λ (r : Result (List CountedPacket) PublishError). IfErr r (StopsPassing Own to s0 s1)) is pass.stopped in
-    staged_keeps Own to stops.staged.sent s0 s1 stops.made stops.staged.staged
-
-pub returns-in-Staging-clause-sends : goal.returns-in-Staging-clause-sends
-returns-in-Staging-clause-sends g c = λ honest base moved.
-    let Own = g.P.Paths.OwnPaths.is_own c.args.paths.now in
-    let to = c.args.sending in
-    let s0 = g.P.Kept.Store.state c.args.store in
-    let s1 = g.P.Kept.Store.state c.pass_waiting-store.result.store in
-    let pass = c.pass_waiting-store.ensures in
-    let is : c.pass_waiting-store.result.done ≡ Err (Staging c.in-Staging.left) = c.in-Err.is ∙ ap (λ (w : PublishError). Err w) c.in-Staging.is in
-    let stops = subst (λ (r : Result (List CountedPacket) PublishError). IfErr r (StopsPassing Own to s0 s1)) is pass.stopped in
-    let f0 = g.P.Kept.Store.failures c.args.store in
-    let f1 = g.P.Kept.Store.failures c.pass_waiting-store.result.store in
-    let out = output_of g.W.Write.contents g.W.Sink.failures g.W.Sink.holds c.args.out.now in
-    scans_staying g.D.Disk.state Own to (Failed f0 f1) s0 s1 base out moved c.requires.ready.2 c.requires.own honest c.in-Staging.left stops (λ e. pass.cause.staging (err_of c.pass_waiting-store.result.done (Staging c.in-Staging.left) (Staging disk.Device) is (ap (λ (w : DiskError). Staging w) e)))
-
-pub returns-in-Staging-clause-keeps : goal.returns-in-Staging-clause-keeps
-returns-in-Staging-clause-keeps g c =
-    let Own = g.P.Paths.OwnPaths.is_own c.args.paths.now in
-    let to = c.args.sending in
-    let s0 = g.P.Kept.Store.state c.args.store in
-    let s1 = g.P.Kept.Store.state c.pass_waiting-store.result.store in
-    let pass = c.pass_waiting-store.ensures in
-    let is : c.pass_waiting-store.result.done ≡ Err (Staging c.in-Staging.left) = c.in-Err.is ∙ ap (λ (w : PublishError). Err w) c.in-Staging.is in
-    let stops = subst (λ (r : Result (List CountedPacket) PublishError). IfErr r (StopsPassing Own to s0 s1)) is pass.stopped in
-    staged_keeps Own to stops.staged.sent s0 s1 stops.made stops.staged.staged
+    let stops = subst (λ (r : Result (Vec LinkPacket Global) PublishError). IfErr r (StopsPassing Own to s0 s1)) is pass.stopped in
+    staged_keeps Own to c.requires.ready.routes stops.staged.sent stops.staged.fit s0 s1 stops.staged.used
 
 pub returns-in-Base-clause-sends : goal.returns-in-Base-clause-sends
 returns-in-Base-clause-sends g c = λ honest base moved.
@@ -146,11 +129,11 @@ returns-in-Base-clause-sends g c = λ honest base moved.
     let s1 = g.P.Kept.Store.state c.pass_waiting-store.result.store in
     let pass = c.pass_waiting-store.ensures in
     let is : c.pass_waiting-store.result.done ≡ Err (OfBase c.in-Base.cause) = c.in-Err.is ∙ ap (λ (w : PublishError). Err w) c.in-Base.is in
-    let stops = subst (λ (r : Result (List CountedPacket) PublishError). IfErr r (StopsPassing Own to s0 s1)) is pass.stopped in
+    let stops = subst (λ (r : Result (Vec LinkPacket Global) PublishError). IfErr r (StopsPassing Own to s0 s1)) is pass.stopped in
     let f0 = g.P.Kept.Store.failures c.args.store in
     let f1 = g.P.Kept.Store.failures c.pass_waiting-store.result.store in
     let out = output_of g.W.Write.contents g.W.Sink.failures g.W.Sink.holds c.args.out.now in
-    scans_of_base g.D.Disk.state Own to (Failed f0 f1) s0 s1 base out moved c.requires.ready.2 c.requires.own honest c.in-Base.cause stops (λ e. pass.cause.damaged honest (err_of c.pass_waiting-store.result.done (OfBase c.in-Base.cause) (OfBase error.Damaged) is (ap (λ (w : StoreError). OfBase w) e)) (all_scanned base) moved.keeps)
+    scans_reading g.D.Disk.state Own to (Failed f0 f1) s0 s1 base out moved c.requires.ready honest (OfBase c.in-Base.cause) stops c.in-Base.cause tt (λ e. pass.cause.damaged honest (err_of c.pass_waiting-store.result.done (OfBase c.in-Base.cause) (OfBase error.Damaged) is (ap (λ (w : StoreError). OfBase w) e)) (all_scanned base) moved.keeps)
 
 pub returns-in-Base-clause-keeps : goal.returns-in-Base-clause-keeps
 returns-in-Base-clause-keeps g c =
@@ -160,5 +143,30 @@ returns-in-Base-clause-keeps g c =
     let s1 = g.P.Kept.Store.state c.pass_waiting-store.result.store in
     let pass = c.pass_waiting-store.ensures in
     let is : c.pass_waiting-store.result.done ≡ Err (OfBase c.in-Base.cause) = c.in-Err.is ∙ ap (λ (w : PublishError). Err w) c.in-Base.is in
-    let stops = subst (λ (r : Result (List CountedPacket) PublishError). IfErr r (StopsPassing Own to s0 s1)) is pass.stopped in
-    staged_keeps Own to stops.staged.sent s0 s1 stops.made stops.staged.staged
+    let stops = subst (λ (r : Result (Vec LinkPacket Global) PublishError). IfErr r (StopsPassing Own to s0 s1)) is pass.stopped in
+    staged_keeps Own to c.requires.ready.routes stops.staged.sent stops.staged.fit s0 s1 stops.staged.used
+
+pub returns-in-Staging-clause-sends : goal.returns-in-Staging-clause-sends
+returns-in-Staging-clause-sends g c = λ honest base moved.
+    let Own = g.P.Paths.OwnPaths.is_own c.args.paths.now in
+    let to = c.args.sending in
+    let s0 = g.P.Kept.Store.state c.args.store in
+    let s1 = g.P.Kept.Store.state c.pass_waiting-store.result.store in
+    let pass = c.pass_waiting-store.ensures in
+    let is : c.pass_waiting-store.result.done ≡ Err (Staging c.in-Staging.left) = c.in-Err.is ∙ ap (λ (w : PublishError). Err w) c.in-Staging.is in
+    let stops = subst (λ (r : Result (Vec LinkPacket Global) PublishError). IfErr r (StopsPassing Own to s0 s1)) is pass.stopped in
+    let f0 = g.P.Kept.Store.failures c.args.store in
+    let f1 = g.P.Kept.Store.failures c.pass_waiting-store.result.store in
+    let out = output_of g.W.Write.contents g.W.Sink.failures g.W.Sink.holds c.args.out.now in
+    scans_staying g.D.Disk.state Own to (Failed f0 f1) s0 s1 base out moved c.requires.ready honest (Staging c.in-Staging.left) stops c.in-Staging.left (λ e. pass.cause.staging (err_of c.pass_waiting-store.result.done (Staging c.in-Staging.left) (Staging disk.Device) is (ap (λ (w : DiskError). Staging w) e)))
+
+pub returns-in-Staging-clause-keeps : goal.returns-in-Staging-clause-keeps
+returns-in-Staging-clause-keeps g c =
+    let Own = g.P.Paths.OwnPaths.is_own c.args.paths.now in
+    let to = c.args.sending in
+    let s0 = g.P.Kept.Store.state c.args.store in
+    let s1 = g.P.Kept.Store.state c.pass_waiting-store.result.store in
+    let pass = c.pass_waiting-store.ensures in
+    let is : c.pass_waiting-store.result.done ≡ Err (Staging c.in-Staging.left) = c.in-Err.is ∙ ap (λ (w : PublishError). Err w) c.in-Staging.is in
+    let stops = subst (λ (r : Result (Vec LinkPacket Global) PublishError). IfErr r (StopsPassing Own to s0 s1)) is pass.stopped in
+    staged_keeps Own to c.requires.ready.routes stops.staged.sent stops.staged.fit s0 s1 stops.staged.used

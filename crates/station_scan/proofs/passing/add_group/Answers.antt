@@ -1,53 +1,122 @@
-use Rattle.std.proofs.Common.{◌≡◌, ◌∙◌, ◌++◌, ap, filter, map, refl}
-use Rattle.echo_toss.specs.Counts.{counted_to, counted_with, has_messages, link_set}
-use Rattle.echo_toss.proofs.Counts.{group_counted}
-use Rattle.station_scan.specs.Passing.{AreNext, IsMaking}
-use Rattle.station_scan.proofs.Plans.{begun_addresses}
-use Rattle.station_scan.proofs.Through.{on_ok_gives}
+use Rattle.std.proofs.Common.{◌≡◌, ◌≢◌, ◌<◌, ◌∙◌, ⊎_elim, List, ap, arith, length, map, refl, subst, sym}
+use Rattle.std.proofs.lemmas.Result.{on_ok_weaker}
+use Rattle.std.specs.Prelude.{All}
+use Rattle.std.proofs.lemmas.Bool.{eqb-false, eqb-true}
+use Rattle.disk_atomic.specs.declared.outgoing.Outgoing.{Outgoing}
+use Rattle.disk_atomic.specs.declared.placing_error.PlacingError.TheVariants.{Taken}
+use Rattle.station_scan.specs.Fitting.{IsOff}
+use Rattle.station_scan.specs.Passing.{begun_in, copied_in, with_group}
+use Rattle.station_scan.proofs.Passes.{begun_going, copied_going, group_appending, group_making, group_staged, group_taken, group_unfit, none_making, none_staged, staged_none}
 use Rattle.station_scan.proofs.passing.add_group.Goals as goal
 
-pub write_group-requires : goal.write_group-requires
-write_group-requires g c κs =
-    let Own = g.P.Paths.OwnPaths.is_own c.args.paths.now in
-    let to = c.args.sending in
-    let file = to.source.links.now in
-    let more = c.args.group.now.sent in
-    let counted = c.in-Ok.ensures in
-    let sent = c.requires.counted.0 in
-    let was = c.requires.counted.1 in
-    let all : c.count_group.new.counts ≡ map (counted_to (sent ++ more)) (link_set file) = counted.added ∙ ap (map (counted_with more)) was.counts ∙ group_counted sent more (link_set file) in
-    let next : AreNext to sent more c.in-Ok.counted.made c.in-Ok.counted.first = record { are = counted.made ∙ ap (filter has_messages) all; begun = begun_addresses file sent more c.args.pass.now.counts c.in-Ok.counted.first was.counts counted.first } in
-    ((refl, tt), (c.requires.plain, (c.requires.ready, (c.requires.own, (sent, was.making, next)))))
+pub returns-in-Err-clause-stages : goal.returns-in-Err-clause-stages
+returns-in-Err-clause-stages g c = λ sent making.
+    staged_none (g.P.Paths.OwnPaths.is_own c.args.paths.now) c.args.sending (g.P.Kept.Store.state c.args.store) c.requires.ready sent c.args.group.now.sent c.args.packets.now.items making _ refl
 
-pub returns-in-Ok-clause-stages : goal.returns-in-Ok-clause-stages
-returns-in-Ok-clause-stages g c = λ sent was.
-    let Own = g.P.Paths.OwnPaths.is_own c.args.paths.now in
-    let to = c.args.sending in
-    let file = to.source.links.now in
-    let more = c.args.group.now.sent in
-    let counted = c.in-Ok.ensures in
-    let all : c.count_group.new.counts ≡ map (counted_to (sent ++ more)) (link_set file) = counted.added ∙ ap (map (counted_with more)) was.counts ∙ group_counted sent more (link_set file) in
-    let next : AreNext to sent more c.in-Ok.counted.made c.in-Ok.counted.first = record { are = counted.made ∙ ap (filter has_messages) all; begun = begun_addresses file sent more c.args.pass.now.counts c.in-Ok.counted.first was.counts counted.first } in
-    c.write_group.ensures.stages sent was.making next
+pub returns-in-Err-clause-taken : goal.returns-in-Err-clause-taken
+returns-in-Err-clause-taken g c = λ honest is sent making.
+    let taken : c.in-Err.cause ≡ Taken = cc is in
+    group_unfit (g.P.Paths.OwnPaths.is_own c.args.paths.now) c.args.sending (g.P.Kept.Store.state c.args.store) c.requires.ready sent c.args.group.now.sent c.args.packets.now.items making (map (with_group c.args.group.now.sent) c.deref.result.now)
+    (ap (map (with_group c.args.group.now.sent)) c.deref.ensures.value)
+    (⊎_elim (λ e. absurd (cc (e, taken))) (λ e. e.1) c.in-Err.ensures.err)
 
-pub returns-in-Ok-clause-counted : goal.returns-in-Ok-clause-counted
-returns-in-Ok-clause-counted g c = λ sent was.
-    let Own = g.P.Paths.OwnPaths.is_own c.args.paths.now in
-    let to = c.args.sending in
-    let file = to.source.links.now in
-    let more = c.args.group.now.sent in
-    let counted = c.in-Ok.ensures in
-    let all : c.count_group.new.counts ≡ map (counted_to (sent ++ more)) (link_set file) = counted.added ∙ ap (map (counted_with more)) was.counts ∙ group_counted sent more (link_set file) in
-    let next : AreNext to sent more c.in-Ok.counted.made c.in-Ok.counted.first = record { are = counted.made ∙ ap (filter has_messages) all; begun = begun_addresses file sent more c.args.pass.now.counts c.in-Ok.counted.first was.counts counted.first } in
-    on_ok_gives c.write_group.result.done (λ (making : IsMaking Own to (sent ++ more) (g.P.Kept.Store.state c.write_group.result.store).disk c.write_group.new.made). record { counts = all; making = making }) (c.write_group.ensures.grows sent was.making next)
+pub returns-then-is_empty-clause-stages : goal.returns-then-is_empty-clause-stages
+returns-then-is_empty-clause-stages g c = λ sent making.
+    let did = c.in-Ok.ensures in
+    let counted = did.counted ∙ ap (map (with_group c.args.group.now.sent)) c.deref.ensures.value in
+    none_staged (g.P.Paths.OwnPaths.is_own c.args.paths.now) c.args.sending (g.P.Kept.Store.state c.args.store) c.requires.ready sent c.args.group.now.sent c.args.packets.now.items making c.in-Ok.going.counted.items counted c.in-Ok.going.begun.items
+    c.in-Ok.going.copied.items did.begun did.copied did.off
 
-pub returns-in-Ok-clause-taken : goal.returns-in-Ok-clause-taken
-returns-in-Ok-clause-taken g c = λ honest is sent was.
+pub returns-then-is_empty-clause-making : goal.returns-then-is_empty-clause-making
+returns-then-is_empty-clause-making g c = λ sent making.
+    let did = c.in-Ok.ensures in
+    let counted = did.counted ∙ ap (map (with_group c.args.group.now.sent)) c.deref.ensures.value in
+    none_making (g.P.Paths.OwnPaths.is_own c.args.paths.now) c.args.sending (g.P.Kept.Store.state c.args.store) c.requires.ready sent c.args.group.now.sent c.args.packets.now.items making c.in-Ok.going.counted.items counted c.in-Ok.going.begun.items
+    c.as_slice-copied.result.now did.begun (c.as_slice-copied.ensures.value ∙ did.copied) did.off (eqb-true _ _ (sym c.is_empty.ensures ∙ c.if-is_empty.true))
+
+pub append_group-requires : goal.append_group-requires
+append_group-requires g c κs =
     let Own = g.P.Paths.OwnPaths.is_own c.args.paths.now in
     let to = c.args.sending in
-    let file = to.source.links.now in
+    let s = g.P.Kept.Store.state c.args.store in
     let more = c.args.group.now.sent in
-    let counted = c.in-Ok.ensures in
-    let all : c.count_group.new.counts ≡ map (counted_to (sent ++ more)) (link_set file) = counted.added ∙ ap (map (counted_with more)) was.counts ∙ group_counted sent more (link_set file) in
-    let next : AreNext to sent more c.in-Ok.counted.made c.in-Ok.counted.first = record { are = counted.made ∙ ap (filter has_messages) all; begun = begun_addresses file sent more c.args.pass.now.counts c.in-Ok.counted.first was.counts counted.first } in
-    c.write_group.ensures.taken honest is sent next
+    let all = c.args.packets.now.items in
+    let going = c.in-Ok.going in
+    let did = c.in-Ok.ensures in
+    let counted = did.counted ∙ ap (map (with_group c.args.group.now.sent)) c.deref.ensures.value in
+    let copied = c.as_slice-copied.result.now in
+    let begun = c.deref-2.result.now in
+    let copied_are : copied ≡ copied_in going.counted.items = c.as_slice-copied.ensures.value ∙ did.copied in
+    let begun_are : begun ≡ begun_in going.counted.items = c.deref-2.ensures.value ∙ did.begun in
+    let off = subst (λ (l : List Outgoing). All (IsOff Own to.trial.now) l) (sym c.deref-2.ensures.value) did.off in
+    let some : 0 < length copied = let not : length copied ≢ 0 = eqb-false _ _ (sym c.is_empty.ensures ∙ c.if-is_empty.false) in omega arith in
+    let sent = c.requires.making.0 in
+    let making = c.requires.making.1 in (
+      (refl, tt),
+      (
+        (c.requires.ready.ready, c.requires.ready.settled),
+        (
+          some,
+          (
+            copied_going Own to s c.requires.ready sent more all making going.counted.items counted begun copied begun_are copied_are off some,
+            (
+              begun_going Own to s c.requires.ready sent more all making going.counted.items counted begun copied begun_are copied_are off some,
+              (sent, group_appending Own to s c.requires.ready sent more all making going.counted.items counted begun copied begun_are copied_are off),
+            ),
+          ),
+        ),
+      ),
+    )
+
+pub returns-clause-stages : goal.returns-clause-stages
+returns-clause-stages g c = λ sent making.
+    let Own = g.P.Paths.OwnPaths.is_own c.args.paths.now in
+    let to = c.args.sending in
+    let s = g.P.Kept.Store.state c.args.store in
+    let more = c.args.group.now.sent in
+    let all = c.args.packets.now.items in
+    let going = c.in-Ok.going in
+    let did = c.in-Ok.ensures in
+    let counted = did.counted ∙ ap (map (with_group c.args.group.now.sent)) c.deref.ensures.value in
+    let copied = c.as_slice-copied.result.now in
+    let begun = c.deref-2.result.now in
+    let copied_are : copied ≡ copied_in going.counted.items = c.as_slice-copied.ensures.value ∙ did.copied in
+    let begun_are : begun ≡ begun_in going.counted.items = c.deref-2.ensures.value ∙ did.begun in
+    let off = subst (λ (l : List Outgoing). All (IsOff Own to.trial.now) l) (sym c.deref-2.ensures.value) did.off in
+    let some : 0 < length copied = let not : length copied ≢ 0 = eqb-false _ _ (sym c.is_empty.ensures ∙ c.if-is_empty.false) in omega arith in
+    group_staged Own to s c.requires.ready sent more all making going.counted.items counted begun copied begun_are copied_are off some (g.P.Kept.Store.state c.append_group.result.store) c.append_group.ensures.used
+
+pub returns-clause-making : goal.returns-clause-making
+returns-clause-making g c = λ sent making.
+    let Own = g.P.Paths.OwnPaths.is_own c.args.paths.now in
+    let to = c.args.sending in
+    let s = g.P.Kept.Store.state c.args.store in
+    let more = c.args.group.now.sent in
+    let all = c.args.packets.now.items in
+    let going = c.in-Ok.going in
+    let did = c.in-Ok.ensures in
+    let counted = did.counted ∙ ap (map (with_group c.args.group.now.sent)) c.deref.ensures.value in
+    let copied = c.as_slice-copied.result.now in
+    let begun = c.deref-2.result.now in
+    let copied_are : copied ≡ copied_in going.counted.items = c.as_slice-copied.ensures.value ∙ did.copied in
+    let begun_are : begun ≡ begun_in going.counted.items = c.deref-2.ensures.value ∙ did.begun in
+    let off = subst (λ (l : List Outgoing). All (IsOff Own to.trial.now) l) (sym c.deref-2.ensures.value) did.off in
+    on_ok_weaker c.append_group.result.done (group_making Own to s c.requires.ready sent more all making going.counted.items counted begun copied begun_are copied_are off (g.P.Kept.Store.state c.append_group.result.store).disk)
+    (c.append_group.ensures.grows sent (group_appending Own to s c.requires.ready sent more all making going.counted.items counted begun copied begun_are copied_are off))
+
+pub returns-clause-taken : goal.returns-clause-taken
+returns-clause-taken g c = λ honest is sent making.
+    let Own = g.P.Paths.OwnPaths.is_own c.args.paths.now in
+    let to = c.args.sending in
+    let s = g.P.Kept.Store.state c.args.store in
+    let more = c.args.group.now.sent in
+    let all = c.args.packets.now.items in
+    let going = c.in-Ok.going in
+    let did = c.in-Ok.ensures in
+    let counted = did.counted ∙ ap (map (with_group c.args.group.now.sent)) c.deref.ensures.value in
+    let copied = c.as_slice-copied.result.now in
+    let begun = c.deref-2.result.now in
+    let copied_are : copied ≡ copied_in going.counted.items = c.as_slice-copied.ensures.value ∙ did.copied in
+    let begun_are : begun ≡ begun_in going.counted.items = c.deref-2.ensures.value ∙ did.begun in
+    let off = subst (λ (l : List Outgoing). All (IsOff Own to.trial.now) l) (sym c.deref-2.ensures.value) did.off in
+    group_taken Own to s c.requires.ready sent more all making going.counted.items counted begun copied begun_are copied_are off (c.append_group.ensures.taken honest is)

@@ -7,7 +7,7 @@ use Rattle.station_scan.proofs.passing.pass_on.Given as goal
 
 abbrev pub invariant-groups : goal.invariant-groups
 invariant-groups g l = record {
-  passing : IsPassing (g.P.Paths.OwnPaths.is_own l.paths) l.sending (g.P.Kept.Store.state l.fn.store) (g.P.Kept.Store.state l.store) l.pass l.at;
+  passing : IsPassing (g.P.Paths.OwnPaths.is_own l.paths) l.sending (g.P.Kept.Store.state l.fn.store) (g.P.Kept.Store.state l.store) l.packets.items l.at;
   count : Honestly (g.P.Kept.Store.state l.store).disk ((base : Base) → (g.P.Kept.Store.state l.store).keeps base → l.end ≡ length base.messages);
   later : g.P.Kept.Store.failures l.fn.store ≤ g.P.Kept.Store.failures l.store;
 }

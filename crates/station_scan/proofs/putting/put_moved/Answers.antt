@@ -5,8 +5,8 @@ use Rattle.disk_atomic.specs.declared.placing_error.PlacingError.TheVariants.{De
 use Rattle.base_store.specs.Store.{all_scanned}
 use Rattle.cmd_status.specs.Devices.{output_of}
 use Rattle.station.proofs.Failures.{failed_wider}
-use Rattle.station_scan.specs.Beside.{told_as}
-use Rattle.station_scan.specs.Left.{EndsLeft}
+use Rattle.station_scan.specs.Moved.{reported_as}
+use Rattle.station_scan.specs.Left.{EndsLeft, IsOfNameOff}
 use Rattle.station_scan.specs.Scanning.{ScansOnStore}
 use Rattle.station_scan.specs.Stops.{most}
 use Rattle.station_scan.specs.declared.pieces.Source.{Source}
@@ -15,7 +15,8 @@ use Rattle.station_scan.specs.declared.scan_error.ScanError.TheVariants.{Placing
 use Rattle.station_scan.specs.declared.sending.Sending.{Sending}
 use Rattle.station_scan.proofs.Outs.{out_keeps}
 use Rattle.station_scan.proofs.Puts.{moved_still, scans_early, scans_left, scans_put, tries_put}
-use Rattle.station_scan.proofs.Told.{far_other, placing_err_of, placing_other}
+use Rattle.station_scan.proofs.Reports.{far_other, placing_err_of, placing_other}
+use Rattle.station_scan.proofs.Written.{used_settled}
 use Rattle.station_scan.proofs.putting.put_moved.Goals as goal
 
 pub returns-then-from-gt-MOST-clause-scans : goal.returns-then-from-gt-MOST-clause-scans
@@ -33,7 +34,7 @@ returns-then-from-gt-MOST-clause-scans g c = λ honest base moved.
     let now = output_of g.W.Write.contents g.W.Sink.failures g.W.Sink.holds c.report-store.new.out in
     let failed = Failed f0 f2 ⊎ Failed (g.G.ListStaged.failures c.args.scan.now.listing) (g.G.ListStaged.failures c.args.scan.now.listing) in
     let IsTrue = g.G.ListStaged.is_true c.args.scan.now.listing in
-    subst (λ (r : Result (Unit {0}) ScanError). ScansOnStore source.stamp Own outbound IsTrue failed s0 s2 out now source.links.now base r) (sym c.told_as-done.ensures)
+    subst (λ (r : Result (Unit {0}) ScanError). ScansOnStore source.stamp Own outbound IsTrue failed s0 s2 out now source.links.now base r) (sym c.reported_as-done.ensures)
     (scans_early Own outbound source IsTrue failed s0 s2 base out now TooFar reported moved (report.looks.quiet.honest honest) report.looks.quiet far_other (subst (λ (n : ℕ). most < n) moved.at c.if-from-gt-MOST.true)
     (report.answers honest (all_scanned base) moved.keeps) (λ e. report.cause.damaged honest e (all_scanned base) moved.keeps))
 
@@ -52,7 +53,7 @@ returns-in-Err-clause-scans g c = λ honest base moved.
     let now = output_of g.W.Write.contents g.W.Sink.failures g.W.Sink.holds c.report-store-in-Err.new.out in
     let failed = Failed f0 f2 ⊎ Failed (g.G.ListStaged.failures c.args.scan.now.listing) (g.G.ListStaged.failures c.args.scan.now.listing) in
     let IsTrue = g.G.ListStaged.is_true c.args.scan.now.listing in
-    subst (λ (r : Result (Unit {0}) ScanError). ScansOnStore source.stamp Own outbound IsTrue failed s0 s2 out now source.links.now base r) (sym (c.told_as-done-in-Err.ensures ∙ ap (λ (w : ScanError). told_as w reported) c.from.ensures))
+    subst (λ (r : Result (Unit {0}) ScanError). ScansOnStore source.stamp Own outbound IsTrue failed s0 s2 out now source.links.now base r) (sym (c.reported_as-done-in-Err.ensures ∙ ap (λ (w : ScanError). reported_as w reported) c.from.ensures))
     (scans_early Own outbound source IsTrue failed s0 s2 base out now (Placing Memory) reported moved (report.looks.quiet.honest honest) report.looks.quiet (placing_other Memory) tt
     (report.answers honest (all_scanned base) moved.keeps) (λ e. report.cause.damaged honest e (all_scanned base) moved.keeps))
 
@@ -64,8 +65,8 @@ returns-in-Ok-done-clause-scans g c = λ honest base moved.
     let s0 = g.P.Kept.Store.state c.args.store in
     let f0 = g.P.Kept.Store.failures c.args.store in
     let out = output_of g.W.Write.contents g.W.Sink.failures g.W.Sink.holds c.args.out.now in
-    let to : Sending = record { outbound = c.args.scan.now.outbound; own = c.deref.result; source = source } in
-    let own_is = c.deref.ensures.value ∙ c.in-Ok.ensures.own in
+    let to : Sending = record { outbound = c.args.scan.now.outbound; own = c.as_slice.result; trial = c.as_slice-2.result; routes = c.as_slice-3.result; source = source } in
+    let own_is = c.as_slice.ensures ∙ c.in-Ok.ensures.system in
     let IsTrue = g.G.ListStaged.is_true c.finish_on-store.new.listing in
     let finish = c.finish_on-store.ensures in
     let s1 = g.P.Kept.Store.state c.finish_on-store.result.store in
@@ -84,6 +85,22 @@ returns-in-Ok-done-clause-scans g c = λ honest base moved.
     let still = moved_still Own to own_is IsTrue failed s0 s1 c.requires.own finish.used honest0 base moved c.args.from refl in
     scans_put Own to own_is IsTrue failed s0 s1 c.requires.own finish.used honest0 base moved c.args.from refl ends s2 honest g.D.Disk.state (Failed f1 f2) wider out now c.send_on.result.done (send.sends honest base still)
 
+pub send_on-requires : goal.send_on-requires
+send_on-requires g c κs =
+    let Own = g.P.Paths.OwnPaths.is_own c.args.paths.now in
+    let s0 = g.P.Kept.Store.state c.args.store in
+    let s1 = g.P.Kept.Store.state c.finish_on-store.result.store in
+    let used = c.finish_on-store.ensures.used in (
+      (refl, tt),
+      record {
+        ready = used.holds.ready;
+        settled = used_settled (IsOfNameOff Own c.args.scan.now.outbound.now c.as_slice.result.now) s0 s1 used;
+        own = λ m o. c.requires.own m ((used.same.own m).0 o);
+        routes = rw (c.as_slice.ensures, c.as_slice-2.ensures, c.as_slice-3.ensures) c.in-Ok.ensures;
+        stamp = c.requires.stamp;
+      },
+    )
+
 pub returns-in-Ok-done-clause-tried : goal.returns-in-Ok-done-clause-tried
 returns-in-Ok-done-clause-tried g c = λ honest base moved.
     let Own = g.P.Paths.OwnPaths.is_own c.args.paths.now in
@@ -92,8 +109,8 @@ returns-in-Ok-done-clause-tried g c = λ honest base moved.
     let s0 = g.P.Kept.Store.state c.args.store in
     let f0 = g.P.Kept.Store.failures c.args.store in
     let out = output_of g.W.Write.contents g.W.Sink.failures g.W.Sink.holds c.args.out.now in
-    let to : Sending = record { outbound = c.args.scan.now.outbound; own = c.deref.result; source = source } in
-    let own_is = c.deref.ensures.value ∙ c.in-Ok.ensures.own in
+    let to : Sending = record { outbound = c.args.scan.now.outbound; own = c.as_slice.result; trial = c.as_slice-2.result; routes = c.as_slice-3.result; source = source } in
+    let own_is = c.as_slice.ensures ∙ c.in-Ok.ensures.system in
     let IsTrue = g.G.ListStaged.is_true c.finish_on-store.new.listing in
     let finish = c.finish_on-store.ensures in
     let s1 = g.P.Kept.Store.state c.finish_on-store.result.store in
@@ -114,7 +131,7 @@ returns-in-Ok-done-clause-tried g c = λ honest base moved.
 
 pub returns-in-Ok-done-clause-keeps : goal.returns-in-Ok-done-clause-keeps
 returns-in-Ok-done-clause-keeps g c =
-    out_keeps (g.P.Paths.OwnPaths.is_own c.args.paths.now) c.args.scan.now.outbound.now c.deref.result.now (g.P.Kept.Store.state c.args.store) (g.P.Kept.Store.state c.finish_on-store.result.store) (g.P.Kept.Store.state c.send_on.result.store)
+    out_keeps (g.P.Paths.OwnPaths.is_own c.args.paths.now) c.args.scan.now.outbound.now c.as_slice.result.now (g.P.Kept.Store.state c.args.store) (g.P.Kept.Store.state c.finish_on-store.result.store) (g.P.Kept.Store.state c.send_on.result.store)
     c.finish_on-store.ensures.used c.send_on.ensures.keeps
 
 pub returns-clause-scans : goal.returns-clause-scans
@@ -125,8 +142,8 @@ returns-clause-scans g c = λ honest base moved.
     let s0 = g.P.Kept.Store.state c.args.store in
     let f0 = g.P.Kept.Store.failures c.args.store in
     let out = output_of g.W.Write.contents g.W.Sink.failures g.W.Sink.holds c.args.out.now in
-    let to : Sending = record { outbound = c.args.scan.now.outbound; own = c.deref.result; source = source } in
-    let own_is = c.deref.ensures.value ∙ c.in-Ok.ensures.own in
+    let to : Sending = record { outbound = c.args.scan.now.outbound; own = c.as_slice.result; trial = c.as_slice-2.result; routes = c.as_slice-3.result; source = source } in
+    let own_is = c.as_slice.ensures ∙ c.in-Ok.ensures.system in
     let IsTrue = g.G.ListStaged.is_true c.finish_on-store.new.listing in
     let finish = c.finish_on-store.ensures in
     let s1 = g.P.Kept.Store.state c.finish_on-store.result.store in
@@ -145,7 +162,7 @@ returns-clause-scans g c = λ honest base moved.
     let cause = c.in-Err-done.cause in
     let device : cause ≡ Device → failed = λ e.
     ⊎_elim (λ d. inl (failed_wider f0 f0 f1 f2 (omega arith) later d)) (λ l. inr l) (finish.failed (placing_err_of c.finish_on-store.result.done cause Device c.in-Err-done.is e)) in
-    subst (λ (r : Result (Unit {0}) ScanError). ScansOnStore source.stamp Own outbound IsTrue failed s0 s2 out now source.links.now base r) (sym c.left_told-done.ensures)
+    subst (λ (r : Result (Unit {0}) ScanError). ScansOnStore source.stamp Own outbound IsTrue failed s0 s2 out now source.links.now base r) (sym c.left_reported-done.ensures)
     (scans_left Own to own_is IsTrue failed s0 s1 c.requires.own finish.used honest0 base moved c.args.from refl cause c.finish_on-store.result.done (finish.ends honest1) s2 report.looks.quiet honest1 device
     (λ e. finish.taken honest1 (placing_err_of c.finish_on-store.result.done cause Taken c.in-Err-done.is e)) out now reported (report.answers honest (all_scanned base) (finish.used.holds.keeps (all_scanned base) moved.keeps))
     (λ e. inl (failed_wider f0 f1 f2 f2 before (omega arith) (report.cause.failed e))))

@@ -5,7 +5,7 @@ use Rattle.cmd_status.specs.Devices.{output_of}
 use Rattle.cmd_status.specs.declared.fault.Fault.TheVariants.{Scan}
 use Rattle.cmd_store.specs.declared.command_error.CommandError.TheVariants.{Met, Store}
 use Rattle.model_steps.specs.declared.fault.ScanFault.TheVariants.{BadStamp}
-use Rattle.station_scan.specs.Beside.{IsMoved}
+use Rattle.station_scan.specs.Moved.{IsMoved}
 use Rattle.station_scan.specs.Scanning.{IsTouched}
 use Rattle.station_scan.proofs.Lefts.{quiet_start}
 use Rattle.station_scan.proofs.Published.{keeps_nothing}

@@ -1,37 +1,41 @@
-use Rattle.std.proofs.Common.{◌≢◌, ◌<◌, ◌∙◌, arith, length, refl, sym}
-use Rattle.std.proofs.lemmas.Bool.{eqb-false}
-use Rattle.station_scan.proofs.Passes.{drop_going, drop_gone, drop_used_at}
-use Rattle.station_scan.proofs.Through.{on_ok_gives}
+use Rattle.std.proofs.Common.{◌≡◌, ◌≢◌, ◌<◌, ◌∙◌, arith, length, refl, sym}
+use Rattle.std.proofs.lemmas.Result.{on_ok_weaker}
+use Rattle.std.proofs.lemmas.Bool.{eqb-false, eqb-true}
+use Rattle.station_scan.specs.Passing.{IsStagingTo, made_in}
+use Rattle.station_scan.proofs.Passes.{made_going, made_gone, made_nowhere, made_used}
+use Rattle.station_scan.proofs.Written.{used_none}
 use Rattle.station_scan.proofs.stopping.drop_made.Goals as goal
+
+pub returns-in-Err-clause-used : goal.returns-in-Err-clause-used
+returns-in-Err-clause-used g c = λ sent are. used_none (IsStagingTo c.args.sending sent) (g.P.Kept.Store.state c.args.store) c.requires.ready.settled c.requires.ready.ready
+
+pub returns-then-is_empty-clause-used : goal.returns-then-is_empty-clause-used
+returns-then-is_empty-clause-used g c = λ sent are. used_none (IsStagingTo c.args.sending sent) (g.P.Kept.Store.state c.args.store) c.requires.ready.settled c.requires.ready.ready
+
+pub returns-then-is_empty-clause-gone : goal.returns-then-is_empty-clause-gone
+returns-then-is_empty-clause-gone g c = λ honest sent are m at.
+    absurd (made_nowhere c.args.sending c.requires.ready.routes sent c.args.packets.now are c.as_slice-dropped.result.now (c.as_slice-dropped.ensures.value ∙ c.in-Ok.ensures) (eqb-true _ _ (sym c.is_empty.ensures ∙ c.if-is_empty.true)) m at)
 
 pub drop_on-requires : goal.drop_on-requires
 drop_on-requires g c κs =
-    let to = c.args.sending in
-    let made = c.args.made.now in
-    let s = g.P.Kept.Store.state c.args.store in
-    let some : 0 < length made = let not : length made ≢ 0 = eqb-false _ _ (sym c.is_empty.ensures ∙ c.if-is_empty.false) in omega arith in (
+    let made_are : c.as_slice-dropped.result.now ≡ made_in c.args.packets.now = c.as_slice-dropped.ensures.value ∙ c.in-Ok.ensures in
+    let some : 0 < length c.as_slice-dropped.result.now = let not : length c.as_slice-dropped.result.now ≢ 0 = eqb-false _ _ (sym c.is_empty.ensures ∙ c.if-is_empty.false) in omega arith in
+    let fit = c.requires.fit in (
       (refl, tt),
       (
-        c.requires.ready.0,
-        drop_going to s made c.in-Ok.plan c.in-Ok.ensures c.as_slice.result.now c.as_slice-2.result.now c.as_slice-3.result.now c.in-Ok-outgoing_of.packets.items c.deref.result.now c.as_slice.ensures c.as_slice-2.ensures c.as_slice-3.ensures c.deref.ensures.value c.in-Ok-outgoing_of.ensures
-            (c.requires.fit some) c.requires.plain,
+        c.requires.ready.ready,
+        made_going c.args.sending c.requires.ready.routes fit.0 c.args.packets.now fit.1 c.as_slice-dropped.result.now made_are (g.P.Paths.OwnPaths.is_own c.args.paths.now) (g.P.Kept.Store.state c.args.store) c.requires.ready fit.2 some,
       ),
     )
 
 pub returns-clause-used : goal.returns-clause-used
-returns-clause-used g c =
-    let to = c.args.sending in
-    let made = c.args.made.now in
-    let s = g.P.Kept.Store.state c.args.store in
-    let some : 0 < length made = let not : length made ≢ 0 = eqb-false _ _ (sym c.is_empty.ensures ∙ c.if-is_empty.false) in omega arith in
-    drop_used_at to s made c.in-Ok.plan c.in-Ok.ensures c.as_slice.result.now c.as_slice-2.result.now c.as_slice-3.result.now c.in-Ok-outgoing_of.packets.items c.deref.result.now c.as_slice.ensures c.as_slice-2.ensures c.as_slice-3.ensures c.deref.ensures.value c.in-Ok-outgoing_of.ensures
-    (g.P.Kept.Store.state c.drop_on.result.store) some c.drop_on.ensures.used
+returns-clause-used g c = λ sent are.
+    let made_are : c.as_slice-dropped.result.now ≡ made_in c.args.packets.now = c.as_slice-dropped.ensures.value ∙ c.in-Ok.ensures in
+    let some : 0 < length c.as_slice-dropped.result.now = let not : length c.as_slice-dropped.result.now ≢ 0 = eqb-false _ _ (sym c.is_empty.ensures ∙ c.if-is_empty.false) in omega arith in
+    made_used c.args.sending c.requires.ready.routes sent c.args.packets.now are c.as_slice-dropped.result.now made_are (g.P.Kept.Store.state c.args.store) (g.P.Kept.Store.state c.drop_on.result.store) some c.drop_on.ensures.used
 
 pub returns-clause-gone : goal.returns-clause-gone
 returns-clause-gone g c = λ honest.
-    let to = c.args.sending in
-    let made = c.args.made.now in
-    let s = g.P.Kept.Store.state c.args.store in
-    on_ok_gives c.drop_on.result.done
-    (drop_gone to s made c.in-Ok.plan c.in-Ok.ensures c.as_slice.result.now c.as_slice-2.result.now c.as_slice-3.result.now c.in-Ok-outgoing_of.packets.items c.deref.result.now c.as_slice.ensures c.as_slice-2.ensures c.as_slice-3.ensures c.deref.ensures.value c.in-Ok-outgoing_of.ensures
-    (g.P.Kept.Store.state c.drop_on.result.store).disk) (c.drop_on.ensures.gone honest)
+    let made_are : c.as_slice-dropped.result.now ≡ made_in c.args.packets.now = c.as_slice-dropped.ensures.value ∙ c.in-Ok.ensures in
+    on_ok_weaker c.drop_on.result.done
+    (λ gone sent are. made_gone c.args.sending c.requires.ready.routes sent c.args.packets.now are c.as_slice-dropped.result.now made_are (g.P.Kept.Store.state c.drop_on.result.store).disk gone) (c.drop_on.ensures.gone honest)

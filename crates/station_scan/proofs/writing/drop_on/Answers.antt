@@ -1,5 +1,5 @@
 use Rattle.std.proofs.Common.{refl}
-use Rattle.station_scan.proofs.Lent.{staged_ready, staged_used}
+use Rattle.station_scan.proofs.UsedDisks.{staged_ready, staged_used}
 use Rattle.station_scan.proofs.Written.{gone_through}
 use Rattle.station_scan.proofs.writing.drop_on.Goals as goal
 

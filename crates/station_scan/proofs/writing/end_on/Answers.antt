@@ -1,6 +1,6 @@
 use Rattle.std.proofs.Common.{◌≡◌, refl, true}
 use Rattle.station_scan.specs.Publishing.{AreStaged, IsTriedWith}
-use Rattle.station_scan.proofs.Lent.{staged_ready, staged_used}
+use Rattle.station_scan.proofs.UsedDisks.{staged_ready, staged_used}
 use Rattle.station_scan.proofs.Staged.{tried_quiet}
 use Rattle.station_scan.proofs.Through.{ok_gives, open_through, staged_through}
 use Rattle.station_scan.proofs.Written.{same_through}

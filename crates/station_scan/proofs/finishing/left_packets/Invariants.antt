@@ -2,11 +2,11 @@
 use Rattle.std.proofs.Common.{◌≡◌, ◌<◌, ℕ, length, get_or}
 use Rattle.disk_atomic.specs.declared.finishing.Left.{Left}
 use Rattle.station_scan.specs.declared.finding.LeftPaths.{LeftPaths}
-use Rattle.station_scan.specs.Left.{IsLent}
-use Rattle.station_scan.proofs.finishing.lend.Given as goal
+use Rattle.station_scan.specs.Left.{IsSameLeft}
+use Rattle.station_scan.proofs.finishing.left_packets.Given as goal
 
 abbrev pub invariant-paths : goal.invariant-paths
 invariant-paths l = record {
   as_many : length l.found.items ≡ l.i;
-  each : (k : ℕ) (w : LeftPaths) (o : Left) → k < l.i → IsLent (get_or l.paths k w) (get_or l.found.items k o);
+  each : (k : ℕ) (w : LeftPaths) (o : Left) → k < l.i → IsSameLeft (get_or l.paths k w) (get_or l.found.items k o);
 }

@@ -1,4 +1,4 @@
--- A store whose disk was lent, used and given back.
+-- A store after its disk was used for other files.
 use Rattle.std.proofs.Common.{ℕ, List}
 use Rattle.disk_io.specs.Disk.{DiskState}
 use Rattle.disk_io.specs.Runs.{ChangesNothing}

@@ -13,7 +13,7 @@ use Rattle.cmd_status.specs.Devices.{Output}
 use Rattle.model_steps.specs.PacketFiles.{PacketFile}
 use Rattle.base_store.specs.Store.{HasStoreCause, LooksOn, StoreState, all_scanned}
 use Rattle.base_store.specs.declared.store_error.StoreError.TheVariants as error
-use Rattle.cmd_store.specs.Scanned.{ScansOn}
+use Rattle.cmd_store.specs.Scanned.{ScansOn, files_scanned}
 use Rattle.cmd_store.specs.Stops.{store_answer}
 use Rattle.cmd_store.specs.declared.command_error.CommandError.{CommandError}
 use Rattle.cmd_store.specs.declared.command_error.CommandError.TheVariants.{Met, Store}
@@ -26,7 +26,7 @@ use Rattle.station_scan.specs.Passing.{AreGoneOrSame}
 use Rattle.station_scan.specs.Publishing.{KeepsStoreBut}
 use Rattle.station_scan.specs.Scanning.{packets_in}
 use Rattle.station_scan.specs.Sending.{IsStagingOfPacket}
-use Rattle.station_scan.specs.Sends.{AreSentOn, IsOfThese, SendsThese, WasTriedFor, WritesBeside}
+use Rattle.station_scan.specs.Sends.{AreSentOn, IsOfThese, SendsThese, WasTriedFor, WritesStaging}
 use Rattle.station_scan.specs.Stops.{IsOfPlacing, most}
 use Rattle.station_scan.specs.declared.pieces.Source.{Source}
 use Rattle.station_scan.specs.declared.sending.Sending.{Sending}
@@ -41,7 +41,7 @@ pub record IsMoved (s : StoreState) (from : ℕ) (base : Base) : Type 0 where
   pub at : from ≡ base.cursor
 
 -- These packets and the held base were sent out.
-pub record SendsBeside {D : Type 0} (state : D → DiskState) (Own : List ℕ → Type 0) (outbound own : List ℕ) (failed : Type 0) (old new : StoreState) (base : Base) (files : List PacketFile) (result : Result (Unit {0}) ScanError) : Type 0 where
+pub record SendsFrom {D : Type 0} (state : D → DiskState) (Own : List ℕ → Type 0) (outbound own : List ℕ) (failed : Type 0) (old new : StoreState) (base : Base) (files : List PacketFile) (result : Result (Unit {0}) ScanError) : Type 0 where
   pub sent : OnOk result (AreSentOn outbound own (λ b. files) old new)
   pub crash : LeavesOnly old.disk new.disk (SendsThese old outbound own files base (all_scanned base))
   pub keeps : KeepsStoreBut (IsOfThese old.is_own outbound own files) old new
@@ -49,27 +49,27 @@ pub record SendsBeside {D : Type 0} (state : D → DiskState) (Own : List ℕ �
   pub tried : OnOk result (HoldsAsBefore old new ⊎ WasTriedFor state Own outbound own files old.disk)
 
 -- It is reported why the scan stopped, and each staging file is gone or as before. Or it is reported that staging files may be left.
-abbrev pub TellsBeside : Type 0 → Files → Files → CommandError → Result (Unit {0}) ScanError → Type 0
-TellsBeside failed before after why result =
+abbrev pub ReportsFrom : Type 0 → Files → Files → CommandError → Result (Unit {0}) ScanError → Type 0
+ReportsFrom failed before after why result =
     ((result ≡ Err (Command why)) × AreGoneOrSame before after) ⊎ ((left : DiskError) × (result ≡ Err (Staying left)) × IsOfPlacing failed ⊥ ⊥ (Staying left))
 
 -- The scan stopped while its packets were made. Except for their staging files nothing has changed.
-pub record StopsBeside (outbound own : List ℕ) (failed : Type 0) (old new : StoreState) (base : Base) (files : List PacketFile) (why : CommandError) (result : Result (Unit {0}) ScanError) : Type 0 where
-  pub crash : LeavesOnly old.disk new.disk (WritesBeside old outbound own files base)
+pub record StopsFrom (outbound own : List ℕ) (failed : Type 0) (old new : StoreState) (base : Base) (files : List PacketFile) (why : CommandError) (result : Result (Unit {0}) ScanError) : Type 0 where
+  pub crash : LeavesOnly old.disk new.disk (WritesStaging old outbound own files base)
   pub others : DifferAt (IsStagingOfPacket outbound own files) old.disk.seen new.disk.seen
   pub shown : old.stands base new.disk.seen
-  pub told : TellsBeside failed old.disk.seen new.disk.seen why result
+  pub reported : ReportsFrom failed old.disk.seen new.disk.seen why result
 
 -- The packets that were made are sent out, or the scan stopped.
-abbrev pub IsPutBeside : {D : Type 0} → (D → DiskState) → (List ℕ → Type 0) → List ℕ → List ℕ → Type 0 → StoreState → StoreState → Base → List PacketFile → Result (List PacketFile) CommandError → Result (Unit {0}) ScanError → Type 0
-IsPutBeside state Own outbound own failed old new base packets (Ok files) result = SendsBeside state Own outbound own failed old new base files result
-IsPutBeside state Own outbound own failed old new base packets (Err why) result = StopsBeside outbound own failed old new base packets why result
+abbrev pub IsPutFrom : {D : Type 0} → (D → DiskState) → (List ℕ → Type 0) → List ℕ → List ℕ → Type 0 → StoreState → StoreState → Base → List PacketFile → Result (List PacketFile) CommandError → Result (Unit {0}) ScanError → Type 0
+IsPutFrom state Own outbound own failed old new base packets (Ok files) result = SendsFrom state Own outbound own failed old new base files result
+IsPutFrom state Own outbound own failed old new base packets (Err why) result = StopsFrom outbound own failed old new base packets why result
 
--- The result of a scan whose leftover packets are finished.
-pub record ScansBeside {D : Type 0} (state : D → DiskState) (Own : List ℕ → Type 0) (to : Sending) (failed : Type 0) (old new : StoreState) (old_out new_out : Output) (base : Base) (result : Result (Unit {0}) ScanError) : Type 0 where
+-- The result of a scan after leftover packets are finished.
+pub record ScansFrom {D : Type 0} (state : D → DiskState) (Own : List ℕ → Type 0) (to : Sending) (failed : Type 0) (old new : StoreState) (old_out new_out : Output) (base : Base) (result : Result (Unit {0}) ScanError) : Type 0 where
   pub made : Result (List PacketFile) CommandError
   pub answer : ScansOn to.source.stamp (state_in to.source.links.now base) old_out new_out made
-  pub put : IsPutBeside state Own to.outbound.now to.own.now failed old new base (packets_in to.source.stamp to.source.links.now base) made result
+  pub put : IsPutFrom state Own to.outbound.now to.own.now failed old new base (packets_in to.source.stamp to.source.links.now base) made result
   pub whole : IsErrOf result (Command (Store error.Damaged)) → ⊥
 
 -- A failure of the device is reported for the store only if its count of failures rose, and too much only if the store was full.
@@ -82,10 +82,9 @@ pub record HasScanCause {S : Type 0} (state : S → StoreState) (old : StoreStat
 abbrev pub from_number : ℕ → Base → Base
 from_number from base = record { messages = base.messages; cursor = from }
 
--- the packets whose lines were printed
+-- The packets of a scan if their lines were printed.
 abbrev pub files_reported : Source → Base → Result (Unit {0}) CommandError → Result (List PacketFile) CommandError
-files_reported source base (Ok done) = Ok (packets_in source.stamp source.links.now (from_number source.from base))
-files_reported source base (Err why) = Err why
+files_reported source base result = files_scanned source.stamp (state_in source.links.now (from_number source.from base)) result
 
 -- The packets of the messages were counted, and their lines printed. The store was looked through.
 pub record HasReported {S : Type 0} (state : S → StoreState) (source : Source) (old new : StoreState) (before now : ℕ) (old_out new_out : Output) (result : Result (Unit {0}) CommandError) : Type 0 where
@@ -95,9 +94,9 @@ pub record HasReported {S : Type 0} (state : S → StoreState) (source : Source)
   pub cause : HasStoreCause old new before now (store_answer result)
 
 -- Why the scan stopped, once that was reported or could not be.
-abbrev pub told_as : ScanError → Result (Unit {0}) CommandError → Result (Unit {0}) ScanError
-told_as why (Ok done) = Err why
-told_as why (Err stop) = Err (Command stop)
+abbrev pub reported_as : ScanError → Result (Unit {0}) CommandError → Result (Unit {0}) ScanError
+reported_as why (Ok done) = Err why
+reported_as why (Err stop) = Err (Command stop)
 
 -- Why leftover packets may have staging files still, where the lines could not be printed either.
 abbrev pub left_cause : PlacingError → CommandError → DiskError
@@ -108,6 +107,6 @@ left_cause placing.Taken (Store _) = disk.Memory
 left_cause placing.Taken (Met fault) = disk.Memory
 
 -- The same where leftover packets were not finished.
-abbrev pub left_told : PlacingError → Result (Unit {0}) CommandError → Result (Unit {0}) ScanError
-left_told cause (Ok done) = Err (Placing cause)
-left_told cause (Err stop) = Err (Staying (left_cause cause stop))
+abbrev pub left_reported : PlacingError → Result (Unit {0}) CommandError → Result (Unit {0}) ScanError
+left_reported cause (Ok done) = Err (Placing cause)
+left_reported cause (Err stop) = Err (Staying (left_cause cause stop))

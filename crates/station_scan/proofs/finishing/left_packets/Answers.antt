@@ -3,8 +3,8 @@ use Rattle.std.proofs.lemmas.Bool.{cases_lt}
 use Rattle.std.proofs.lemmas.List.{get_or_default}
 use Rattle.disk_atomic.specs.declared.finishing.Left.{Left}
 use Rattle.station_scan.specs.declared.finding.LeftPaths.{LeftPaths}
-use Rattle.station_scan.specs.Left.{IsLent}
-use Rattle.station_scan.proofs.finishing.lend.Goals as goal
+use Rattle.station_scan.specs.Left.{IsSameLeft}
+use Rattle.station_scan.proofs.finishing.left_packets.Goals as goal
 
 pub paths-preserved : goal.paths-preserved
 paths-preserved c =
@@ -15,7 +15,7 @@ paths-preserved c =
     record {
       as_many = omega (arith, pushed.len);
       each = λ k w o lt.
-          ⊎_elim (λ (e : k < i). let low : k < vec_len c.paths.found = omega arith in subst (IsLent (get_or paths k w)) (sym (pushed.by_index.0 k o low)) (c.paths.invariant.each k w o e))
+          ⊎_elim (λ (e : k < i). let low : k < vec_len c.paths.found = omega arith in subst (IsSameLeft (get_or paths k w)) (sym (pushed.by_index.0 k o low)) (c.paths.invariant.each k w o e))
           (λ (le : i ≤ k).
           let same : k ≡ i = omega arith in
           let at : k ≡ vec_len c.paths.found = omega arith in
